@@ -1,0 +1,13 @@
+use Rattle.std.proofs.Common.{◌≡◌, ◌≤◌, ℕ, List, ◌++◌, length}
+use Rattle.std.specs.Io.KnownBytes.{Appends}
+use Rattle.plc_base.proofs.streams.write_all.Given as goal
+
+-- a front of the text was written, and the rest is to come
+abbrev pub invariant-loop-rest : goal.invariant-loop-rest
+invariant-loop-rest g l = record {
+  front : (front : List ℕ) × (l.fn.text ≡ front ++ l.rest) × Appends (g.K.Sink.taken l.fn.sink) (g.K.Sink.taken l.sink) front;
+  later : g.K.Sink.faults l.fn.sink ≤ g.K.Sink.faults l.sink;
+}
+
+abbrev pub decreases-loop-rest : goal.decreases-loop-rest
+decreases-loop-rest g l = length l.rest

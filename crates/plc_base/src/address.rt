@@ -1,0 +1,52 @@
+//! The addresses of nodes.
+ghost use Rattle.std.specs.Prelude.{◌≡◌, ◌<◌, ◌↔◌, IsSome, IfSome};
+
+use std::marker::Model;
+
+/// The identifier of the personal area network that every node of this profile belongs to.
+pub const PAN: u16 = 0x781D;
+
+/// An EUI-64: the identity that a device has from its maker, in the order of its text (IEEE 802.15.4-2006, 7.2.1.4).
+#[derive(Clone, Copy, Debug, PartialEq, Eq, PartialOrd, Ord, Hash)]
+pub struct Eui(pub [u8; 8]);
+
+/// The short address of one node: any number of 16 bits but FFFE and FFFF, which name no node (IEEE 802.15.4-2006, 7.2.1.4).
+///
+/// A contract sees the number.
+#[derive(Clone, Copy, Debug, PartialEq, Eq, PartialOrd, Ord, Hash, Default)]
+pub struct Short {
+    number: u16,
+}
+
+impl Model for Short {
+    ghost use Rattle.std.specs.Prelude.{ℕ, ◌<◌};
+
+    ghost Value = { ℕ };
+
+    ghost view = { λ a. a.number };
+
+    ghost invariant = { λ a. a.number < 0xFFFE };
+
+    ghost inverse = { λ n. record { number = n } };
+}
+
+impl Short {
+    /// The address of this number. None exactly for FFFE and FFFF.
+    pub fn new(value: u16) -> Option<Short>
+        ensures valid { IsSome result ↔ (value < 0xFFFE) }
+        ensures value { IfSome result (λ address. address ≡ value) }
+    {
+        if value >= 0xFFFE {
+            return None;
+        }
+        Some(Short { number: value })
+    }
+
+    /// The address as a number.
+    pub fn number(self) -> u16
+        ensures value { result ≡ self }
+        ensures valid { result < 0xFFFE }
+    {
+        self.number
+    }
+}

@@ -1,0 +1,124 @@
+//! Octet strings of bounded length, which take no memory.
+ghost use Rattle.std.specs.Prelude.{◌≡◌, ◌≤◌, ◌<◌, ◌+◌, ◌++◌, ◌∷◌, ◌↔◌, List, [], length, IsTrue};
+ghost use Rattle.byteorder.specs.Endian.{big_bytes};
+
+use arrayvec::ArrayVec;
+use byteorder::{BigEndian, ByteOrder};
+use std::marker::Model;
+
+/// At most `N` octets. A contract sees the list of them.
+#[derive(Drop, Debug)]
+pub struct Octets<const N: usize> {
+    items: ArrayVec<u8, N>,
+}
+
+/// A MAC frame, its payload or a part of it: at most 400 octets.
+pub type FrameBuf = Octets<400>;
+
+/// A datagram: at most 1,280 octets.
+pub type DatagramBuf = Octets<1280>;
+
+/// An EAP packet: at most 128 octets.
+pub type EapBuf = Octets<128>;
+
+/// A record of a store: at most 64 octets.
+pub type Record = Octets<64>;
+
+impl<const N: usize> Model for Octets<N> {
+    ghost use Rattle.std.specs.Prelude.{ℕ, List};
+
+    ghost Value = { List ℕ };
+
+    ghost view = { λ o. o.items.items };
+}
+
+impl<const N: usize> Octets<N> {
+    /// No octets.
+    pub fn new() -> Octets<N>
+        ensures { result ≡ [] }
+    {
+        Octets {
+            items: ArrayVec::new(),
+        }
+    }
+
+    /// These octets.
+    pub fn from_octets(octets: &[u8]) -> Octets<N>
+        requires { length octets.now ≤ N }
+        ensures { result ≡ octets.now }
+    {
+        Octets {
+            items: ArrayVec::try_from(octets).unwrap(),
+        }
+    }
+
+    /// The octets as a slice.
+    pub fn octets(&self) -> &[u8]
+        ensures value { result.now ≡ self.now }
+        ensures fits { length result.now ≤ N }
+    {
+        self.items.as_slice()
+    }
+
+    /// How many octets there are.
+    pub fn len(&self) -> usize
+        ensures value { result ≡ length self.now }
+        ensures fits { result ≤ N }
+    {
+        self.items.len()
+    }
+
+    /// Whether there is no octet.
+    pub fn is_empty(&self) -> bool
+        ensures { IsTrue result ↔ (self.now ≡ []) }
+    {
+        self.items.is_empty()
+    }
+
+    /// Drops all octets.
+    pub fn clear(&mut self)
+        ensures { self.new ≡ [] }
+    {
+        self.items.clear();
+    }
+
+    /// Appends one octet.
+    pub fn push(&mut self, octet: u8)
+        requires { length self.old < N }
+        ensures { self.new ≡ self.old ++ octet ∷ [] }
+    {
+        self.items.push(octet);
+    }
+
+    /// Appends octets.
+    pub fn append(&mut self, octets: &[u8])
+        requires { length self.old + length octets.now ≤ N }
+        ensures { self.new ≡ self.old ++ octets.now }
+    {
+        self.items.try_extend_from_slice(octets).unwrap();
+    }
+
+    /// Appends a number of two octets, the highest first.
+    pub fn push_be_u16(&mut self, number: u16)
+        requires { length self.old + 2 ≤ N }
+        ensures { self.new ≡ self.old ++ big_bytes 2 number }
+    {
+        let mut octets = [0; 2];
+        BigEndian::write_u16(&mut octets, number);
+        self.append(&octets);
+    }
+
+    /// The same octets again.
+    pub fn copied(&self) -> Octets<N>
+        ensures { result ≡ self.now }
+    {
+        Octets::from_octets(self.octets())
+    }
+}
+
+impl<const N: usize> Default for Octets<N> {
+    /// No octets.
+    fn default() -> Octets<N> {
+        Octets::new()
+    }
+}
