@@ -1,0 +1,4 @@
+mod Follow
+mod LineLaws
+mod Taking
+mod Turns

@@ -1,0 +1,16 @@
+use Rattle.std.proofs.Common.{◌-◌, ◌≤◌, IsTrue}
+use Rattle.line_driver.specs.Next.{IsOver}
+use Rattle.line_driver.proofs.Follow.{SoFar}
+use Rattle.line_driver.proofs.machine.follow.Given as goal
+
+abbrev pub invariant-loop-machine : goal.invariant-loop-machine
+invariant-loop-machine g l = record {
+  so_far : SoFar g.M.LineMachine.turn g.M.LineMachine.end_text l.fn.machine (g.S.Source.left l.fn.source) (g.S.Source.left l.source) (g.K.Sink.taken l.fn.sink) (g.K.Sink.taken l.sink) l.machine l.input.seen l.input.count l.input.window.items l.input.ended;
+  over : IsTrue l.input.ended → IsOver (g.S.Source.ended l.source) (g.S.Source.left l.source);
+  within : l.input.seen ≤ 67108864;
+  source_later : g.S.Source.faults l.fn.source ≤ g.S.Source.faults l.source;
+  sink_later : g.K.Sink.faults l.fn.sink ≤ g.K.Sink.faults l.sink;
+}
+
+abbrev pub decreases-loop-machine : goal.decreases-loop-machine
+decreases-loop-machine g l = 67108864 - l.input.seen

@@ -1,0 +1,118 @@
+//! The run over a machine.
+ghost use Rattle.std.specs.Prelude.{◌≡◌, ◌≤◌, [], List, ℕ, IsTrue, false};
+ghost use Rattle.std.specs.Io.KnownBytes.{IsAtEnd};
+ghost use Rattle.plc_base.specs.Causes.{Rose};
+ghost use Rattle.line_driver.specs.Lines.{Content, TooMuch};
+ghost use Rattle.line_driver.specs.Next.{content_found};
+ghost use Rattle.line_driver.specs.Outcomes.{Turn};
+ghost use Rattle.line_driver.specs.Clauses.{Told, Turned, IsStop, Drives};
+
+use crate::input::{Input, LineBuffer, LineKind, WINDOW};
+use plc_base::{Failed, Sink, Source};
+use std::alloc::Global;
+
+/// How a run ended.
+#[derive(Clone, Copy, Debug, PartialEq, Eq)]
+pub enum Exit {
+    Fine,
+    BadScript,
+    Memory,
+    ReadFault,
+    WriteFault,
+}
+
+/// Content takes the lines of a script one by one.
+pub trait LineMachine {
+    /// Content a line of this number does, from this state on.
+    ghost turn: { Self → ℕ → Content → Turn Self };
+
+    /// The text at the end of input.
+    ghost end_text: { Self → List ℕ };
+
+    /// Gives a line its turn, whose octets these are where it is a text.
+    fn take<K: Sink>(
+        &mut self,
+        number: u32,
+        kind: LineKind,
+        line: &[u8],
+        sink: &mut K,
+    ) -> Result<(), Exit>
+        ensures turned { Turned (K.taken sink.old) (K.taken sink.new) (Rose (K.faults sink.old) (K.faults sink.new)) self.old self.new (turn self.old number (content_found line.now kind)) result }
+        ensures later { K.faults sink.old ≤ K.faults sink.new };
+
+    /// Writes the text at the end of input.
+    fn finish<K: Sink>(&self, sink: &mut K) -> Result<(), Exit>
+        ensures told { Told (K.taken sink.old) (K.taken sink.new) (Rose (K.faults sink.old) (K.faults sink.new)) (end_text self.now) result }
+        ensures later { K.faults sink.old ≤ K.faults sink.new };
+
+    /// The octet that is too much makes its line bad.
+    ghost stops: { (m : Self) (number : ℕ) → IsStop (turn m number TooMuch) };
+}
+
+/// Goes through the lines.
+fn follow<M: LineMachine, S: Source, K: Sink>(
+    input: &mut Input,
+    machine: &mut M,
+    source: &mut S,
+    sink: &mut K,
+) -> Exit
+    requires window { input.old.window.items ≡ [] }
+    requires seen { input.old.seen ≡ 0 }
+    requires count { input.old.count ≡ 0 }
+    requires going { input.old.ended ≡ false }
+    ensures drives { Drives WINDOW M.turn M.end_text machine.old (S.left source.old) (S.left source.new) (K.taken sink.old) (K.taken sink.new) (S.ended source.new)
+        (Rose (S.faults source.old) (S.faults source.new)) (Rose (K.faults sink.old) (K.faults sink.new)) result }
+    ensures whole { result ≡ Exit.Fine → IsAtEnd (S.left source.new) }
+    ensures source { S.faults source.old ≤ S.faults source.new }
+    ensures sink { K.faults sink.old ≤ K.faults sink.new }
+{
+    let mut line = LineBuffer::new();
+    loop {
+        match input.next_line(source, &mut line) {
+            Err(Failed) => return Exit::ReadFault,
+            Ok(None) => {
+                return match machine.finish(sink) {
+                    Ok(()) => Exit::Fine,
+                    Err(end) => end,
+                };
+            }
+            Ok(Some(kind)) => match take_line(machine, input.count, kind, &line, sink) {
+                Ok(()) => {}
+                Err(end) => return end,
+            },
+        }
+    }
+}
+
+fn take_line<M: LineMachine, K: Sink>(
+    machine: &mut M,
+    number: u32,
+    kind: LineKind,
+    line: &LineBuffer,
+    sink: &mut K,
+) -> Result<(), Exit>
+    ensures turned { Turned (K.taken sink.old) (K.taken sink.new) (Rose (K.faults sink.old) (K.faults sink.new)) machine.old machine.new (M.turn machine.old number (content_found line.now.items kind)) result }
+    ensures later { K.faults sink.old ≤ K.faults sink.new }
+{
+    machine.take(number, kind, line.as_slice(), sink)
+}
+
+/// Reads a script from the source, and writes the report of a machine to the sink.
+pub fn run<M: LineMachine, S: Source, K: Sink>(
+    alloc: Global,
+    machine: &mut M,
+    source: &mut S,
+    sink: &mut K,
+) -> Exit
+    ensures drives { Drives WINDOW M.turn M.end_text machine.old (S.left source.old) (S.left source.new) (K.taken sink.old) (K.taken sink.new) (S.ended source.new)
+        (Rose (S.faults source.old) (S.faults source.new)) (Rose (K.faults sink.old) (K.faults sink.new)) result }
+    ensures whole { result ≡ Exit.Fine → IsAtEnd (S.left source.new) }
+    ensures source { S.faults source.old ≤ S.faults source.new }
+    ensures sink { K.faults sink.old ≤ K.faults sink.new }
+{
+    let mut input = match Input::new(alloc) {
+        Ok(input) => input,
+        Err(_) => return Exit::Memory,
+    };
+    follow(&mut input, machine, source, sink)
+}

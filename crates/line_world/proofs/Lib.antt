@@ -1,0 +1,7 @@
+mod Keeping
+mod MarkLemmas
+mod Marking
+mod Naming
+mod Places
+mod Safety
+mod UnitLemmas
