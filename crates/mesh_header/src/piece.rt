@@ -1,0 +1,88 @@
+//! A piece of a datagram.
+ghost use Rattle.std.specs.Prelude.{◌≡◌, ◌≤◌, ◌<◌, ◌↔◌, ◌%◌, ◌+◌, ◌*◌, length, IsSome, IfSome};
+ghost use Rattle.mesh_header.specs.Pieces.{IsPiece, Placed};
+
+use plc_base::FrameBuf;
+use std::marker::Model;
+
+/// A piece of a datagram (RFC 4944, 5.3): how many octets the whole datagram has, the tag that names it, where the piece
+/// stands in it, in units of 8 octets, and the piece's own octets.
+///
+/// Every piece keeps the rule of pieces: the size is 1 to 1,280, there is an octet, the piece ends within the size, and one that
+/// ends before it has a multiple of 8 octets. A contract sees the four parts.
+#[derive(Debug, Drop)]
+pub struct Piece {
+    size: u16,
+    tag: u16,
+    offset: u8,
+    octets: FrameBuf,
+}
+
+impl Model for Piece {
+    ghost use Rattle.mesh_header.specs.Pieces.{Placed, IsPiece, placed_code};
+
+    ghost Value = { Placed };
+
+    ghost coded = { placed_code };
+
+    ghost view = { λ p. record { size = p.size; tag = p.tag; offset = p.offset; octets = p.octets } };
+
+    ghost invariant = { λ p. IsPiece (record { size = p.size; tag = p.tag; offset = p.offset; octets = p.octets }) };
+}
+
+impl Piece {
+    /// The piece of these parts. None exactly where they break the rule of pieces.
+    ///
+    /// `size` is the whole datagram's in octets, `offset` the place of the piece in units of 8 octets.
+    pub fn new(size: u16, tag: u16, offset: u8, octets: FrameBuf) -> Option<Piece>
+        ensures valid { IsSome result ↔ IsPiece (record { size = size; tag = tag; offset = offset; octets = octets }) }
+        ensures value { IfSome result (λ piece. piece ≡ record { size = size; tag = tag; offset = offset; octets = octets }) }
+    {
+        let count = octets.len();
+        let end = offset as usize * 8 + count;
+        let whole = size as usize;
+        if whole == 0 || whole > 1280 || count == 0 || end > whole {
+            return None;
+        }
+        if end < whole && count % 8 != 0 {
+            return None;
+        }
+        Some(Piece {
+            size,
+            tag,
+            offset,
+            octets,
+        })
+    }
+
+    /// How many octets the whole datagram has: 1 to 1,280.
+    pub fn size(&self) -> u16
+        ensures value { result ≡ self.now.size }
+        ensures rule { IsPiece self.now }
+    {
+        self.size
+    }
+
+    /// The tag that names the datagram among those of its origin and size.
+    pub fn tag(&self) -> u16
+        ensures { result ≡ self.now.tag }
+    {
+        self.tag
+    }
+
+    /// Where the piece stands in the datagram, in units of 8 octets.
+    pub fn offset(&self) -> u8
+        ensures { result ≡ self.now.offset }
+    {
+        self.offset
+    }
+
+    /// The octets of the piece: at least one.
+    pub fn octets(&self) -> &[u8]
+        ensures value { result.now ≡ self.now.octets }
+        ensures some { 0 < length result.now }
+        ensures fits { length result.now ≤ 400 }
+    {
+        self.octets.octets()
+    }
+}

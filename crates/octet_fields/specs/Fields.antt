@@ -1,0 +1,36 @@
+-- What stands at a place of octets. A place is counted from 0.
+use Rattle.std.specs.Prelude.{◌≡◌, ◌≤◌, ℕ, ◌+◌, List, ◌++◌, length, take, drop, slice_index}
+use Rattle.byteorder.specs.Endian.{big_number, little_number}
+
+-- the octets from a place on
+unfoldable pub after : ℕ → List ℕ → List ℕ
+after at octets = drop at octets
+
+-- the octet at a place
+unfoldable pub octet : ℕ → List ℕ → ℕ
+octet at octets = slice_index octets at
+
+-- the number in the two octets from a place on, the highest first
+unfoldable pub two : ℕ → List ℕ → ℕ
+two at octets = big_number 2 (drop at octets)
+
+-- the number in the four octets from a place on, the highest first
+unfoldable pub four : ℕ → List ℕ → ℕ
+four at octets = big_number 4 (drop at octets)
+
+-- the number in the two octets from a place on, the lowest first
+unfoldable pub little_two : ℕ → List ℕ → ℕ
+little_two at octets = little_number 2 (drop at octets)
+
+-- the number in the four octets from a place on, the lowest first
+unfoldable pub little_four : ℕ → List ℕ → ℕ
+little_four at octets = little_number 4 (drop at octets)
+
+-- the n octets from a place on
+unfoldable pub part : ℕ → ℕ → List ℕ → List ℕ
+part at n octets = take n (drop at octets)
+
+-- a field's octets stand at a place, and the others behind them
+pub record Stands (field : List ℕ) (at : ℕ) (octets : List ℕ) : Type 0 where
+  pub within : at + length field ≤ length octets
+  pub parts : after at octets ≡ field ++ after (at + length field) octets

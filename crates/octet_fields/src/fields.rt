@@ -1,0 +1,112 @@
+//! Reads fields at their places.
+ghost use Rattle.std.specs.Prelude.{◌≡◌, ◌≤◌, ◌<◌, ◌+◌, ◌/◌, ◌∷◌, List, [], length, reverse, MatchResult};
+ghost use Rattle.byteorder.specs.Endian.{big_bytes, little_bytes};
+ghost use Rattle.octet_fields.specs.Fields.{Stands, octet, two, four, little_two, little_four, part, after};
+
+use byteorder::{BigEndian, ByteOrder, LittleEndian};
+use thiserror::Error;
+
+/// The octets end before the field does.
+#[derive(Clone, Copy, Debug, PartialEq, Eq, Drop, Error)]
+#[error("the octets end at {place}")]
+pub struct Ended {
+    /// Where they end: how many there are.
+    pub place: u16,
+}
+
+// The octets go as far as this place, or end before it.
+fn reach(octets: &[u8], end: usize) -> Result<(), Ended>
+    requires { end ≤ 1004 }
+    ensures { MatchResult result (λ _. end ≤ length octets.now)
+        (λ e. (length octets.now < end) × (e.place ≡ length octets.now)) }
+{
+    if octets.len() < end {
+        return Err(Ended {
+            place: octets.len() as u16,
+        });
+    }
+    Ok(())
+}
+
+/// The octet at a place.
+pub fn octet_at(octets: &[u8], at: usize) -> Result<u8, Ended>
+    requires { at ≤ 1000 }
+    ensures { MatchResult result (λ x. (x ≡ octet at octets.now) × Stands (x ∷ []) at octets.now)
+        (λ e. (length octets.now < at + 1) × (e.place ≡ length octets.now)) }
+{
+    reach(octets, at + 1)?;
+    Ok(octets[at])
+}
+
+/// The number in the two octets from a place on, the highest octet first.
+pub fn two_at(octets: &[u8], at: usize) -> Result<u16, Ended>
+    requires { at ≤ 1000 }
+    ensures { MatchResult result (λ x. (x ≡ two at octets.now) × Stands (big_bytes 2 x) at octets.now × (x / 256 ≡ octet at octets.now))
+        (λ e. (length octets.now < at + 2) × (e.place ≡ length octets.now)) }
+{
+    reach(octets, at + 2)?;
+    Ok(BigEndian::read_u16(&octets[at..]))
+}
+
+/// The number in the four octets from a place on, the highest octet first.
+pub fn four_at(octets: &[u8], at: usize) -> Result<u32, Ended>
+    requires { at ≤ 1000 }
+    ensures { MatchResult result (λ x. (x ≡ four at octets.now) × Stands (big_bytes 4 x) at octets.now)
+        (λ e. (length octets.now < at + 4) × (e.place ≡ length octets.now)) }
+{
+    reach(octets, at + 4)?;
+    Ok(BigEndian::read_u32(&octets[at..]))
+}
+
+/// The number in the two octets from a place on, the lowest octet first.
+pub fn little_two_at(octets: &[u8], at: usize) -> Result<u16, Ended>
+    requires { at ≤ 1000 }
+    ensures { MatchResult result (λ x. (x ≡ little_two at octets.now) × Stands (little_bytes 2 x) at octets.now)
+        (λ e. (length octets.now < at + 2) × (e.place ≡ length octets.now)) }
+{
+    reach(octets, at + 2)?;
+    Ok(LittleEndian::read_u16(&octets[at..]))
+}
+
+/// The number in the four octets from a place on, the lowest octet first.
+pub fn little_four_at(octets: &[u8], at: usize) -> Result<u32, Ended>
+    requires { at ≤ 1000 }
+    ensures { MatchResult result (λ x. (x ≡ little_four at octets.now) × Stands (little_bytes 4 x) at octets.now)
+        (λ e. (length octets.now < at + 4) × (e.place ≡ length octets.now)) }
+{
+    reach(octets, at + 4)?;
+    Ok(LittleEndian::read_u32(&octets[at..]))
+}
+
+/// The `N` octets from a place on, in their order: an EUI-64 or a key as its text has it.
+pub fn octets_at<const N: usize>(octets: &[u8], at: usize) -> Result<[u8; N], Ended>
+    requires { at + N ≤ 1000 }
+    ensures { MatchResult result (λ x. (x ≡ part at N octets.now) × Stands x at octets.now)
+        (λ e. (length octets.now < at + N) × (e.place ≡ length octets.now)) }
+{
+    reach(octets, at + N)?;
+    let mut field = [0; N];
+    field.copy_from_slice(&octets[at..at + N]);
+    Ok(field)
+}
+
+/// The `N` octets from a place on, the last one first: an EUI-64 that stands least first.
+pub fn reversed_at<const N: usize>(octets: &[u8], at: usize) -> Result<[u8; N], Ended>
+    requires { at + N ≤ 1000 }
+    ensures { MatchResult result (λ x. (x ≡ reverse (part at N octets.now)) × Stands (reverse x) at octets.now)
+        (λ e. (length octets.now < at + N) × (e.place ≡ length octets.now)) }
+{
+    let mut field = octets_at(octets, at)?;
+    field.reverse();
+    Ok(field)
+}
+
+/// The octets from a place on.
+#[tactic(auto, unfolding(crate::specs::Fields::after))]
+pub fn rest_at(octets: &[u8], at: usize) -> &[u8]
+    requires { at ≤ length octets.now }
+    ensures value { result.now ≡ after at octets.now }
+    ensures length { length result.now + at ≡ length octets.now }
+{
+    octets.split_at(at).1
+}
