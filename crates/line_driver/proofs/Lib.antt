@@ -1,4 +1,5 @@
 mod Follow
 mod LineLaws
 mod Taking
+pub mod Telling
 mod Turns

@@ -1,0 +1,19 @@
+use Rattle.std.proofs.Common.{◌+◌, arith}
+use Rattle.line_replay.specs.Texts.{happened_text}
+use Rattle.line_replay.proofs.Turning.{event_taken}
+use Rattle.line_replay.proofs.replay.Replay.take_event.Goals as goal
+
+pub returns-in-Ok-clause-turned : goal.returns-in-Ok-clause-turned
+returns-in-Ok-clause-turned g c =
+    rw (← c.self.view_is) (event_taken
+    c.args.number
+    c.counts-taken.result.events
+    c.self.inside.world
+    c.step.new.self
+    c.args.event.now
+    c.in-Ok.happened
+    c.tell.result
+    c.counts-taken.ensures.events
+    (omega arith)
+    c.in-Ok.ensures
+    (c.tell.ensures.told (happened_text (c.counts-taken.result.events + 1) c.in-Ok.happened) c.happened_text.ensures))

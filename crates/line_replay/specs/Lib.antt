@@ -1,0 +1,4 @@
+pub mod Readings
+pub mod Report
+pub mod Texts
+pub mod Tool

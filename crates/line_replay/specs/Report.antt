@@ -1,0 +1,104 @@
+-- What a script does, line by line, and its report.
+use Rattle.std.specs.Prelude.{ℕ, ◌+◌, Bool, List, [], ◌∷◌, ◌++◌, if◌then◌else◌, nat_lt, Result, Ok, Err}
+use Rattle.line_driver.specs.Lines.{Content, Text, Long, TooMuch, Line, lines}
+use Rattle.line_driver.specs.Clauses.{IsStop}
+use Rattle.line_driver.specs.Outcomes.{Turn, Skips, Takes, Stops, Outcome, outcome as outcome_of}
+use Rattle.line_world.specs.declared.event.Event.{Event}
+use Rattle.line_world.specs.declared.event.StepFault.{StepFault}
+use Rattle.line_world.specs.declared.event.StepFault.TheVariants as faults
+use Rattle.line_world.specs.Worlds.{World, start}
+use Rattle.line_world.specs.Steps.{Step, step}
+use Rattle.line_world.specs.Runs.{Entry}
+use Rattle.line_replay.specs.declared.reading.Reading.{Reading}
+use Rattle.line_replay.specs.declared.reading.Reading.TheVariants.{Quiet, NoForm, Reads}
+use Rattle.line_replay.specs.declared.report.Reason.{Reason}
+use Rattle.line_replay.specs.declared.report.Reason.TheVariants as reasons
+use Rattle.line_replay.specs.Readings.{reading}
+use Rattle.line_replay.specs.Texts.{happened_text, bad_text, end_text}
+
+-- What a line does: nothing, or it is an event that is taken, or it is bad.
+pub data Taking : Type 0 where
+  Skipped : Taking
+  Taken : (entry : Entry) → Taking
+  Refused : (reason : Reason) → Taking
+
+-- an event's step; that memory runs out is no step of the definition
+abbrev pub step_taking : World → Event → Step → Taking
+step_taking w event (Ok r) = Taken (record { number = w.events + 1; event = event; happened = r.1; after = r.0 })
+step_taking w event (Err faults.Setup) = Refused reasons.Setup
+step_taking w event (Err faults.Node) = Refused reasons.Node
+step_taking w event (Err faults.Flight) = Refused reasons.Flight
+step_taking w event (Err faults.Memory) = Skipped
+
+abbrev pub reading_taking : World → Reading → Taking
+reading_taking w Quiet = Skipped
+reading_taking w NoForm = Refused reasons.Form
+reading_taking w (Reads event) = if nat_lt w.events 50000 then step_taking w event (step w event) else Refused reasons.Events
+
+-- the reasons of a bad line, in their order
+unfoldable pub taking : World → Content → Taking
+taking w TooMuch = Refused reasons.Input
+taking w Long = Refused reasons.Long
+taking w (Text octets) = reading_taking w (reading octets)
+
+-- ---- the report
+
+-- the lines that report an event
+abbrev pub entry_text : Entry → List ℕ
+entry_text entry = happened_text entry.number entry.happened
+
+abbrev pub turn_by : ℕ → Taking → Turn World
+turn_by number Skipped = Skips
+turn_by number (Taken entry) = Takes entry.after (entry_text entry)
+turn_by number (Refused reason) = Stops (bad_text number reason)
+
+-- what a line of a number does to the world, and its report
+abbrev pub turn_of : World → ℕ → Content → Turn World
+turn_of w number content = turn_by number (taking w content)
+
+-- the octet that is too much makes its line bad
+pub stops_at_too_much : (w : World) (number : ℕ) → IsStop (turn_of w number TooMuch)
+unfolding taking
+stops_at_too_much w number = tt
+
+-- what a script does, where its input has ended or not
+abbrev pub outcome : List ℕ → Bool → Outcome
+outcome octets ended = outcome_of turn_of end_text start octets ended
+
+abbrev pub report : List ℕ → Bool → List ℕ
+report octets ended = (outcome octets ended).text
+
+-- ---- the run
+
+abbrev pub entries_by : World → Taking → (World → List Entry) → List Entry
+entries_by w Skipped rest = rest w
+entries_by w (Taken entry) rest = entry ∷ rest entry.after
+entries_by w (Refused reason) rest = []
+
+-- the entries of lines, up to the first bad one
+abbrev pub entries_from : World → List Line → List Entry
+entries_from w [] = []
+entries_from w (line ∷ lines) = entries_by w (taking w line.content) (λ next. entries_from next lines)
+
+-- the run of a script
+abbrev pub entries : List ℕ → Bool → List Entry
+entries octets ended = entries_from start (lines octets ended)
+
+-- ---- the report by entries
+
+abbrev pub entries_text : List Entry → List ℕ
+entries_text [] = []
+entries_text (x ∷ xs) = entry_text x ++ entries_text xs
+
+abbrev pub last_by : World → ℕ → Taking → (World → List ℕ) → List ℕ
+last_by w number Skipped rest = rest w
+last_by w number (Taken entry) rest = rest entry.after
+last_by w number (Refused reason) rest = bad_text number reason
+
+-- the line of the first bad line, or the last line at the end of input
+abbrev pub last_from : World → List Line → Bool → List ℕ
+last_from w [] ended = if ended then end_text w else []
+last_from w (line ∷ lines) ended = last_by w line.number (taking w line.content) (λ next. last_from next lines ended)
+
+abbrev pub last_text : List ℕ → Bool → List ℕ
+last_text octets ended = last_from start (lines octets ended) ended

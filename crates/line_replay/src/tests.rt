@@ -1,0 +1,420 @@
+//! Tests of the tool's call over sources and sinks in memory.
+use crate::status::Status;
+use crate::tool::run_tool;
+use plc_base::{MemSink, MemSource};
+use std::alloc::{AllocError, Global};
+use std::test::Fail;
+
+const TWO_METERS: &str =
+    "coordinator 0000000000000001 000102030405060708090a0b0c0d0e0f\nmeter 0000000000000002 101112131415161718191a1b1c1d1e1f\nmeter 0000000000000003 202122232425262728292a2b2c2d2e2f\ndepot 1\ndepot 2\nnear 1 2 3\nsend 1 2 48656c6c6f\ndeliver 1 2 3\n";
+
+const TWO_METERS_REPORT: &str =
+    "1 ok Made\n2 ok Made\n3 ok Made\n4 ok Joined\n5 ok Joined\n6 ok Set\n7 ok Sent\n8 ok Up\nup 2 1 48656c6c6f\nend 8 1 1 1 0\n";
+
+// Scripts whose input ends with no bad line, and their reports.
+const GOOD: [(&str, &str); 10] = [
+    // no input
+    ("", "end 0 0 0 0 0\n"),
+    // comments and empty lines
+    ("\n\n# \t\r a comment \0\n", "end 0 0 0 0 0\n"),
+    // no line feed at the end
+    (
+        "coordinator 0000000000000001 000102030405060708090a0b0c0d0e0f",
+        "1 ok Made\nend 1 0 0 0 0\n",
+    ),
+    // digits of either case
+    (
+        "coordinator 000000000000000A 000102030405060708090A0B0c0d0e0f",
+        "1 ok Made\nend 1 0 0 0 0\n",
+    ),
+    // two meters, one hop
+    (
+        "coordinator 0000000000000001 000102030405060708090a0b0c0d0e0f\nmeter 0000000000000002 101112131415161718191a1b1c1d1e1f\nmeter 0000000000000003 202122232425262728292a2b2c2d2e2f\ndepot 1\ndepot 2\nnear 1 2 3\nsend 1 2 48656c6c6f\ndeliver 1 2 3",
+        "1 ok Made\n2 ok Made\n3 ok Made\n4 ok Joined\n5 ok Joined\n6 ok Set\n7 ok Sent\n8 ok Up\nup 2 1 48656c6c6f\nend 8 1 1 1 0\n",
+    ),
+    // a repeat is refused
+    (
+        "coordinator 0000000000000001 000102030405060708090a0b0c0d0e0f\nmeter 0000000000000002 101112131415161718191a1b1c1d1e1f\nmeter 0000000000000003 202122232425262728292a2b2c2d2e2f\ndepot 1\ndepot 2\nnear 1 2 3\nsend 1 2 48656c6c6f\ndeliver 1 2 3\ndeliver 1 2 3",
+        "1 ok Made\n2 ok Made\n3 ok Made\n4 ok Joined\n5 ok Joined\n6 ok Set\n7 ok Sent\n8 ok Up\nup 2 1 48656c6c6f\n9 no Replayed\nend 9 1 1 1 0\n",
+    ),
+    // a frame for another node
+    (
+        "coordinator 0000000000000001 000102030405060708090a0b0c0d0e0f\nmeter 0000000000000002 101112131415161718191a1b1c1d1e1f\nmeter 0000000000000003 202122232425262728292a2b2c2d2e2f\ndepot 1\ndepot 2\nnear 1 2 3\nsend 1 2 48656c6c6f\ndeliver 1 0 1\ndeliver 1 1 1",
+        "1 ok Made\n2 ok Made\n3 ok Made\n4 ok Joined\n5 ok Joined\n6 ok Set\n7 ok Sent\n8 no NotForMe\n9 no NotForMe\nend 9 1 1 0 0\n",
+    ),
+    // a frame that was overtaken
+    (
+        "coordinator 0000000000000001 000102030405060708090a0b0c0d0e0f\nmeter 0000000000000002 101112131415161718191a1b1c1d1e1f\nmeter 0000000000000003 202122232425262728292a2b2c2d2e2f\ndepot 1\ndepot 2\nnear 1 2 3\nsend 1 2 48656c6c6f\nsend 1 2 01\ndeliver 2 2 3\ndeliver 1 2 3",
+        "1 ok Made\n2 ok Made\n3 ok Made\n4 ok Joined\n5 ok Joined\n6 ok Set\n7 ok Sent\n8 ok Sent\n9 ok Up\nup 2 2 01\n10 no Replayed\nend 10 2 2 1 0\n",
+    ),
+    // both ways
+    (
+        "coordinator 0000000000000001 000102030405060708090a0b0c0d0e0f\nmeter 0000000000000002 101112131415161718191a1b1c1d1e1f\nmeter 0000000000000003 202122232425262728292a2b2c2d2e2f\ndepot 1\ndepot 2\nnear 1 2 3\nsend 1 2 48656c6c6f\nsend 2 1 02\ndeliver 2 1 3\ndeliver 1 2 3",
+        "1 ok Made\n2 ok Made\n3 ok Made\n4 ok Joined\n5 ok Joined\n6 ok Set\n7 ok Sent\n8 ok Sent\n9 ok Up\nup 1 2 02\n10 ok Up\nup 2 1 48656c6c6f\nend 10 2 2 2 0\n",
+    ),
+    // sizes and routes
+    (
+        "coordinator 0000000000000001 000102030405060708090a0b0c0d0e0f\nmeter 0000000000000002 101112131415161718191a1b1c1d1e1f\nmeter 0000000000000003 202122232425262728292a2b2c2d2e2f\ndepot 1\ndepot 2\nnear 1 2 3\nsend 0 1 00\nsend 1 1 00\nsend 1 2 000000000000000000000000000000000000000000000000000000000000000000000000000000000000000000000000000000000000000000000000000000000000000000000000000000000000000000000000000000000000000000000000000000000000000000000000000000000000000000000000000000000000000000000000000000000000000000000000000000000000000000000000000000000000000000000000000000000000000000000000000000000000000000000000000000000000000000000000000000000000000000000000000000000000000000000000000000000000000000000000000000000000000000000000000000000000000000000000000000000000000000000000000000000000000000000000000000000000000000000000000000000000000000000000000000000000000000000000000000000000000000000000000000000000000000000000000000000000000000000000000000000000000000000000000000\nsend 1 2 00000000000000000000000000000000000000000000000000000000000000000000000000000000000000000000000000000000000000000000000000000000000000000000000000000000000000000000000000000000000000000000000000000000000000000000000000000000000000000000000000000000000000000000000000000000000000000000000000000000000000000000000000000000000000000000000000000000000000000000000000000000000000000000000000000000000000000000000000000000000000000000000000000000000000000000000000000000000000000000000000000000000000000000000000000000000000000000000000000000000000000000000000000000000000000000000000000000000000000000000000000000000000000000000000000000000000000000000000000000000000000000000000000000000000000000000000000000000000000000000000000000000000000000000000000000",
+        "1 ok Made\n2 ok Made\n3 ok Made\n4 ok Joined\n5 ok Joined\n6 ok Set\n7 no NoRoute\n8 no NoRoute\n9 ok Sent\n10 no BadSize\nend 10 1 1 0 0\n",
+    ),
+];
+
+// Scripts with a bad line, and their reports.
+const BAD: [(&str, &str); 36] = [
+    // the first event is no coordinator
+    (
+        "meter 0000000000000002 101112131415161718191a1b1c1d1e1f",
+        "bad 1 setup\n",
+    ),
+    // nor is it a send
+    ("send 0 0 00", "bad 1 setup\n"),
+    // a second coordinator
+    (
+        "coordinator 0000000000000001 000102030405060708090a0b0c0d0e0f\ncoordinator 0000000000000001 000102030405060708090a0b0c0d0e0f",
+        "1 ok Made\nbad 2 setup\n",
+    ),
+    // an EUI that is there
+    (
+        "coordinator 0000000000000001 000102030405060708090a0b0c0d0e0f\nmeter 0000000000000001 101112131415161718191a1b1c1d1e1f",
+        "1 ok Made\nbad 2 setup\n",
+    ),
+    // a setup line after another one
+    (
+        "coordinator 0000000000000001 000102030405060708090a0b0c0d0e0f\nsend 0 0 00\nmeter 0000000000000002 101112131415161718191a1b1c1d1e1f",
+        "1 ok Made\n2 no NoRoute\nbad 3 setup\n",
+    ),
+    // the coordinator in the workshop
+    (
+        "coordinator 0000000000000001 000102030405060708090a0b0c0d0e0f\ndepot 0",
+        "1 ok Made\nbad 2 setup\n",
+    ),
+    // a joined meter in the workshop
+    (
+        "coordinator 0000000000000001 000102030405060708090a0b0c0d0e0f\nmeter 0000000000000002 101112131415161718191a1b1c1d1e1f\ndepot 1\ndepot 1",
+        "1 ok Made\n2 ok Made\n3 ok Joined\nbad 4 setup\n",
+    ),
+    // a node near itself
+    (
+        "coordinator 0000000000000001 000102030405060708090a0b0c0d0e0f\nnear 0 0 1",
+        "1 ok Made\nbad 2 setup\n",
+    ),
+    // a node that is not joined
+    (
+        "coordinator 0000000000000001 000102030405060708090a0b0c0d0e0f\nmeter 0000000000000002 101112131415161718191a1b1c1d1e1f\nnear 0 1 1",
+        "1 ok Made\n2 ok Made\nbad 3 setup\n",
+    ),
+    // a pair that is near already
+    (
+        "coordinator 0000000000000001 000102030405060708090a0b0c0d0e0f\nmeter 0000000000000002 101112131415161718191a1b1c1d1e1f\nmeter 0000000000000003 202122232425262728292a2b2c2d2e2f\ndepot 1\ndepot 2\nnear 1 2 3\nnear 2 1 9",
+        "1 ok Made\n2 ok Made\n3 ok Made\n4 ok Joined\n5 ok Joined\n6 ok Set\nbad 7 setup\n",
+    ),
+    // no such node in the workshop
+    (
+        "coordinator 0000000000000001 000102030405060708090a0b0c0d0e0f\ndepot 1",
+        "1 ok Made\nbad 2 node\n",
+    ),
+    // no such node nearby
+    (
+        "coordinator 0000000000000001 000102030405060708090a0b0c0d0e0f\nnear 0 1 1",
+        "1 ok Made\nbad 2 node\n",
+    ),
+    // no such target
+    (
+        "coordinator 0000000000000001 000102030405060708090a0b0c0d0e0f\nsend 0 1 00",
+        "1 ok Made\nbad 2 node\n",
+    ),
+    // the node before the flight
+    (
+        "coordinator 0000000000000001 000102030405060708090a0b0c0d0e0f\ndeliver 1 1 1",
+        "1 ok Made\nbad 2 node\n",
+    ),
+    // no such flight
+    (
+        "coordinator 0000000000000001 000102030405060708090a0b0c0d0e0f\ndeliver 1 0 1",
+        "1 ok Made\nbad 2 flight\n",
+    ),
+    // no flight 0
+    (
+        "coordinator 0000000000000001 000102030405060708090a0b0c0d0e0f\ndeliver 0 0 1",
+        "1 ok Made\nbad 2 flight\n",
+    ),
+    // too few words
+    (
+        "coordinator 0000000000000001 000102030405060708090a0b0c0d0e0f\nsend 0",
+        "1 ok Made\nbad 2 form\n",
+    ),
+    // a space behind the last word
+    (
+        "coordinator 0000000000000001 000102030405060708090a0b0c0d0e0f\nsend 0 0 00 ",
+        "1 ok Made\nbad 2 form\n",
+    ),
+    // two spaces
+    (
+        "coordinator 0000000000000001 000102030405060708090a0b0c0d0e0f\nsend 0  0 00",
+        "1 ok Made\nbad 2 form\n",
+    ),
+    // a space in front
+    (
+        "coordinator 0000000000000001 000102030405060708090a0b0c0d0e0f\n send 0 0 00",
+        "1 ok Made\nbad 2 form\n",
+    ),
+    // a tab
+    (
+        "coordinator 0000000000000001 000102030405060708090a0b0c0d0e0f\nsend\t0 0 00",
+        "1 ok Made\nbad 2 form\n",
+    ),
+    // a carriage return
+    (
+        "coordinator 0000000000000001 000102030405060708090a0b0c0d0e0f\nsend 0 0 00\r",
+        "1 ok Made\nbad 2 form\n",
+    ),
+    // a blank line with a space
+    (
+        "coordinator 0000000000000001 000102030405060708090a0b0c0d0e0f\n ",
+        "1 ok Made\nbad 2 form\n",
+    ),
+    // a leading zero
+    (
+        "coordinator 0000000000000001 000102030405060708090a0b0c0d0e0f\nsend 00 0 00",
+        "1 ok Made\nbad 2 form\n",
+    ),
+    // a sign
+    (
+        "coordinator 0000000000000001 000102030405060708090a0b0c0d0e0f\nsend +0 0 00",
+        "1 ok Made\nbad 2 form\n",
+    ),
+    // a number past 32 bits
+    (
+        "coordinator 0000000000000001 000102030405060708090a0b0c0d0e0f\nsend 4294967296 0 00",
+        "1 ok Made\nbad 2 form\n",
+    ),
+    // the last number of 32 bits
+    (
+        "coordinator 0000000000000001 000102030405060708090a0b0c0d0e0f\nsend 4294967295 0 00",
+        "1 ok Made\nbad 2 node\n",
+    ),
+    // an odd number of digits
+    (
+        "coordinator 0000000000000001 000102030405060708090a0b0c0d0e0f\nsend 0 0 0",
+        "1 ok Made\nbad 2 form\n",
+    ),
+    // no digit
+    (
+        "coordinator 0000000000000001 000102030405060708090a0b0c0d0e0f\nsend 0 0 0g",
+        "1 ok Made\nbad 2 form\n",
+    ),
+    // a capital letter
+    (
+        "coordinator 0000000000000001 000102030405060708090a0b0c0d0e0f\nSend 0 0 00",
+        "1 ok Made\nbad 2 form\n",
+    ),
+    // a cost of 0
+    (
+        "coordinator 0000000000000001 000102030405060708090a0b0c0d0e0f\ndeliver 1 0 0",
+        "1 ok Made\nbad 2 form\n",
+    ),
+    // a cost of 256
+    (
+        "coordinator 0000000000000001 000102030405060708090a0b0c0d0e0f\ndeliver 1 0 256",
+        "1 ok Made\nbad 2 form\n",
+    ),
+    // a line of a later day
+    (
+        "coordinator 0000000000000001 000102030405060708090a0b0c0d0e0f\nlose 1",
+        "1 ok Made\nbad 2 form\n",
+    ),
+    // a short key
+    (
+        "coordinator 0000000000000001 000102030405060708090a0b0c0d0e0",
+        "bad 1 form\n",
+    ),
+    // a short EUI
+    (
+        "coordinator 1 000102030405060708090a0b0c0d0e0f",
+        "bad 1 form\n",
+    ),
+    // a NUL
+    (
+        "coordinator 0000000000000001 000102030405060708090a0b0c0d0e0f\nsend\0 0 0 00",
+        "1 ok Made\nbad 2 form\n",
+    ),
+];
+
+fn run(
+    alloc: Global,
+    words: &[&str],
+    script: &[u8],
+    step: usize,
+    read_fails: &[u32],
+    write_fails: &[u32],
+) -> Result<(Status, String), AllocError> {
+    let mut list = Vec::new(alloc);
+    for word in words {
+        list.push(String::from_str(alloc, word)?)?;
+    }
+    let mut source = MemSource::new(
+        script.to_vec(alloc)?,
+        step.max(1),
+        read_fails.to_vec(alloc)?,
+    );
+    let mut sink = MemSink::new(alloc, 2_000_000, write_fails.to_vec(alloc)?)?;
+    let status = run_tool(alloc, list.as_slice(), &mut source, &mut sink);
+    let text = String::from_utf8_lossy(alloc, sink.written())?;
+    Ok((status, text))
+}
+
+fn replay(alloc: Global, script: &[u8], step: usize) -> Result<(Status, String), AllocError> {
+    run(alloc, &["replay", "-q"], script, step, &[], &[])
+}
+
+#[test]
+fn good_scripts(rt: HostRuntime) -> Result<(), Fail> {
+    for (script, report) in GOOD {
+        let (status, text) = replay(rt.alloc(), script.as_bytes(), 8192)?;
+        assert_eq!(rt; text.as_str(), report);
+        assert_eq!(rt; status, Status::Fine);
+    }
+    Ok(())
+}
+
+#[test]
+fn bad_lines(rt: HostRuntime) -> Result<(), Fail> {
+    for (script, report) in BAD {
+        let (status, text) = replay(rt.alloc(), script.as_bytes(), 100)?;
+        assert_eq!(rt; text.as_str(), report);
+        assert_eq!(rt; status, Status::BadScript);
+    }
+    Ok(())
+}
+
+#[test]
+fn octets_that_are_no_text(rt: HostRuntime) -> Result<(), Fail> {
+    let (status, text) = replay(rt.alloc(), b"# \xff\xfe\n\xff 1\n", 3)?;
+    assert_eq!(rt; text.as_str(), "bad 2 form\n");
+    assert_eq!(rt; status, Status::BadScript);
+    Ok(())
+}
+
+// However the source cuts its octets, the report is the same.
+#[test]
+fn any_pieces(rt: HostRuntime) -> Result<(), Fail> {
+    for step in [1usize, 2, 7, 64, 8191, 8192] {
+        let (status, text) = replay(rt.alloc(), TWO_METERS.as_bytes(), step)?;
+        assert_eq!(rt; text.as_str(), TWO_METERS_REPORT);
+        assert_eq!(rt; status, Status::Fine);
+    }
+    Ok(())
+}
+
+#[test]
+fn words_of_no_form(rt: HostRuntime) -> Result<(), Fail> {
+    let tried: [&[&str]; 7] = [
+        &[],
+        &["replay", "-v"],
+        &["drill", "61"],
+        &["replay", "-q", "x"],
+        &["-q"],
+        &["--help"],
+        &["Replay", "-q"],
+    ];
+    for words in tried {
+        let (status, text) = run(rt.alloc(), words, b"", 1, &[], &[])?;
+        assert_eq!(rt;
+            text.as_str(),
+            "usage: line_replay replay [-q] | show | vectors | drill N\n"
+        );
+        assert_eq!(rt; status, Status::Usage);
+        let (status, text) = run(rt.alloc(), words, b"", 1, &[], &[1])?;
+        assert_eq!(rt; text.as_str(), "");
+        assert_eq!(rt; status, Status::WriteFault);
+    }
+    Ok(())
+}
+
+// Each read and each write fails in turn: what was reported before stands.
+#[test]
+fn faults_of_the_outside(rt: HostRuntime) -> Result<(), Fail> {
+    let script = TWO_METERS.as_bytes();
+    let (status, text) = run(rt.alloc(), &["replay", "-q"], script, 62, &[2], &[])?;
+    assert_eq!(rt; text.as_str(), "1 ok Made\n");
+    assert_eq!(rt; status, Status::ReadFault);
+    let (status, text) = run(rt.alloc(), &["replay", "-q"], b"", 1, &[], &[1])?;
+    assert_eq!(rt; text.as_str(), "");
+    assert_eq!(rt; status, Status::WriteFault);
+    for number in 1..=20u32 {
+        let (status, text) = run(rt.alloc(), &["replay", "-q"], script, 16, &[number], &[])?;
+        assert!(rt; TWO_METERS_REPORT.starts_with(text.as_str()));
+        assert!(rt; status == Status::ReadFault || number > 15);
+        let (status, text) = run(rt.alloc(), &["replay", "-q"], script, 16, &[], &[number])?;
+        assert!(rt; TWO_METERS_REPORT.starts_with(text.as_str()));
+        assert!(rt; status == Status::WriteFault || number > 9);
+    }
+    Ok(())
+}
+
+#[test]
+fn the_limits(rt: HostRuntime) -> Result<(), Fail> {
+    let alloc = rt.alloc();
+    // A line of 4,096 octets, and one of 4,097.
+    let long = [b'#'; 4097];
+    let (status, text) = replay(alloc, &long[1..], 8192)?;
+    assert_eq!(rt; (status, text.as_str()), (Status::Fine, "end 0 0 0 0 0\n"));
+    let (status, text) = replay(alloc, &long, 1000)?;
+    assert_eq!(rt;
+        (status, text.as_str()),
+        (Status::BadScript, "bad 1 long\n")
+    );
+    // 1,000 nodes, and one more.
+    let mut script = String::from_str(
+        alloc,
+        "coordinator 0000000000000000 000102030405060708090a0b0c0d0e0f\n",
+    )?;
+    for node in 1..=1000u32 {
+        let line = format!(in alloc; "meter {node:016x} 101112131415161718191a1b1c1d1e1f\n")?;
+        script.push_str(line.as_str())?;
+    }
+    let (status, text) = replay(alloc, script.as_bytes(), 8192)?;
+    assert_eq!(rt; status, Status::BadScript);
+    assert!(rt; text.as_str().ends_with("\n1000 ok Made\nbad 1001 setup\n"));
+    // 64 neighbours, and one more.
+    let mut script = String::from_str(
+        alloc,
+        "coordinator 0000000000000000 000102030405060708090a0b0c0d0e0f\n",
+    )?;
+    for node in 1..=65u32 {
+        let line = format!(in alloc;
+            "meter {node:016x} 101112131415161718191a1b1c1d1e1f\ndepot {node}\n"
+        )?;
+        script.push_str(line.as_str())?;
+    }
+    for node in 1..=65u32 {
+        let line = format!(in alloc; "near 0 {node} 1\n")?;
+        script.push_str(line.as_str())?;
+    }
+    let (status, text) = replay(alloc, script.as_bytes(), 8192)?;
+    assert_eq!(rt; status, Status::BadScript);
+    assert!(rt; text.as_str().ends_with("\n195 ok Set\nbad 196 setup\n"));
+    // 50,000 events, lines without an event behind them, and one event more.
+    let mut script = String::from_str(
+        alloc,
+        "coordinator 0000000000000000 000102030405060708090a0b0c0d0e0f\n",
+    )?;
+    for _ in 1..50_000u32 {
+        script.push_str("send 0 0 00\n")?;
+    }
+    script.push_str("# done\n\n")?;
+    let (status, text) = replay(alloc, script.as_bytes(), 8192)?;
+    assert_eq!(rt; status, Status::Fine);
+    assert!(rt;
+        text.as_str()
+            .ends_with("\n50000 no NoRoute\nend 50000 0 0 0 0\n")
+    );
+    script.push_str("send 0 0 00\n")?;
+    let (status, text) = replay(alloc, script.as_bytes(), 8192)?;
+    assert_eq!(rt; status, Status::BadScript);
+    assert!(rt;
+        text.as_str()
+            .ends_with("\n50000 no NoRoute\nbad 50003 events\n")
+    );
+    Ok(())
+}
