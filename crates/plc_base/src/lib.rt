@@ -10,6 +10,7 @@ mod mem_keeper;
 mod memory;
 mod octets;
 mod out_frame;
+mod slot_table;
 mod standard;
 mod streams;
 
@@ -22,5 +23,6 @@ pub use mem_keeper::MemKeeper;
 pub use memory::{MemSink, MemSource};
 pub use octets::{DatagramBuf, EapBuf, FrameBuf, Octets, Record};
 pub use out_frame::OutFrame;
+pub use slot_table::{SlotEntry, SlotTable};
 pub use standard::{StdSink, StdSource};
 pub use streams::{Failed, Sink, Source, write_all};
