@@ -7,7 +7,7 @@ use Rattle.std.proofs.lemmas.List.{length-set, get_or-set_same, get_or-set_other
 use Rattle.std.proofs.lemmas.List.Quantifiers.{all_pairs_push, position-Some}
 use Rattle.std.proofs.lemmas.List.Sums.{fails_before_first}
 use Rattle.std.proofs.lemmas.Option.{slice_get-get_or}
-use Rattle.std.specs.Prelude.{slice_get, is_some, IfSome, ◌==◌}
+use Rattle.std.specs.Prelude.{slice_get, is_some, IfSome, MatchOption, ◌==◌}
 use Rattle.std.specs.List.{refill}
 use Rattle.std.specs.Option.{option_map}
 use Rattle.std.specs.FinMap.{get, insert}
@@ -232,3 +232,9 @@ stored_elsewhere layout table old new first last stored same apart = record {
     outside : (q : ℕ) → q < layout.slots → (last < layout.first) ⊎ (layout.first + layout.slots ≤ first) → (slot_of layout q < first) ⊎ (last < slot_of layout q)
     outside q h (inl below) = inr (omega arith)
     outside q h (inr above) = inl (omega arith)
+
+-- where a key is looked up, it is free at the place that is found, and behind the table where none is found
+pub place_free : {A : Type 0} (layout : Layout A) (table : List A) (key : ℕ) (o : Option ℕ) → IsTable layout table → o ≡ place_of layout table key
+    → MatchOption o (IsFree layout table (length table) key) (λ place. IsFree layout table place key)
+place_free layout table key None h e = free_new layout table key (length table) (ap is_some (sym e))
+place_free layout table key (Some place) h e = free_found layout table key place h (sym e)

@@ -1,5 +1,5 @@
 //! A table whose entries stand in a row of slots of a keeper.
-ghost use Rattle.std.specs.Prelude.{◌≡◌, ◌==◌, ◌<◌, ◌≤◌, ◌+◌, ◌∷◌, ◌++◌, [], List, length, map, set, is_ok, is_some, slice_get, IsTrue, IfSome, IfOk, IfErr, OnOk, Some, Ok};
+ghost use Rattle.std.specs.Prelude.{◌≡◌, ◌==◌, ◌<◌, ◌≤◌, ◌+◌, ◌∷◌, ◌++◌, [], List, length, map, set, is_ok, is_some, slice_get, IsTrue, IfSome, MatchOption, IfOk, IfErr, OnOk, OnErr, Some, Ok};
 ghost use Rattle.std.specs.Prelude.{ℕ};
 ghost use Rattle.plc_base.specs.Keeper.{IsSlot, Records, Puts, Stores, SameOutside};
 ghost use Rattle.plc_base.specs.SlotTables.{Layout, slot_of, IsTable, IsFree, IsStored, IsGapless, IsReading, IsBad, place_of, entry_write, last_of, opened};
@@ -127,6 +127,8 @@ impl<E: SlotEntry, const N: usize> SlotTable<E, N> {
     pub fn place_of(&self, key: u64) -> Option<usize>
         ensures place { result ≡ place_of E.layout self.now key }
         ensures within { IfSome result (λ place. place < length self.now) }
+        ensures short { length self.now ≤ E.layout.slots }
+        ensures free { MatchOption result (IsFree E.layout self.now (length self.now) key) (λ place. IsFree E.layout self.now place key) }
     {
         place_of(&self.entries, key)
     }
@@ -141,7 +143,8 @@ impl<E: SlotEntry, const N: usize> SlotTable<E, N> {
 
     /// Stores an entry at the place of another one, and then holds it there. Its key stands at no other place.
     ///
-    /// Only a failed put is an error, and then the table may not be used until it is opened again.
+    /// Only a failed put is an error. The table is then as it was, but the slot may have either record, so the table
+    /// may not be used until it is opened again.
     pub fn set_stored<K: Keeper>(
         &mut self,
         keeper: &mut K,
@@ -153,6 +156,7 @@ impl<E: SlotEntry, const N: usize> SlotTable<E, N> {
         requires storable { IsTrue (E.layout.storable entry) }
         requires kept { IsStored E.layout self.old (K.store keeper.old).records }
         ensures table { OnOk result (self.new ≡ set self.old place entry) }
+        ensures same { OnErr result (self.new ≡ self.old) }
         ensures store { Stores (K.store keeper.old) (Some (entry_write E.layout place entry)) (is_ok result) (K.store keeper.new) }
         ensures kept { OnOk result (IsStored E.layout self.new (K.store keeper.new).records) }
         ensures elsewhere { SameOutside E.layout.first (last_of E.layout) (K.store keeper.old).records (K.store keeper.new).records }
@@ -165,13 +169,15 @@ impl<E: SlotEntry, const N: usize> SlotTable<E, N> {
 
     /// Stores an entry of a new key at the first empty slot, and then holds it there.
     ///
-    /// Only a failed put is an error, and then the table may not be used until it is opened again.
+    /// Only a failed put is an error. The table is then as it was, but the slot may have either record, so the table
+    /// may not be used until it is opened again.
     pub fn push_stored<K: Keeper>(&mut self, keeper: &mut K, entry: E) -> Result<(), Failed>
         requires room { length self.old < E.layout.slots }
         requires free { IsFree E.layout self.old (length self.old) (E.layout.key entry) }
         requires storable { IsTrue (E.layout.storable entry) }
         requires kept { IsStored E.layout self.old (K.store keeper.old).records }
         ensures table { OnOk result (self.new ≡ self.old ++ entry ∷ []) }
+        ensures same { OnErr result (self.new ≡ self.old) }
         ensures store { Stores (K.store keeper.old) (Some (entry_write E.layout (length self.old) entry)) (is_ok result) (K.store keeper.new) }
         ensures kept { OnOk result (IsStored E.layout self.new (K.store keeper.new).records) }
         ensures elsewhere { SameOutside E.layout.first (last_of E.layout) (K.store keeper.old).records (K.store keeper.new).records }
