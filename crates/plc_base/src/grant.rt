@@ -1,4 +1,7 @@
 //! What a joining node is given.
+ghost use Rattle.std.specs.Prelude.{◌≡◌, ◌≤◌, true, is_some};
+ghost use Rattle.plc_base.specs.Grant.{key_at, keyed};
+
 use crate::{Key, Short};
 use std::marker::Model;
 
@@ -29,4 +32,44 @@ impl Model for Grant {
     ghost inverse = { λ v. record { address = v.address; active = v.active; keys = v.key0 ∷ v.key1 ∷ [] } };
 
     ghost inverse_ok = { λ a h. ap (λ keys. record { address = a.address; active = a.active; keys = keys }) (two_places a.keys h.two) };
+}
+
+impl Grant {
+    /// The key at an index, 0 or 1.
+    pub fn key(&self, index: u8) -> Option<Key>
+        requires { index ≤ 1 }
+        ensures { result ≡ key_at self.now index }
+    {
+        self.keys[usize::from(index)]
+    }
+
+    /// The grant with a key at an index, 0 or 1.
+    pub fn with_key(&self, index: u8, key: &Key) -> Grant
+        requires { index ≤ 1 }
+        ensures { result ≡ keyed self.now index key.now }
+    {
+        let keys = if index == 0 {
+            [Some(*key), self.keys[1]]
+        } else {
+            [self.keys[0], Some(*key)]
+        };
+        Grant {
+            address: self.address,
+            active: self.active,
+            keys,
+        }
+    }
+
+    /// The grant whose active key is the one at an index, 0 or 1, where a key is held.
+    pub fn with_active(&self, index: u8) -> Grant
+        requires index { index ≤ 1 }
+        requires held { is_some (key_at self.now index) ≡ true }
+        ensures { result ≡ record self.now { active = index } }
+    {
+        Grant {
+            address: self.address,
+            active: index,
+            keys: self.keys,
+        }
+    }
 }
