@@ -3,7 +3,9 @@
 
 mod fault;
 mod fields;
+mod key_book;
 mod key_ring;
 
 pub use fault::{BookFault, RingFault};
+pub use key_book::{BookEntry, KeyBook};
 pub use key_ring::KeyRing;

@@ -2,7 +2,7 @@
 ghost use Rattle.std.specs.Prelude.{◌≡◌, ◌==◌, ◌<◌, ◌≤◌, ◌+◌, ◌∷◌, ◌++◌, [], List, length, map, set, is_ok, is_some, slice_get, IsTrue, IfSome, MatchOption, IfOk, IfErr, OnOk, OnErr, Some, Ok};
 ghost use Rattle.std.specs.Prelude.{ℕ};
 ghost use Rattle.plc_base.specs.Keeper.{IsSlot, Records, Puts, Stores, SameOutside};
-ghost use Rattle.plc_base.specs.SlotTables.{Layout, slot_of, IsTable, IsFree, IsStored, IsGapless, IsReading, IsBad, place_of, entry_write, last_of, opened};
+ghost use Rattle.plc_base.specs.SlotTables.{Layout, slot_of, IsTable, IsFree, IsStored, IsGapless, IsReading, IsBad, place_of, entry_of, entry_write, last_of, opened};
 
 use crate::{BadStore, Failed, Keeper, Record};
 use arrayvec::ArrayVec;
@@ -139,6 +139,14 @@ impl<E: SlotEntry, const N: usize> SlotTable<E, N> {
         ensures { slice_get self.now place ≡ Some result }
     {
         self.entries[place]
+    }
+
+    /// The entry with a key. It looks at one entry after the other.
+    pub fn find(&self, key: u64) -> Option<E>
+        ensures { result ≡ entry_of E.layout self.now key }
+    {
+        let place = self.place_of(key)?;
+        Some(self.get(place))
     }
 
     /// Stores an entry at the place of another one, and then holds it there. Its key stands at no other place.
