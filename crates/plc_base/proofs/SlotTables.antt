@@ -188,6 +188,19 @@ pub stored_push : {A : Type 0} (layout : Layout A) (table : List A) (old new : R
 stored_push layout table old new e stored written reads =
     stored_at layout table (table ++ e ∷ []) old new (length table) e stored (slice_get-push table e) (λ q ne. slice_get-push_other table q e ne) written reads
 
+-- whatever becomes of the put of one place, what is stored is the table before or after
+pub set_either : {A : Type 0} (layout : Layout A) (table : List A) (old new : Records) (place : ℕ) (e : A)
+    → IsStored layout table old → place < length table → (new ≡ old) ⊎ (new ≡ insert old (slot_of layout place) (layout.octets place e))
+    → layout.read place (layout.octets place e) ≡ Some (layout.rest e) → IsStored layout table new ⊎ IsStored layout (set table place e) new
+set_either layout table old new place e stored within (inl same) reads = inl (subst (λ (r : Records). IsStored layout table r) (sym same) stored)
+set_either layout table old new place e stored within (inr written) reads = inr (stored_set layout table old new place e stored within written reads)
+
+pub push_either : {A : Type 0} (layout : Layout A) (table : List A) (old new : Records) (e : A)
+    → IsStored layout table old → (new ≡ old) ⊎ (new ≡ insert old (slot_of layout (length table)) (layout.octets (length table) e))
+    → layout.read (length table) (layout.octets (length table) e) ≡ Some (layout.rest e) → IsStored layout table new ⊎ IsStored layout (table ++ e ∷ []) new
+push_either layout table old new e stored (inl same) reads = inl (subst (λ (r : Records). IsStored layout table r) (sym same) stored)
+push_either layout table old new e stored (inr written) reads = inr (stored_push layout table old new e stored written reads)
+
 -- what is stored of the entry at a place
 abbrev shown : {A : Type 0} → Layout A → Option A → Option (Option A)
 shown layout o = option_map (λ p. Some (layout.rest p)) o

@@ -4,6 +4,8 @@
 mod address;
 mod grant;
 mod keeper;
+#[cfg(test)]
+mod keeper_tests;
 mod key;
 mod link_cost;
 mod mem_keeper;
