@@ -2,17 +2,29 @@
 #![tactic(auto)]
 
 mod address;
+mod grant;
+mod keeper;
+#[cfg(test)]
+mod keeper_tests;
 mod key;
 mod link_cost;
+mod mem_keeper;
 mod memory;
 mod octets;
+mod out_frame;
+mod slot_table;
 mod standard;
 mod streams;
 
 pub use address::{Eui, PAN, Short};
+pub use grant::Grant;
+pub use keeper::{BadStore, Cut, Keeper};
 pub use key::{Key, Rand};
 pub use link_cost::LinkCost;
+pub use mem_keeper::MemKeeper;
 pub use memory::{MemSink, MemSource};
 pub use octets::{DatagramBuf, EapBuf, FrameBuf, Octets, Record};
+pub use out_frame::OutFrame;
+pub use slot_table::{SlotEntry, SlotTable};
 pub use standard::{StdSink, StdSource};
 pub use streams::{Failed, Sink, Source, write_all};

@@ -1,0 +1,228 @@
+//! The marks of the senders: the counter that was last admitted of each.
+ghost use Rattle.std.specs.Prelude.{◌≡◌, ◌<◌, ◌≤◌, Ok, Some, None, is_ok, IfOk, IfErr, OnOk, OnErr, map, IsSorted, IsPermutation};
+ghost use Rattle.std.specs.Bool.{OnTrue};
+ghost use Rattle.std.specs.Ordering.{nat_cmp};
+ghost use Rattle.plc_base.specs.Keeper.{Stores, SameOutside};
+ghost use Rattle.plc_base.specs.SlotTables.{IsTable, IsGapless, IsReading, IsBad, opened};
+ghost use Rattle.frame_counters.specs.PeerMarks.{Table, peers, IsKept, at_rest, peer_ahead, mark_of, room_for, keep_write, kept_after, admit_result, admit_write, admit_after, is_stored};
+
+use crate::PeerFault;
+use arrayvec::ArrayVec;
+use byteorder::{BigEndian, ByteOrder};
+use plc_base::{BadStore, Failed, Keeper, Record, Short, SlotEntry, SlotTable};
+use std::marker::Model;
+
+/// One sender: the counter that was last admitted of it, and the mark that is stored, which is no lower.
+#[derive(Clone, Copy, Debug, Default)]
+pub struct Peer {
+    /// The sender's short address.
+    pub address: Short,
+    /// The counter that was last admitted.
+    pub mark: u32,
+    /// The mark that is stored.
+    pub stored: u32,
+}
+
+/// The first slot of the senders.
+const FIRST_SLOT: u32 = 0x0100;
+
+/// How far the stored mark is ahead.
+const AHEAD: u32 = 63;
+
+impl SlotEntry for Peer {
+    ghost use Rattle.std.specs.Prelude.{refl};
+    ghost use Rattle.frame_counters.specs.PeerMarks.{peers, peer_in-rests};
+
+    ghost layout = { peers };
+
+    ghost rests = { λ _ octets peer h. peer_in-rests octets peer h };
+
+    ghost keeps_key = { λ _. refl };
+
+    fn key(&self) -> u64 {
+        u64::from(self.address.number())
+    }
+
+    fn slot(place: usize) -> u32 {
+        FIRST_SLOT + place as u32
+    }
+
+    fn read(_place: usize, octets: &[u8]) -> Option<Peer> {
+        if octets.len() != 6 {
+            return None;
+        }
+        let address = Short::new(BigEndian::read_u16(octets))?;
+        let stored = BigEndian::read_u32(&octets[2..]);
+        Some(Peer {
+            address,
+            mark: stored,
+            stored,
+        })
+    }
+
+    fn record(&self, _place: usize) -> Record {
+        let Peer {
+            address, stored, ..
+        } = *self;
+        let mut octets = [0; 6];
+        BigEndian::write_u16(&mut octets, address.number());
+        BigEndian::write_u32(&mut octets[2..], stored);
+        Record::from_octets(&octets)
+    }
+}
+
+/// The counter that was last admitted of each sender. The stored marks are ahead of it, so that no counter is admitted
+/// twice, also over losses of power, and most frames cost no put (IEEE 802.15.4-2006, 7.5.8.2.3).
+///
+/// A contract sees the list of the senders in the order of their slots.
+#[derive(Drop, Debug)]
+pub struct PeerMarks {
+    table: SlotTable<Peer, 64>,
+}
+
+impl Model for PeerMarks {
+    ghost use Rattle.frame_counters.specs.PeerMarks.{Table, table_code, IsCovered};
+
+    ghost Value = { Table };
+
+    ghost coded = { table_code };
+
+    ghost view = { λ m. m.table };
+
+    ghost invariant = { λ m. IsCovered m.table };
+}
+
+impl PeerMarks {
+    /// The marks that the records from slot 0100 on give, up to the first empty slot. Each mark is the stored one.
+    ///
+    /// BadStore exactly where one of these records has not 6 octets, has an address above FFFD, or is a second one of an
+    /// address.
+    pub fn open<K: Keeper>(keeper: &K) -> Result<PeerMarks, BadStore>
+        ensures table { result ≡ opened peers (K.store keeper.now).records }
+        ensures reading { IfOk result (λ table. IsReading peers table (K.store keeper.now).records) }
+        ensures bad { IfErr result (λ bad. IsBad peers (K.store keeper.now).records bad.slot) }
+        ensures kept { IsGapless peers (K.store keeper.now).records → IfOk result (λ table. IsKept table (K.store keeper.now).records) }
+        // Marks that were kept are opened again, each at its stored mark.
+        ensures reopened { (table : Table) → IsTable peers table → IsKept table (K.store keeper.now).records → result ≡ Ok (map at_rest table) }
+    {
+        let table = SlotTable::open(keeper)?;
+        Ok(PeerMarks { table })
+    }
+
+    /// The mark of a sender, None exactly where it is not held.
+    pub fn mark(&self, from: Short) -> Option<u32>
+        ensures { result ≡ mark_of self.now from }
+    {
+        let place = self.table.place_of(key_of(from))?;
+        Some(self.table.get(place).mark)
+    }
+
+    /// The senders that are held, in ascending order.
+    pub fn senders(&self) -> ArrayVec<Short, 64>
+        ensures sorted { IsSorted nat_cmp result.items }
+        ensures same { IsPermutation (map (λ peer. peer.address) self.now) result.items }
+    {
+        let mut senders = ArrayVec::new();
+        for peer in self.table.as_slice() {
+            senders.push(peer.address);
+        }
+        senders.sort_unstable();
+        senders
+    }
+
+    /// Whether a counter would be admitted.
+    ///
+    /// Replayed exactly where the sender is held and `counter` is not above its mark. PeersFull exactly for a sender that is
+    /// not held with 64 held.
+    pub fn room(&self, from: Short, counter: u32) -> Result<(), PeerFault>
+        ensures { result ≡ room_for self.now from counter }
+    {
+        match self.table.place_of(key_of(from)) {
+            Some(place) if counter <= self.table.get(place).mark => Err(PeerFault::Replayed),
+            None if self.table.is_full() => Err(PeerFault::PeersFull),
+            _ => Ok(()),
+        }
+    }
+
+    /// Makes `counter` the mark of a sender, where there is room for it. Where the sender is new or `counter` is above its
+    /// stored mark, the smaller of counter + 63 and 4,294,967,295 is stored first.
+    ///
+    /// Only a failed put is an error. The marks are then as they were, but may not be used until they are opened again.
+    pub fn keep<K: Keeper>(
+        &mut self,
+        keeper: &mut K,
+        from: Short,
+        counter: u32,
+    ) -> Result<(), Failed>
+        requires room { room_for self.old from counter ≡ Ok tt }
+        requires kept { IsKept self.old (K.store keeper.old).records }
+        ensures table { OnOk result (self.new ≡ kept_after self.old from counter) }
+        ensures same { OnErr result (self.new ≡ self.old) }
+        ensures store { Stores (K.store keeper.old) (keep_write self.old from counter) (is_ok result) (K.store keeper.new) }
+        ensures kept { OnOk result (IsKept self.new (K.store keeper.new).records) }
+        ensures elsewhere { SameOutside 0x0100 0x013F (K.store keeper.old).records (K.store keeper.new).records }
+    {
+        match self.table.place_of(key_of(from)) {
+            Some(place) => {
+                let peer = self.table.get(place);
+                if counter <= peer.stored {
+                    let advanced = Peer {
+                        mark: counter,
+                        ..peer
+                    };
+                    self.table.set_unstored(place, advanced);
+                    Ok(())
+                } else {
+                    self.table.set_stored(keeper, place, ahead_of(from, counter))
+                }
+            }
+            None => self.table.push_stored(keeper, ahead_of(from, counter)),
+        }
+    }
+
+    /// Admits a counter of a sender: its mark is then `counter`. Where the sender is new or `counter` is above its stored
+    /// mark, the smaller of counter + 63 and 4,294,967,295 is stored first.
+    ///
+    /// Replayed exactly where the sender is held and `counter` is not above its mark. PeersFull exactly for a sender that is
+    /// not held with 64 held. Store where that put failed, and then the marks may not be used until they are opened again.
+    /// After each error the marks are as they were.
+    pub fn admit<K: Keeper>(
+        &mut self,
+        keeper: &mut K,
+        from: Short,
+        counter: u32,
+    ) -> Result<(), PeerFault>
+        requires { IsKept self.old (K.store keeper.old).records }
+        ensures answer { result ≡ admit_result self.old from counter (is_stored result) }
+        ensures table { self.new ≡ admit_after self.old from counter (is_stored result) }
+        ensures store { Stores (K.store keeper.old) (admit_write self.old from counter) (is_stored result) (K.store keeper.new) }
+        ensures kept { OnTrue (is_stored result) (IsKept self.new (K.store keeper.new).records) }
+        ensures elsewhere { SameOutside 0x0100 0x013F (K.store keeper.old).records (K.store keeper.new).records }
+    {
+        match self.room(from, counter) {
+            Ok(()) => self
+                .keep(keeper, from, counter)
+                .map_err(|_| PeerFault::Store),
+            Err(fault) => Err(fault),
+        }
+    }
+}
+
+// The number that names a sender.
+fn key_of(from: Short) -> u64
+    ensures value { result ≡ from }
+    ensures valid { result < 0xFFFE }
+{
+    u64::from(from.number())
+}
+
+// A sender whose stored mark is ahead of its counter.
+fn ahead_of(from: Short, counter: u32) -> Peer
+    ensures { result ≡ peer_ahead from counter }
+{
+    Peer {
+        address: from,
+        mark: counter,
+        stored: counter.saturating_add(AHEAD),
+    }
+}

@@ -1,0 +1,158 @@
+//! The counter of the frames that a node sends.
+ghost use Rattle.std.specs.Prelude.{◌≡◌, ◌+◌, ◌<◌, ◌≤◌, IfOk, OnOk, OnErr, is_ok, Some};
+ghost use Rattle.std.specs.FinMap.{get};
+ghost use Rattle.std.specs.Bool.{OnTrue};
+ghost use Rattle.plc_base.specs.Keeper.{Stores, SameOutside};
+ghost use Rattle.frame_counters.specs.SendCounter.{IsKept, limit_in, limit_slot, stored_limit, opened, reserve_write, reserved, limit_write, counting_at, take_result, take_write, take_after, is_stored, preset_result};
+ghost use Rattle.byteorder.specs.Endian.{big_bytes};
+
+use crate::CounterFault;
+use byteorder::{BigEndian, ByteOrder};
+use plc_base::{BadStore, Failed, Keeper, Record};
+use std::marker::Model;
+
+/// Gives out each counter once, also over losses of power: a limit is stored ahead of the counters that are given out,
+/// and a new start goes on at the stored limit (the frame counter of IEEE 802.15.4-2006, 7.6.2).
+///
+/// A contract sees the limit and the next counter.
+#[derive(Drop, Debug)]
+pub struct SendCounter {
+    limit: u32,
+    next: u32,
+}
+
+impl Model for SendCounter {
+    ghost use Rattle.std.specs.Prelude.{◌≤◌};
+    ghost use Rattle.frame_counters.specs.SendCounter.{Counting, counting_code};
+
+    ghost Value = { Counting };
+
+    ghost coded = { counting_code };
+
+    ghost view = { λ c. record { limit = c.limit; next = c.next } };
+
+    ghost invariant = { λ c. c.next ≤ c.limit };
+}
+
+/// The slot of the limit.
+const LIMIT_SLOT: u32 = 2;
+
+/// How far the limit is stored ahead.
+const STRIDE: u32 = 1024;
+
+// The record of a limit.
+fn limit_record(limit: u32) -> Record
+    ensures { result ≡ big_bytes 4 limit }
+{
+    let mut octets = [0; 4];
+    BigEndian::write_u32(&mut octets, limit);
+    Record::from_octets(&octets)
+}
+
+// Stores a limit.
+fn store_limit<K: Keeper>(keeper: &mut K, limit: u32) -> Result<(), Failed>
+    ensures store { Stores (K.store keeper.old) (limit_write limit) (is_ok result) (K.store keeper.new) }
+    ensures stored { OnOk result (limit_in (get (K.store keeper.new).records limit_slot) ≡ Some limit) }
+    ensures elsewhere { SameOutside 2 2 (K.store keeper.old).records (K.store keeper.new).records }
+{
+    keeper.put(LIMIT_SLOT, &limit_record(limit))
+}
+
+impl SendCounter {
+    /// The counter that the record at slot 2 gives: the next counter is the stored limit, 0 where none is stored.
+    ///
+    /// BadStore exactly where the record has another length than 4 octets.
+    pub fn open<K: Keeper>(keeper: &K) -> Result<SendCounter, BadStore>
+        ensures counter { result ≡ opened (K.store keeper.now).records }
+        ensures kept { IfOk result (λ counter. IsKept counter (K.store keeper.now).records) }
+        ensures limit { IfOk result (λ counter. counter.next ≡ stored_limit (K.store keeper.now).records) }
+    {
+        let limit = match keeper.get(LIMIT_SLOT) {
+            None => 0,
+            Some(limit) if limit.len() == 4 => BigEndian::read_u32(limit.octets()),
+            Some(_) => return Err(BadStore { slot: LIMIT_SLOT }),
+        };
+        Ok(SendCounter { limit, next: limit })
+    }
+
+    /// How many counters are left: 4,294,967,295 minus the next one.
+    pub fn left(&self) -> u32
+        ensures { result + self.now.next ≡ 4294967295 }
+    {
+        u32::MAX - self.next
+    }
+
+    /// Gives out so many counters in a row, and answers the first. Where they pass the limit, a higher one is stored first.
+    ///
+    /// Only a failed put is an error. The counter is then as it was, but may not be used until it is opened again.
+    pub fn reserve<K: Keeper>(&mut self, keeper: &mut K, count: u32) -> Result<u32, Failed>
+        requires few { count ≤ 1024 }
+        requires left { self.old.next + count ≤ 4294967295 }
+        requires kept { IsKept self.old (K.store keeper.old).records }
+        ensures number { IfOk result (λ number. number ≡ self.old.next) }
+        ensures counter { OnOk result (self.new ≡ reserved self.old count) }
+        ensures same { OnErr result (self.new ≡ self.old) }
+        ensures store { Stores (K.store keeper.old) (reserve_write self.old count) (is_ok result) (K.store keeper.new) }
+        ensures kept { OnOk result (IsKept self.new (K.store keeper.new).records) }
+        ensures elsewhere { SameOutside 2 2 (K.store keeper.old).records (K.store keeper.new).records }
+    {
+        let number = self.next;
+        if self.limit < number + count {
+            let limit = self.limit.saturating_add(STRIDE);
+            store_limit(keeper, limit)?;
+            self.limit = limit;
+        }
+        self.next = number + count;
+        Ok(number)
+    }
+
+    /// Gives out the next counter. Where it equals the limit, the smaller of limit + 1,024 and 4,294,967,295 is stored first.
+    ///
+    /// Spent exactly where none is left. Store where that put failed, and then the counter may not be used until it is
+    /// opened again.
+    pub fn take<K: Keeper>(&mut self, keeper: &mut K) -> Result<u32, CounterFault>
+        requires { IsKept self.old (K.store keeper.old).records }
+        ensures answer { result ≡ take_result self.old (is_stored result) }
+        ensures counter { self.new ≡ take_after self.old (is_stored result) }
+        ensures store { Stores (K.store keeper.old) (take_write self.old) (is_stored result) (K.store keeper.new) }
+        ensures below { IfOk result (λ number. number < stored_limit (K.store keeper.new).records) }
+        ensures kept { OnTrue (is_stored result) (IsKept self.new (K.store keeper.new).records) }
+        ensures elsewhere { SameOutside 2 2 (K.store keeper.old).records (K.store keeper.new).records }
+    {
+        if self.left() == 0 {
+            return Err(CounterFault::Spent);
+        }
+        self.reserve(keeper, 1).map_err(|_| CounterFault::Store)
+    }
+
+    /// Stores a limit, and goes on at it. It may be lower than the limit before.
+    ///
+    /// Only a failed put is an error. The counter is then as it was, but may not be used until it is opened again.
+    pub fn set_limit<K: Keeper>(&mut self, keeper: &mut K, value: u32) -> Result<(), Failed>
+        ensures counter { OnOk result (self.new ≡ counting_at value) }
+        ensures same { OnErr result (self.new ≡ self.old) }
+        ensures store { Stores (K.store keeper.old) (limit_write value) (is_ok result) (K.store keeper.new) }
+        ensures kept { OnOk result (IsKept self.new (K.store keeper.new).records) }
+        ensures elsewhere { SameOutside 2 2 (K.store keeper.old).records (K.store keeper.new).records }
+    {
+        store_limit(keeper, value)?;
+        self.limit = value;
+        self.next = value;
+        Ok(())
+    }
+
+    /// Stores the limit `value` and sets the next counter to it.
+    ///
+    /// Store alone, where that put failed, and then the counter may not be used until it is opened again.
+    pub fn preset<K: Keeper>(&mut self, keeper: &mut K, value: u32) -> Result<(), CounterFault>
+        ensures answer { result ≡ preset_result (is_ok result) }
+        ensures counter { OnOk result (self.new ≡ counting_at value) }
+        ensures same { OnErr result (self.new ≡ self.old) }
+        ensures store { Stores (K.store keeper.old) (limit_write value) (is_ok result) (K.store keeper.new) }
+        ensures kept { OnOk result (IsKept self.new (K.store keeper.new).records) }
+        ensures elsewhere { SameOutside 2 2 (K.store keeper.old).records (K.store keeper.new).records }
+    {
+        self.set_limit(keeper, value)
+            .map_err(|_| CounterFault::Store)
+    }
+}

@@ -1,0 +1,3 @@
+pub mod Fields
+pub mod KeyRing
+pub mod KeyBook

@@ -1,0 +1,339 @@
+//! The coordinator's book of meters.
+ghost use Rattle.std.specs.Prelude.{◌≡◌, ◌+◌, ◌<◌, ◌≤◌, true, Ok, is_ok, map, IfOk, IfErr, OnOk, OnErr, OnSome};
+ghost use Rattle.std.specs.Bool.{OnTrue};
+ghost use Rattle.std.specs.Option.{option_map, option_and_then};
+ghost use Rattle.plc_base.specs.Keeper.{Stores, SameOutside};
+ghost use Rattle.plc_base.specs.SlotTables.{IsTable, IsGapless, IsReading, IsBad, opened};
+ghost use Rattle.group_keys.specs.KeyBook.{Book, entries, IsKept, eui_number, entry_for, address_of, is_allowed, issued_at, has_room, place_for, with_entry, change_write, allowed_one, allow_change, kick_change, issue_change, changing_result, changing_after, changing_write, done_result, is_stored};
+
+use crate::BookFault;
+use crate::fields::{HELD, flag_in, held_in, key_in, push_held};
+use byteorder::{BigEndian, ByteOrder};
+use plc_base::{
+    BadStore, Eui, Failed, Grant, Keeper, Key, Record, Short, SlotEntry, SlotTable,
+};
+use std::marker::Model;
+
+/// What the book has of one meter.
+#[derive(Clone, Copy, Debug, PartialEq, Eq)]
+pub struct BookEntry {
+    /// The meter's identity.
+    pub eui: Eui,
+    /// Its pair key, the PSK of EAP-PSK (RFC 4764).
+    pub psk: Key,
+    /// Whether it may join.
+    pub allowed: bool,
+    /// The group key that was issued to it at index 0.
+    pub issued0: Option<Key>,
+    /// The group key that was issued to it at index 1.
+    pub issued1: Option<Key>,
+}
+
+impl Default for BookEntry {
+    /// The entry of no meter.
+    fn default() -> BookEntry {
+        BookEntry {
+            eui: Eui([0; 8]),
+            psk: Key([0; 16]),
+            allowed: false,
+            issued0: None,
+            issued1: None,
+        }
+    }
+}
+
+/// The first slot of the entries.
+const FIRST_SLOT: u32 = 0x1000;
+
+/// How many octets a record has.
+const ENTRY_LEN: usize = 61;
+
+impl SlotEntry for BookEntry {
+    ghost use Rattle.std.specs.Prelude.{refl};
+    ghost use Rattle.group_keys.specs.KeyBook.{entries};
+
+    ghost layout = { entries };
+
+    ghost rests = { λ _ _ _ _. refl };
+
+    ghost keeps_key = { λ _. refl };
+
+    fn key(&self) -> u64 {
+        BigEndian::read_u64(&self.eui.0)
+    }
+
+    fn slot(place: usize) -> u32 {
+        FIRST_SLOT + place as u32
+    }
+
+    fn read(place: usize, octets: &[u8]) -> Option<BookEntry> {
+        if octets.len() != ENTRY_LEN {
+            return None;
+        }
+        let (eui, rest) = octets.split_at(8);
+        let (psk, rest) = rest.split_at(16);
+        if usize::from(BigEndian::read_u16(rest)) != place + 1 {
+            return None;
+        }
+        let allowed = flag_in(rest[2])?;
+        let (issued0, issued1) = rest.split_at(3).1.split_at(HELD);
+        let issued0 = held_in(issued0)?;
+        let issued1 = held_in(issued1)?;
+        let mut number = [0; 8];
+        number.copy_from_slice(eui);
+        Some(BookEntry {
+            eui: Eui(number),
+            psk: key_in(psk),
+            allowed,
+            issued0,
+            issued1,
+        })
+    }
+
+    fn record(&self, place: usize) -> Record {
+        let mut octets = Record::new();
+        octets.append(&self.eui.0);
+        octets.append(&self.psk.0);
+        octets.push_be_u16(place as u16 + 1);
+        octets.push(u8::from(self.allowed));
+        push_held(&mut octets, &self.issued0);
+        push_held(&mut octets, &self.issued1);
+        octets
+    }
+}
+
+/// The coordinator's book: one entry for each meter, the k-th with the address k for good. It is always stored.
+///
+/// A contract sees the list of the entries in the order of their slots. A look-up goes over the entries one by one.
+#[derive(Drop, Debug)]
+pub struct KeyBook {
+    table: SlotTable<BookEntry, 999>,
+}
+
+impl Model for KeyBook {
+    ghost use Rattle.group_keys.specs.KeyBook.{Book, book_code};
+
+    ghost Value = { Book };
+
+    ghost coded = { book_code };
+
+    ghost view = { λ b. b.table };
+}
+
+// The number that an EUI is.
+fn key_of(eui: &Eui) -> u64
+    ensures { result ≡ eui_number eui.now }
+{
+    BigEndian::read_u64(&eui.0)
+}
+
+// The address of the entry at a place.
+fn address_at(place: usize) -> Short
+    requires { place < 999 }
+    ensures { result ≡ place + 1 }
+{
+    Short::new(place as u16 + 1).unwrap()
+}
+
+impl KeyBook {
+    /// The book that the records from slot 1000 (hexadecimal) on give, up to the first empty slot.
+    ///
+    /// BadStore exactly where one of these records has not 61 octets, a flag above 1, other octets than zeros where no key is
+    /// held, another address than its place in the book plus 1, or is a second one of an EUI.
+    pub fn open<K: Keeper>(keeper: &K) -> Result<KeyBook, BadStore>
+        ensures book { result ≡ opened entries (K.store keeper.now).records }
+        ensures reading { IfOk result (λ book. IsReading entries book (K.store keeper.now).records) }
+        ensures bad { IfErr result (λ bad. IsBad entries (K.store keeper.now).records bad.slot) }
+        ensures kept { IsGapless entries (K.store keeper.now).records → IfOk result (λ book. IsKept book (K.store keeper.now).records) }
+        // A book that was kept is opened again as it was.
+        ensures reopened { (book : Book) → IsTable entries book → IsKept book (K.store keeper.now).records → result ≡ Ok (map (λ entry. entry) book) }
+    {
+        let table = SlotTable::open(keeper)?;
+        Ok(KeyBook { table })
+    }
+
+    /// The entry of a meter, None exactly where it is not known.
+    pub fn entry(&self, eui: Eui) -> Option<BookEntry>
+        ensures { result ≡ entry_for self.now eui }
+    {
+        self.table.find(key_of(&eui))
+    }
+
+    /// The address of a meter, None exactly where it is not known.
+    pub fn address(&self, eui: Eui) -> Option<Short>
+        ensures { result ≡ address_of self.now eui }
+    {
+        let place = self.table.place_of(key_of(&eui))?;
+        Some(address_at(place))
+    }
+
+    /// Whether a meter is known and may join.
+    pub fn allowed(&self, eui: Eui) -> bool
+        ensures { result ≡ is_allowed self.now eui }
+    {
+        match self.entry(eui) {
+            Some(entry) => entry.allowed,
+            None => false,
+        }
+    }
+
+    /// The pair key of a meter, None exactly where it is not known.
+    pub fn psk(&self, eui: Eui) -> Option<Key>
+        ensures { result ≡ option_map (λ entry. entry.psk) (entry_for self.now eui) }
+    {
+        self.entry(eui).map(|entry| entry.psk)
+    }
+
+    /// The group key that was issued to a meter at an index, 0 or 1. None exactly where none is.
+    pub fn issued(&self, eui: Eui, index: u8) -> Option<Key>
+        requires { index ≤ 1 }
+        ensures { result ≡ option_and_then (λ entry. issued_at entry index) (entry_for self.now eui) }
+    {
+        let entry = self.entry(eui)?;
+        if index == 0 {
+            entry.issued0
+        } else {
+            entry.issued1
+        }
+    }
+
+    /// Whether there is a place for the entry of a meter: it is known, or fewer than 999 are.
+    pub fn has_room(&self, eui: Eui) -> bool
+        ensures { result ≡ has_room self.now eui }
+    {
+        self.table.place_of(key_of(&eui)).is_some() || !self.table.is_full()
+    }
+
+    /// Makes an entry the one of its meter, and answers the meter's address. It is stored first, where the book has not this
+    /// very entry.
+    ///
+    /// Only a failed put is an error. The book is then as it was, but may not be used until it is opened again.
+    pub fn change<K: Keeper>(&mut self, keeper: &mut K, entry: BookEntry) -> Result<Short, Failed>
+        requires room { has_room self.old entry.eui ≡ true }
+        requires kept { IsKept self.old (K.store keeper.old).records }
+        ensures address { IfOk result (λ address. address ≡ place_for self.old entry.eui + 1) }
+        ensures book { OnOk result (self.new ≡ with_entry self.old entry) }
+        ensures same { OnErr result (self.new ≡ self.old) }
+        ensures store { Stores (K.store keeper.old) (change_write self.old entry) (is_ok result) (K.store keeper.new) }
+        ensures kept { OnOk result (IsKept self.new (K.store keeper.new).records) }
+        ensures elsewhere { SameOutside 0x1000 0x13E6 (K.store keeper.old).records (K.store keeper.new).records }
+    {
+        match self.table.place_of(key_of(&entry.eui)) {
+            Some(place) => {
+                if self.table.get(place) == entry {
+                    return Ok(address_at(place));
+                }
+                self.table.set_stored(keeper, place, entry)?;
+                Ok(address_at(place))
+            }
+            None => {
+                let place = self.table.len();
+                self.table.push_stored(keeper, entry)?;
+                Ok(address_at(place))
+            }
+        }
+    }
+
+    /// Allows a meter with a pair key, and answers its address. One that is known keeps its address and the keys that were
+    /// issued to it; a new one gets the number of entries plus 1. Nothing is put where the entry would not change.
+    ///
+    /// MetersFull exactly for a new EUI with 999 entries. Store where the put failed, and then the book may not be used until
+    /// it is opened again. After each error the book is as it was.
+    pub fn allow<K: Keeper>(
+        &mut self,
+        keeper: &mut K,
+        eui: Eui,
+        psk: &Key,
+    ) -> Result<Short, BookFault>
+        requires { IsKept self.old (K.store keeper.old).records }
+        ensures answer { result ≡ changing_result self.old (allow_change self.old eui psk.now) (is_stored result) }
+        ensures book { self.new ≡ changing_after self.old (allow_change self.old eui psk.now) (is_stored result) }
+        ensures store { Stores (K.store keeper.old) (changing_write self.old (allow_change self.old eui psk.now)) (is_stored result) (K.store keeper.new) }
+        ensures kept { OnTrue (is_stored result) (IsKept self.new (K.store keeper.new).records) }
+        ensures elsewhere { SameOutside 0x1000 0x13E6 (K.store keeper.old).records (K.store keeper.new).records }
+    {
+        if !self.has_room(eui) {
+            return Err(BookFault::MetersFull);
+        }
+        let (issued0, issued1) = match self.entry(eui) {
+            Some(entry) => (entry.issued0, entry.issued1),
+            None => (None, None),
+        };
+        let entry = BookEntry {
+            eui,
+            psk: *psk,
+            allowed: true,
+            issued0,
+            issued1,
+        };
+        self.change(keeper, entry).map_err(|_| BookFault::Store)
+    }
+
+    /// Ends the allowance of a meter and clears the keys that were issued to it, and answers its address.
+    ///
+    /// NotAllowed exactly where no allowed entry of the EUI is there. Store where the put failed, and then the book may not be
+    /// used until it is opened again. After each error the book is as it was.
+    pub fn kick<K: Keeper>(&mut self, keeper: &mut K, eui: Eui) -> Result<Short, BookFault>
+        requires { IsKept self.old (K.store keeper.old).records }
+        ensures answer { result ≡ changing_result self.old (kick_change self.old eui) (is_stored result) }
+        ensures book { self.new ≡ changing_after self.old (kick_change self.old eui) (is_stored result) }
+        ensures store { Stores (K.store keeper.old) (changing_write self.old (kick_change self.old eui)) (is_stored result) (K.store keeper.new) }
+        ensures kept { OnTrue (is_stored result) (IsKept self.new (K.store keeper.new).records) }
+        ensures elsewhere { SameOutside 0x1000 0x13E6 (K.store keeper.old).records (K.store keeper.new).records }
+    {
+        let Some(entry) = self.allowed_one(eui) else {
+            return Err(BookFault::NotAllowed);
+        };
+        let kicked = BookEntry {
+            eui,
+            psk: entry.psk,
+            allowed: false,
+            issued0: None,
+            issued1: None,
+        };
+        self.change(keeper, kicked).map_err(|_| BookFault::Store)
+    }
+
+    /// Makes the keys that were issued to a meter those of a grant, at both indexes. Nothing is put where the entry would not
+    /// change.
+    ///
+    /// NotAllowed exactly where no allowed entry of the EUI is there. Store where the put failed, and then the book may not be
+    /// used until it is opened again. After each error the book is as it was.
+    pub fn issue<K: Keeper>(
+        &mut self,
+        keeper: &mut K,
+        eui: Eui,
+        grant: &Grant,
+    ) -> Result<(), BookFault>
+        requires { IsKept self.old (K.store keeper.old).records }
+        ensures answer { result ≡ done_result (changing_result self.old (issue_change self.old eui grant.now) (is_stored result)) }
+        ensures book { self.new ≡ changing_after self.old (issue_change self.old eui grant.now) (is_stored result) }
+        ensures store { Stores (K.store keeper.old) (changing_write self.old (issue_change self.old eui grant.now)) (is_stored result) (K.store keeper.new) }
+        ensures kept { OnTrue (is_stored result) (IsKept self.new (K.store keeper.new).records) }
+        ensures elsewhere { SameOutside 0x1000 0x13E6 (K.store keeper.old).records (K.store keeper.new).records }
+    {
+        let Some(entry) = self.allowed_one(eui) else {
+            return Err(BookFault::NotAllowed);
+        };
+        let issued = BookEntry {
+            eui,
+            psk: entry.psk,
+            allowed: entry.allowed,
+            issued0: grant.keys[0],
+            issued1: grant.keys[1],
+        };
+        match self.change(keeper, issued) {
+            Ok(_) => Ok(()),
+            Err(_) => Err(BookFault::Store),
+        }
+    }
+
+    // The entry of a meter that is allowed. There is a place for it.
+    fn allowed_one(&self, eui: Eui) -> Option<BookEntry>
+        ensures entry { result ≡ allowed_one self.now eui }
+        ensures room { OnSome result (has_room self.now eui ≡ true) }
+    {
+        let entry = self.entry(eui)?;
+        if entry.allowed { Some(entry) } else { None }
+    }
+}
