@@ -1,6 +1,6 @@
 -- What stands at a place, and what a spelling has there.
 use Rattle.std.proofs.Common.{◌≡◌, ℕ, ◌+◌, ◌-◌, ◌/◌, ◌%◌, ◌^◌, ◌<◌, ◌≤◌, List, [], ◌∷◌, ◌++◌, length, All, take, drop, slice_index, refl, sym, ap, ◌∙◌, arith}
-use Rattle.std.proofs.Math.Seq.{drop-append_seam}
+use Rattle.std.proofs.Math.Seq.{drop-append_seam, take-append_seam}
 use Rattle.std.proofs.Math.ListN.{drop_of_length-le}
 use Rattle.std.proofs.lemmas.List.{take-append-drop, length-take-le, drop-drop, length-drop, length-append, get_or-drop, get_or-append-add, drop_more, get_or_default}
 use Rattle.std.proofs.lemmas.List.Elements.{All-take, All-drop}
@@ -120,3 +120,12 @@ first_is (x ∷ octets) h = refl
 pub octet_past : (front rest : List ℕ) (k : ℕ) → octet (length front + k) (front ++ rest) ≡ octet k rest
 unfolding octet
 octet_past front rest k = get_or-append-add front rest k 0
+
+-- two fronts of one length are the same where the wholes are, and so is what stands behind them
+pub fronts_same : (a b x y : List ℕ) → length a ≡ length b → a ++ x ≡ b ++ y → (a ≡ b) × (x ≡ y)
+fronts_same a b x y len e =
+    let front : a ≡ b =
+    sym (take-append_seam a x) ∙ ap (λ (xs : List ℕ). take (length a) xs) e ∙ ap (λ (n : ℕ). take n (b ++ y)) len ∙ take-append_seam b y in
+    let back : x ≡ y =
+    sym (drop-append_seam a x) ∙ ap (λ (xs : List ℕ). drop (length a) xs) e ∙ ap (λ (n : ℕ). drop n (b ++ y)) len ∙ drop-append_seam b y in
+    (front, back)
