@@ -1,5 +1,5 @@
 -- CMAC with AES-128 (RFC 4493).
-use Rattle.std.specs.Prelude.{ℕ, ◌+◌, ◌-◌, ◌*◌, ◌/◌, ◌%◌, ◌^◌, ◌==◌, nat_lt, List, ◌∷◌, ◌++◌, length, drop, replicate, bit_xor, if◌then◌else◌}
+use Rattle.std.specs.Prelude.{ℕ, ◌-◌, ◌*◌, ◌/◌, ◌%◌, ◌^◌, ◌==◌, nat_lt, List, ◌∷◌, ◌++◌, length, drop, replicate, bit_xor, if◌then◌else◌}
 use Rattle.std.specs.Int.{w128, to_be_bytes, from_be_bytes}
 use Rattle.aes_modes.specs.Cipher.{xor_bytes, encrypted}
 use Rattle.aes_modes.specs.Chains.{zero_block, chained}

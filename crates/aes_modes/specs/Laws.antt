@@ -1,5 +1,5 @@
 -- Laws of the modes, over their definitions alone.
-use Rattle.std.specs.Prelude.{◌≡◌, ◌≢◌, ℕ, List, length}
+use Rattle.std.specs.Prelude.{◌≡◌, ◌≢◌, ℕ, List}
 use Rattle.aes_modes.specs.Eax.{eax_text}
 use Rattle.aes_modes.specs.Ccm.{ccm_text}
 
