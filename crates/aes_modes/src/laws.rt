@@ -36,12 +36,14 @@ pub fn eax_seal_and_open(
     nonce: &[u8; 16],
     header: &[u8],
     text: &mut [u8],
+    tag: &mut [u8; 16],
 ) -> Result<(), BadTag>
     ensures opened { IsOk result }
     ensures same { text.new ≡ text.old }
+    ensures tag { tag.new ≡ eax_tag aes.now nonce.now header.now (eax_text aes.now nonce.now text.old) }
 {
-    let tag = eax_seal(aes, nonce, header, text);
-    eax_open(aes, nonce, header, text, &tag)
+    *tag = eax_seal(aes, nonce, header, text);
+    eax_open(aes, nonce, header, text, tag)
 }
 
 /// The key stream of CCM gives an encrypted text back.

@@ -8,5 +8,5 @@ pub returns-clause-same : goal.returns-clause-same
 returns-clause-same c =
     let key = c.args.aes.now in
     let nonce = c.args.nonce.now in
-    at_ok c.eax_open.result (c.eax_open.ensures.tag.1 c.eax_seal-tag.ensures.tag) c.eax_open.ensures.opened
-    ∙ ap (eax_text key nonce) c.eax_seal-tag.ensures.text ∙ eax_text-twice key nonce c.args.text.now
+    at_ok c.eax_open.result (c.eax_open.ensures.tag.1 c.eax_seal.ensures.tag) c.eax_open.ensures.opened
+    ∙ ap (eax_text key nonce) c.eax_seal.ensures.text ∙ eax_text-twice key nonce c.args.text.now
