@@ -1,0 +1,10 @@
+pub mod TableRules
+pub mod StandardFacts
+pub mod Words
+pub mod Texts
+pub mod CcmTags
+pub mod Streams
+pub mod Chains
+pub mod Written
+pub mod Schedule
+pub mod Opened

@@ -1,0 +1,10 @@
+pub mod Field
+pub mod Cipher
+pub mod Chains
+pub mod Cmac
+pub mod KeyStream
+pub mod Eax
+pub mod Ccm
+pub mod Laws
+pub mod Columns
+pub mod Resumed

@@ -1,0 +1,67 @@
+//! Laws of the modes: what was sealed opens, and two texts are not sealed alike.
+//!
+//! The functions without arguments do nothing: each states a law over the definitions as its contract.
+ghost use Rattle.std.specs.Prelude.{◌≡◌, ◌<◌, ◌⊎◌, length, IsOk};
+ghost use Rattle.aes_modes.specs.Eax.{eax_text, eax_tag};
+ghost use Rattle.aes_modes.specs.Ccm.{ccm_tag};
+ghost use Rattle.aes_modes.specs.Laws.{CcmTextsComeBack, CcmTextsDiffer, EaxTextsComeBack, EaxTextsDiffer};
+
+use crate::BadTag;
+use crate::ccm::{ccm_open, ccm_seal};
+use crate::cipher::Aes;
+use crate::eax::{eax_open, eax_seal};
+
+/// Seals a text with CCM and opens it with the tag that this gave: it opens, and is what it was.
+pub fn ccm_seal_and_open(
+    aes: &Aes,
+    nonce: &[u8; 13],
+    header: &[u8],
+    text: &mut [u8],
+    tag: &mut [u8],
+) -> Result<(), BadTag>
+    requires header { length header.now < 65280 }
+    requires text { length text.old < 65536 }
+    requires tag { (length tag.old ≡ 4) ⊎ (length tag.old ≡ 8) }
+    ensures opened { IsOk result }
+    ensures same { text.new ≡ text.old }
+    ensures tag { tag.new ≡ ccm_tag (length tag.old) aes.now nonce.now header.now text.old }
+{
+    ccm_seal(aes, nonce, header, text, tag);
+    ccm_open(aes, nonce, header, text, tag)
+}
+
+/// Seals a text with EAX and opens it with the tag that this gave: it opens, and is what it was.
+pub fn eax_seal_and_open(
+    aes: &Aes,
+    nonce: &[u8; 16],
+    header: &[u8],
+    text: &mut [u8],
+    tag: &mut [u8; 16],
+) -> Result<(), BadTag>
+    ensures opened { IsOk result }
+    ensures same { text.new ≡ text.old }
+    ensures tag { tag.new ≡ eax_tag aes.now nonce.now header.now (eax_text aes.now nonce.now text.old) }
+{
+    *tag = eax_seal(aes, nonce, header, text);
+    eax_open(aes, nonce, header, text, tag)
+}
+
+/// The key stream of CCM gives an encrypted text back.
+pub fn ccm_texts_come_back()
+    ensures { CcmTextsComeBack }
+{}
+
+/// Under one key and nonce of CCM, two different texts have different encrypted texts.
+pub fn ccm_texts_differ()
+    ensures { CcmTextsDiffer }
+{}
+
+/// The key stream of EAX gives an encrypted text back.
+pub fn eax_texts_come_back()
+    ensures { EaxTextsComeBack }
+{}
+
+/// Under one key and nonce of EAX, two different texts have different encrypted texts.
+pub fn eax_texts_differ()
+    ensures { EaxTextsDiffer }
+{}

@@ -1,0 +1,4 @@
+pub mod Controls
+pub mod Headers
+pub mod Laws
+pub mod Values

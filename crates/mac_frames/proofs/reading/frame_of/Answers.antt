@@ -1,0 +1,29 @@
+use Rattle.std.proofs.Common.{◌≡◌, ◌++◌, List, ℕ, drop, take, subst, sym, ap, ◌∙◌, arith}
+use Rattle.std.proofs.lemmas.List.{take-append-drop}
+use Rattle.octet_fields.specs.Fields.{after}
+use Rattle.mac_frames.specs.Grammar.{IsBody, header, header_then}
+use Rattle.mac_frames.proofs.Headers.{header_is}
+use Rattle.mac_frames.proofs.reading.frame_of.Goals as goal
+
+pub returns-clause-found : goal.returns-clause-found
+unfolding after
+returns-clause-found c =
+    let read = c.in_ok-head.ensures in
+    let head = c.in_ok-head.head in
+    let back = sym c.split_at.ensures.back in
+    record {
+      fields = read.1;
+      rest = subst (IsBody head) back read.4;
+      size = omega arith;
+      spelled = read.3 ∙ ap (header_then head) back;
+    }
+
+pub returns-clause-parts : goal.returns-clause-parts
+unfolding after
+returns-clause-parts c =
+    let read = c.in_ok-head.ensures in
+    let head = c.in_ok-head.head in
+    let octets = c.args.octets.now in
+    let parts : octets ≡ c.split_at.result.0.now ++ c.split_at.result.1.now =
+    sym (take-append-drop 15 octets) ∙ (λ i. sym c.split_at.ensures.front i ++ sym c.split_at.ensures.back i) in
+    (header_is head octets c.split_at.result.0.now c.split_at.result.1.now read.1 (read.3 ∙ ap (header_then head) (sym c.split_at.ensures.back)) parts (omega arith), parts)

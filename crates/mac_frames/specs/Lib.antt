@@ -1,0 +1,4 @@
+pub mod Grammar
+pub mod Faults
+pub mod Sealing
+pub mod Control

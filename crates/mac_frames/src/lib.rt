@@ -1,0 +1,14 @@
+//! MAC frames: the header of IEEE 802.15.4-2006 in the three forms that the network uses, and the sealing of frames with CCM*.
+//!
+//! `specs/Grammar.antt` says which octets are the one spelling of which frame, `specs/Faults.antt` which fault of other octets
+//! is the first, and `specs/Sealing.antt` what a sealed frame is. `docs/FORMATS.md` has the table.
+#![tactic(auto)]
+
+mod control;
+mod fault;
+mod head;
+mod reading;
+
+pub use fault::{FrameFault, FrameFaultKind};
+pub use head::MacHead;
+pub use reading::{RawFrame, read_frame};

@@ -1,0 +1,190 @@
+//! Reads frames.
+ghost use Rattle.std.specs.Prelude.{◌≡◌, ◌≤◌, ◌<◌, ◌≢◌, ◌^◌, ◌+◌, ◌∷◌, ◌++◌, ℕ, List, [], true, false, length, reverse, IfOk, IsOkAnd, MatchResult, Some, None, Ok};
+ghost use Rattle.byteorder.specs.Endian.{little_bytes};
+ghost use Rattle.octet_fields.specs.Fields.{after, little_two};
+ghost use Rattle.octet_fields.specs.Addresses.{IsAddress};
+ghost use Rattle.mac_frames.specs.Grammar.{Frame, IsBody, IsHead, IsTarget, header, header_then, high_control, low_control};
+ghost use Rattle.mac_frames.specs.Faults.{down_fault, fields_fault, frame_fault, index_fault, level_fault, sealed_fault, sender_fault, target_fault, up_fault};
+ghost use Rattle.mac_frames.specs.declared.head.MacHead.{MacHead};
+
+use crate::control::{FrameKind, high_of, low_of};
+use crate::fault::{FrameFault, FrameFaultKind, fault};
+use crate::head::MacHead;
+use octet_fields::{little_four_at, little_two_at, octet_at, reversed_at};
+use plc_base::{Eui, Short};
+
+/// A frame that was read, over the octets that it was read from.
+#[derive(Clone, Copy, Debug)]
+pub struct RawFrame<'a> {
+    /// The fields of the header.
+    pub head: MacHead,
+    /// The octets of the header: all before the body.
+    pub header: &'a [u8],
+    /// The octets of the body. Of a sealed frame: the encrypted payload, and a tag of 4 octets.
+    pub body: &'a [u8],
+}
+
+#[tactic(auto, unfolding(crate::specs::Faults::target_fault, crate::specs::Faults::short, octet_fields::specs::Faults::cut_off))]
+fn target_at(octets: &[u8], at: usize) -> Result<u16, FrameFault>
+    requires { at ≤ 100 }
+    ensures { MatchResult result (λ x. (target_fault at octets.now ≡ None) × IsTarget x × (at + 2 ≤ length octets.now) × (after at octets.now ≡ little_bytes 2 x ++ after (at + 2) octets.now))
+        (λ e. target_fault at octets.now ≡ Some e) }
+{
+    let to = little_two_at(octets, at)?;
+    if to == 0xFFFE {
+        return Err(fault(FrameFaultKind::Address, at));
+    }
+    Ok(to)
+}
+
+#[tactic(auto, unfolding(crate::specs::Faults::sender_fault, crate::specs::Faults::short, octet_fields::specs::Faults::cut_off))]
+fn sender_at(octets: &[u8], at: usize) -> Result<Short, FrameFault>
+    requires { at ≤ 100 }
+    ensures { MatchResult result (λ x. (sender_fault at octets.now ≡ None) × IsAddress x × (at + 2 ≤ length octets.now) × (after at octets.now ≡ little_bytes 2 x ++ after (at + 2) octets.now))
+        (λ e. sender_fault at octets.now ≡ Some e) }
+{
+    match Short::new(little_two_at(octets, at)?) {
+        None => Err(fault(FrameFaultKind::Address, at)),
+        Some(from) => Ok(from),
+    }
+}
+
+// The security control: level 5 and key identifier mode 1.
+#[tactic(auto, unfolding(crate::specs::Faults::level_fault, crate::specs::Faults::short, octet_fields::specs::Faults::cut_off))]
+fn level_at(octets: &[u8], at: usize) -> Result<(), FrameFault>
+    requires { at ≤ 100 }
+    ensures { MatchResult result (λ _. (level_fault at octets.now ≡ None) × (at + 1 ≤ length octets.now) × (after at octets.now ≡ 0x0D ∷ after (at + 1) octets.now))
+        (λ e. level_fault at octets.now ≡ Some e) }
+{
+    if octet_at(octets, at)? != 0x0D {
+        return Err(fault(FrameFaultKind::Level, at));
+    }
+    Ok(())
+}
+
+#[tactic(auto, unfolding(crate::specs::Faults::index_fault, crate::specs::Faults::short, octet_fields::specs::Faults::cut_off))]
+fn index_at(octets: &[u8], at: usize) -> Result<u8, FrameFault>
+    requires { at ≤ 100 }
+    ensures { MatchResult result (λ x. (index_fault at octets.now ≡ None) × (x ≤ 1) × (at + 1 ≤ length octets.now) × (after at octets.now ≡ x ∷ after (at + 1) octets.now))
+        (λ e. index_fault at octets.now ≡ Some e) }
+{
+    let index = octet_at(octets, at)?;
+    if index > 1 {
+        return Err(fault(FrameFaultKind::Level, at));
+    }
+    Ok(index)
+}
+
+// The head of a sealed frame, behind its PAN id, where a tag follows it.
+#[tactic(auto, unfolding(crate::specs::Faults::sealed_fault, crate::specs::Faults::short, octet_fields::specs::Faults::cut_off))]
+fn sealed_of(octets: &[u8], ack: bool, seq: u8, pan: u16) -> Result<MacHead, FrameFault>
+    requires { octets.now ≡ low_control true ack ∷ high_control 2 1 2 ∷ seq ∷ little_bytes 2 pan ++ after 5 octets.now }
+    ensures { MatchResult result (λ head. (sealed_fault octets.now ≡ None) × IsHead head × (19 ≤ length octets.now) × (octets.now ≡ header_then head (after 15 octets.now)) × IsBody head (after 15 octets.now))
+        (λ e. sealed_fault octets.now ≡ Some e) }
+{
+    let to = target_at(octets, 5)?;
+    let from = sender_at(octets, 7)?;
+    level_at(octets, 9)?;
+    let counter = little_four_at(octets, 10)?;
+    let index = index_at(octets, 14)?;
+    if octets.len() < 19 {
+        return Err(fault(FrameFaultKind::Short, octets.len()));
+    }
+    Ok(MacHead::Sealed {
+        ack,
+        seq,
+        pan,
+        to,
+        from,
+        counter,
+        index,
+    })
+}
+
+// The head of a plain frame from a device without a short address, behind its PAN id.
+#[tactic(auto, unfolding(crate::specs::Faults::up_fault, crate::specs::Faults::short, octet_fields::specs::Faults::cut_off))]
+fn up_of(octets: &[u8], ack: bool, version: u8, seq: u8, pan: u16) -> Result<MacHead, FrameFault>
+    requires version { version ≤ 1 }
+    requires there { octets.now ≡ low_control false ack ∷ high_control 2 version 3 ∷ seq ∷ little_bytes 2 pan ++ after 5 octets.now }
+    ensures { MatchResult result (λ head. (up_fault octets.now ≡ None) × IsHead head × (15 ≤ length octets.now) × (octets.now ≡ header_then head (after 15 octets.now)) × IsBody head (after 15 octets.now))
+        (λ e. up_fault octets.now ≡ Some e) }
+{
+    let to = target_at(octets, 5)?;
+    let from = Eui(reversed_at(octets, 7)?);
+    Ok(MacHead::Up {
+        ack,
+        version,
+        seq,
+        pan,
+        to,
+        from,
+    })
+}
+
+// The head of a plain frame to a device without a short address, behind its PAN id.
+#[tactic(auto, unfolding(crate::specs::Faults::down_fault, crate::specs::Faults::short, octet_fields::specs::Faults::cut_off))]
+fn down_of(octets: &[u8], ack: bool, version: u8, seq: u8, pan: u16) -> Result<MacHead, FrameFault>
+    requires version { version ≤ 1 }
+    requires there { octets.now ≡ low_control false ack ∷ high_control 3 version 2 ∷ seq ∷ little_bytes 2 pan ++ after 5 octets.now }
+    ensures { MatchResult result (λ head. (down_fault octets.now ≡ None) × IsHead head × (15 ≤ length octets.now) × (octets.now ≡ header_then head (after 15 octets.now)) × IsBody head (after 15 octets.now))
+        (λ e. down_fault octets.now ≡ Some e) }
+{
+    let to = Eui(reversed_at(octets, 5)?);
+    let from = sender_at(octets, 13)?;
+    Ok(MacHead::Down {
+        ack,
+        version,
+        seq,
+        pan,
+        to,
+        from,
+    })
+}
+
+// The head, or the first fault of a field.
+#[tactic(auto, unfolding(crate::specs::Faults::fields_fault, crate::specs::Faults::short, octet_fields::specs::Faults::cut_off))]
+fn head_of(octets: &[u8]) -> Result<MacHead, FrameFault>
+    ensures { MatchResult result (λ head. (fields_fault octets.now ≡ None) × IsHead head × (15 ≤ length octets.now) × (octets.now ≡ header_then head (after 15 octets.now)) × IsBody head (after 15 octets.now))
+        (λ e. fields_fault octets.now ≡ Some e) }
+{
+    let (sealed, ack) = low_of(octets)?;
+    let (kind, version) = high_of(octets, sealed)?;
+    let seq = octet_at(octets, 2)?;
+    let pan = little_two_at(octets, 3)?;
+    match kind {
+        FrameKind::Sealed => sealed_of(octets, ack, seq, pan),
+        FrameKind::Up => up_of(octets, ack, version, seq, pan),
+        FrameKind::Down => down_of(octets, ack, version, seq, pan),
+    }
+}
+
+// The frame that the octets are, or the first fault.
+fn frame_of<'a>(octets: &'a [u8]) -> Result<RawFrame<'a>, FrameFault>
+    ensures found { IfOk result (λ raw. Frame raw.head raw.body.now octets.now) }
+    ensures parts { IfOk result (λ raw. (raw.header.now ≡ header raw.head) × (octets.now ≡ raw.header.now ++ raw.body.now)) }
+    ensures exact { MatchResult result (λ raw. frame_fault octets.now ≡ None) (λ e. frame_fault octets.now ≡ Some e) }
+{
+    if octets.len() > 400 {
+        return Err(fault(FrameFaultKind::Long, 400));
+    }
+    let head = head_of(octets)?;
+    let (header, body) = octets.split_at(15);
+    Ok(RawFrame { head, header, body })
+}
+
+/// The frame that the octets are, all of them. Where they are none, the first fault, with its place.
+pub fn read_frame<'a>(octets: &'a [u8]) -> Result<RawFrame<'a>, FrameFault>
+    // What is read is spelled so.
+    ensures found { IfOk result (λ raw. Frame raw.head raw.body.now octets.now) }
+    // The header and the body are the two parts of the octets.
+    ensures parts { IfOk result (λ raw. (raw.header.now ≡ header raw.head) × (octets.now ≡ raw.header.now ++ raw.body.now)) }
+    // A fault is the first one.
+    ensures exact { MatchResult result (λ raw. frame_fault octets.now ≡ None) (λ e. frame_fault octets.now ≡ Some e) }
+    // What is spelled so is read.
+    ensures only { (head : MacHead) (body : List ℕ) → Frame head body octets.now
+        → IsOkAnd result (λ raw. (raw.head ≡ head) × (raw.body.now ≡ body)) }
+    // A spelling is of one value.
+    ensures one_value { (a b : MacHead) (x y : List ℕ) → Frame a x octets.now → Frame b y octets.now → (a ≡ b) × (x ≡ y) }
+{
+    frame_of(octets)
+}
