@@ -1,22 +1,23 @@
 -- What the tool's call says.
-use Rattle.std.specs.Prelude.{◌≡◌, ℕ, Bool, true, false, List, [], ◌∷◌, ◌++◌, String, IsTrue, codes, string_bytes}
+use Rattle.std.specs.Prelude.{◌≡◌, ℕ, Bool, true, false, ◌&&◌, List, [], ◌∷◌, ◌++◌, String, IsTrue, Some, None, codes, string_bytes, bytes_eq, if◌then◌else◌}
 use Rattle.std.specs.declared.option.Option.{Option}
 use Rattle.std.specs.declared.alloc.Global.{Global}
 use Rattle.std.specs.Io.KnownBytes.{Consumes, Appends}
 use Rattle.plc_base.specs.Streams.{IsPrefixOf}
 use Rattle.line_driver.specs.Outcomes.{Ended, Open, StopsShortOf}
 use Rattle.line_world.specs.Runs.{IsSafe}
+use Rattle.line_replay.specs.declared.tool.Command.{Command}
+use Rattle.line_replay.specs.declared.tool.Command.TheVariants.{Replay, Vectors}
 use Rattle.line_replay.specs.declared.status.Status.{Status}
 use Rattle.line_replay.specs.declared.status.Status.TheVariants as status
 use Rattle.line_replay.specs.Report.{outcome, report, entries, entries_text, last_text}
-use Rattle.line_replay.specs.Texts.{usage_text}
 
--- the words are `replay -q`
-abbrev pub IsReplay : List (String Global) → Type 0
-IsReplay [] = ⊥
-IsReplay (word ∷ []) = ⊥
-IsReplay (word ∷ option ∷ []) = (string_bytes word ≡ codes "replay") × (string_bytes option ≡ codes "-q")
-IsReplay (word ∷ option ∷ other ∷ words) = ⊥
+-- the command that words name, if they are of a form
+abbrev pub command_of : List (String Global) → Option Command
+command_of [] = None
+command_of (word ∷ []) = if bytes_eq (string_bytes word) (codes "vectors") then Some Vectors else None
+command_of (word ∷ option ∷ []) = if bytes_eq (string_bytes word) (codes "replay") && bytes_eq (string_bytes option) (codes "-q") then Some Replay else None
+command_of (word ∷ option ∷ other ∷ words) = None
 
 -- Why a status comes where a script is replayed, over the octets b that the source gave and the text w that the sink took. At
 -- a bad line, at most `ahead` octets of b stand behind it.
@@ -39,16 +40,17 @@ pub record Replays (ahead : ℕ) (left0 left1 taken0 taken1 : Option (List ℕ))
   pub by_entries : report b ended ≡ entries_text (entries b ended) ++ last_text b ended
   pub safe : IsSafe (entries b ended)
 
--- Why a status comes where the words are of no form, and w was written: the usage line, or a front of it.
-abbrev pub UsageComes : List ℕ → Type 0 → Status → Type 0
-UsageComes w sink_rose status.Usage = w ≡ usage_text
-UsageComes w sink_rose status.WriteFault = sink_rose × IsPrefixOf w usage_text
-UsageComes w sink_rose status.Fine = ⊥
-UsageComes w sink_rose status.BadScript = ⊥
-UsageComes w sink_rose status.Memory = ⊥
-UsageComes w sink_rose status.ReadFault = ⊥
+-- Why a status comes where one text is written and nothing is read: all of it was written, and the status is the one for that; or
+-- the sink failed, and a front of it was written.
+abbrev pub TellsBy : List ℕ → Status → List ℕ → Type 0 → Status → Type 0
+TellsBy text done w sink_rose status.Fine = (done ≡ status.Fine) × (w ≡ text)
+TellsBy text done w sink_rose status.Usage = (done ≡ status.Usage) × (w ≡ text)
+TellsBy text done w sink_rose status.WriteFault = sink_rose × IsPrefixOf w text
+TellsBy text done w sink_rose status.BadScript = ⊥
+TellsBy text done w sink_rose status.Memory = ⊥
+TellsBy text done w sink_rose status.ReadFault = ⊥
 
-pub record WritesUsage (taken0 taken1 : Option (List ℕ)) (sink_rose : Type 0) (result : Status) : Type 0 where
+pub record Tells (text : List ℕ) (done : Status) (taken0 taken1 : Option (List ℕ)) (sink_rose : Type 0) (result : Status) : Type 0 where
   pub w : List ℕ
   pub wrote : Appends taken0 taken1 w
-  pub comes : UsageComes w sink_rose result
+  pub by : TellsBy text done w sink_rose result

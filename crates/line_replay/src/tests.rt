@@ -306,10 +306,24 @@ fn any_pieces(rt: HostRuntime) -> Result<(), Fail> {
     Ok(())
 }
 
+// The values are those of FIPS 197, RFC 4493, the EAX paper and RFC 3610.
+#[test]
+fn vectors_of_the_standards(rt: HostRuntime) -> Result<(), Fail> {
+    let (status, text) = run(rt.alloc(), &["vectors"], b"", 1, &[1], &[])?;
+    assert_eq!(rt;
+        text.as_str(),
+        "aes128 69c4e0d86a7b0430d8cdb78070b4c55a\ncmac0 bb1d6929e95937287fa37d129b756746\ncmac16 070a16b46b4d4144f79bdd9dd04a287c\neax0 e037830e8389f27b025a2d6527e79d01\nccm1 588c979a61c663d2f066d0c2c0f989806d5f6b61dac38417e8d12cfdf926e0\n"
+    );
+    assert_eq!(rt; status, Status::Fine);
+    Ok(())
+}
+
 #[test]
 fn words_of_no_form(rt: HostRuntime) -> Result<(), Fail> {
-    let tried: [&[&str]; 7] = [
+    let tried: [&[&str]; 9] = [
         &[],
+        &["vectors", "-q"],
+        &["vector"],
         &["replay", "-v"],
         &["drill", "61"],
         &["replay", "-q", "x"],

@@ -1,14 +1,17 @@
 //! All that the program does.
-ghost use Rattle.std.specs.Prelude.{◌≡◌, ◌≤◌, ◌↔◌, IsTrue};
+ghost use Rattle.std.specs.Prelude.{◌≡◌, ◌≤◌, ◌⊎◌, Some, None};
 ghost use Rattle.std.specs.Io.KnownBytes.{IsAtEnd, Keeps};
 ghost use Rattle.plc_base.specs.Causes.{Rose};
-ghost use Rattle.line_replay.specs.Tool.{Replays, IsReplay, WritesUsage};
+ghost use Rattle.line_replay.specs.Tool.{Replays, Tells, command_of};
+ghost use Rattle.line_replay.specs.Texts.{usage_text};
+ghost use Rattle.standard_vectors.specs.VectorsText.{vectors_text};
 
 use crate::replay::Replay;
 use crate::status::Status;
 use line_driver::{Exit, WINDOW, run};
 use line_world::every_run_is_safe;
 use plc_base::{Sink, Source, write_all};
+use standard_vectors::vectors_text;
 use std::alloc::Global;
 
 /// Reads a script from the source, and writes its report to the sink.
@@ -32,31 +35,46 @@ fn replay<S: Source, K: Sink>(alloc: Global, source: &mut S, sink: &mut K) -> St
     }
 }
 
-/// Writes the usage line.
-fn usage<K: Sink>(sink: &mut K) -> Status
-    ensures wrote { WritesUsage (K.taken sink.old) (K.taken sink.new) (Rose (K.faults sink.old) (K.faults sink.new)) result }
-    ensures sink { K.faults sink.old ≤ K.faults sink.new }
+/// Writes a text, and answers `done` where all of it was written.
+fn tell<K: Sink>(sink: &mut K, text: &[u8], done: Status) -> Status
+    requires { (done ≡ Status.Fine) ⊎ (done ≡ Status.Usage) }
+    ensures tells { Tells text.now done (K.taken sink.old) (K.taken sink.new) (Rose (K.faults sink.old) (K.faults sink.new)) result }
+    ensures later { K.faults sink.old ≤ K.faults sink.new }
 {
-    let line = b"usage: line_replay replay [-q] | show | vectors | drill N\n";
-    match write_all(sink, line) {
-        Ok(()) => Status::Usage,
+    match write_all(sink, text) {
+        Ok(()) => done,
         Err(_) => Status::WriteFault,
     }
 }
 
-/// Whether the words are `replay -q`.
-fn is_replay(words: &[String]) -> bool
-    ensures { IsTrue result ↔ IsReplay words.now }
+/// The commands that the program has.
+#[derive(Clone, Copy, Debug, PartialEq, Eq)]
+pub enum Command {
+    /// `replay -q`: runs a script and reports what the line did, without the octets of the flights.
+    Replay,
+    /// `vectors`: writes what the ciphers make of known inputs.
+    Vectors,
+}
+
+/// The command that words name, if they are of a form.
+fn command_of(words: &[String]) -> Option<Command>
+    ensures { result ≡ command_of words.now }
 {
     match words {
-        [word, option] => word.as_str() == "replay" && option.as_str() == "-q",
-        _ => false,
+        [word] if word.as_str() == "vectors" => Some(Command::Vectors),
+        [word, option] if word.as_str() == "replay" && option.as_str() == "-q" => {
+            Some(Command::Replay)
+        }
+        _ => None,
     }
 }
 
+const USAGE: &[u8; 58] = b"usage: line_replay replay [-q] | show | vectors | drill N\n";
+
 /// All that the program does, with the words after its name.
 ///
-/// `replay -q` reads a script and writes what its line did; other words write the usage line and read nothing.
+/// `replay -q` reads a script and writes what its line did. `vectors` writes what the ciphers make of known inputs. Other words
+/// write the usage line. These two read nothing, and take no memory.
 pub fn run_tool<S: Source, K: Sink>(
     alloc: Global,
     words: &[String],
@@ -65,21 +83,23 @@ pub fn run_tool<S: Source, K: Sink>(
 ) -> Status
     // What was read and written, why this status came, and that the run is safe: every datagram that was handed up was
     // sent to that node with the same octets, and none is handed up twice.
-    ensures replays { IsReplay words.now → Replays WINDOW (S.left source.old) (S.left source.new) (K.taken sink.old) (K.taken sink.new) (S.ended source.new)
+    ensures replays { command_of words.now ≡ Some Command.Replay → Replays WINDOW (S.left source.old) (S.left source.new) (K.taken sink.old) (K.taken sink.new) (S.ended source.new)
         (Rose (S.faults source.old) (S.faults source.new)) (Rose (K.faults sink.old) (K.faults sink.new)) result }
     // A script that is replayed to its end was read whole.
-    ensures whole { result ≡ Status.Fine → IsAtEnd (S.left source.new) }
-    // Other words read nothing, and take no memory.
-    ensures usage { ¬ IsReplay words.now → Keeps (S.left source.old) (S.left source.new) × WritesUsage (K.taken sink.old) (K.taken sink.new) (Rose (K.faults sink.old) (K.faults sink.new)) result }
+    ensures whole { command_of words.now ≡ Some Command.Replay → result ≡ Status.Fine → IsAtEnd (S.left source.new) }
+    // The vectors are those of the definitions.
+    ensures vectors { command_of words.now ≡ Some Command.Vectors → Keeps (S.left source.old) (S.left source.new) × Tells vectors_text Status.Fine (K.taken sink.old) (K.taken sink.new) (Rose (K.faults sink.old) (K.faults sink.new)) result }
+    // Other words write the usage line.
+    ensures usage { command_of words.now ≡ None → Keeps (S.left source.old) (S.left source.new) × Tells usage_text Status.Usage (K.taken sink.old) (K.taken sink.new) (Rose (K.faults sink.old) (K.faults sink.new)) result }
     // A fault has its cause outside.
     ensures read { result ≡ Status.ReadFault → Rose (S.faults source.old) (S.faults source.new) }
     ensures write { result ≡ Status.WriteFault → Rose (K.faults sink.old) (K.faults sink.new) }
     ensures source { S.faults source.old ≤ S.faults source.new }
     ensures sink { K.faults sink.old ≤ K.faults sink.new }
 {
-    if is_replay(words) {
-        replay(alloc, source, sink)
-    } else {
-        usage(sink)
+    match command_of(words) {
+        Some(Command::Replay) => replay(alloc, source, sink),
+        Some(Command::Vectors) => tell(sink, vectors_text().octets(), Status::Fine),
+        None => tell(sink, USAGE, Status::Usage),
     }
 }
