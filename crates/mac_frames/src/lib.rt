@@ -16,3 +16,6 @@ pub use head::MacHead;
 pub use reading::{RawFrame, read_frame};
 pub use sealing::{open_frame, seal_frame};
 pub use writing::plain_frame;
+
+#[cfg(test)]
+mod tests;
