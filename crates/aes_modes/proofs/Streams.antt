@@ -6,7 +6,7 @@ use Rattle.std.proofs.lemmas.List.{ext_get_or, get_or_append_left, get_or-append
 use Rattle.aes_modes.specs.Cipher.{xor_bytes}
 use Rattle.aes_modes.specs.KeyStream.{stream_blocks, masked}
 
-length-xor_bytes : (a b : List ℕ) → length a ≤ length b → length (xor_bytes a b) ≡ length a
+pub length-xor_bytes : (a b : List ℕ) → length a ≤ length b → length (xor_bytes a b) ≡ length a
 length-xor_bytes [] b h = refl
 length-xor_bytes (x ∷ a) [] h = absurd (omega arith)
 length-xor_bytes (x ∷ a) (y ∷ b) h = ap suc (length-xor_bytes a b (omega arith))

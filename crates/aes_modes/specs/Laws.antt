@@ -1,9 +1,9 @@
 -- Laws of the modes, over their definitions alone.
-use Rattle.std.specs.Prelude.{◌≡◌, ◌≢◌, ℕ, List}
-use Rattle.aes_modes.specs.Eax.{eax_text}
-use Rattle.aes_modes.specs.Ccm.{ccm_text}
+use Rattle.std.specs.Prelude.{◌≡◌, ◌≢◌, ◌≤◌, ℕ, List, length}
+use Rattle.aes_modes.specs.Eax.{eax_text, eax_tag}
+use Rattle.aes_modes.specs.Ccm.{ccm_text, ccm_tag}
 
--- The same nonce gives a text of EAX back, and a text keeps its length.
+-- The same nonce gives a text of EAX back.
 abbrev pub EaxTextsComeBack : Type 0
 EaxTextsComeBack = (key nonce m : List ℕ) → eax_text key nonce (eax_text key nonce m) ≡ m
 
@@ -18,3 +18,15 @@ CcmTextsComeBack = (key nonce m : List ℕ) → ccm_text key nonce (ccm_text key
 -- Two different texts under one nonce of CCM have different encrypted texts.
 abbrev pub CcmTextsDiffer : Type 0
 CcmTextsDiffer = (key nonce m n : List ℕ) → m ≢ n → ccm_text key nonce m ≢ ccm_text key nonce n
+
+-- An encrypted text of EAX is as long as the text, and its tag has 16 octets.
+abbrev pub EaxLengths : Type 0
+EaxLengths =
+    (key nonce header m : List ℕ)
+    → (length (eax_text key nonce m) ≡ length m) × (length (eax_tag key nonce header m) ≡ 16)
+
+-- An encrypted text of CCM is as long as the text, and a tag has as many octets as were asked for.
+abbrev pub CcmLengths : Type 0
+CcmLengths =
+    (n : ℕ) (key nonce header m : List ℕ) → n ≤ 16
+    → (length (ccm_text key nonce m) ≡ length m) × (length (ccm_tag n key nonce header m) ≡ n)

@@ -4,7 +4,7 @@
 ghost use Rattle.std.specs.Prelude.{◌≡◌, ◌<◌, ◌⊎◌, length, IsOk};
 ghost use Rattle.aes_modes.specs.Eax.{eax_text, eax_tag};
 ghost use Rattle.aes_modes.specs.Ccm.{ccm_tag};
-ghost use Rattle.aes_modes.specs.Laws.{CcmTextsComeBack, CcmTextsDiffer, EaxTextsComeBack, EaxTextsDiffer};
+ghost use Rattle.aes_modes.specs.Laws.{CcmLengths, CcmTextsComeBack, CcmTextsDiffer, EaxLengths, EaxTextsComeBack, EaxTextsDiffer};
 
 use crate::BadTag;
 use crate::ccm::{ccm_open, ccm_seal};
@@ -64,4 +64,14 @@ pub fn eax_texts_come_back()
 /// Under one key and nonce of EAX, two different texts have different encrypted texts.
 pub fn eax_texts_differ()
     ensures { EaxTextsDiffer }
+{}
+
+/// An encrypted text of CCM is as long as the text, and a tag has as many octets as were asked for.
+pub fn ccm_lengths()
+    ensures { CcmLengths }
+{}
+
+/// An encrypted text of EAX is as long as the text, and its tag has 16 octets.
+pub fn eax_lengths()
+    ensures { EaxLengths }
 {}

@@ -50,7 +50,6 @@ types true false = refl
 types false true = refl
 types false false = refl
 
-
 sealed_bit : (ack : Bool) (octets : List ℕ) → octet 0 octets ≡ low_control true ack → is_sealed octets ≡ true
 sealed_bit true octets is = rw is refl
 sealed_bit false octets is = rw is refl

@@ -2,3 +2,4 @@ pub mod Controls
 pub mod Headers
 pub mod Laws
 pub mod Values
+pub mod Opening

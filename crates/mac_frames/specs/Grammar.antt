@@ -12,8 +12,11 @@ abbrev pub IsTarget : ℕ → Type 0
 IsTarget to = (to < 2 ^ 16) × (to ≢ 0xFFFE)
 
 -- eight octets
+abbrev pub IsEightOctets : List ℕ → Type 0
+IsEightOctets octets = (length octets ≡ 8) × All (λ x. x < 256) octets
+
 abbrev pub IsEui : Eui → Type 0
-IsEui eui = (length eui.0 ≡ 8) × All (λ x. x < 256) eui.0
+IsEui eui = IsEightOctets eui.0
 
 -- the heads, by kind
 abbrev pub IsHead : MacHead → Type 0
@@ -23,6 +26,24 @@ IsHead (Up ack version seq pan to from) =
     (version ≤ 1) × (seq < 2 ^ 8) × (pan < 2 ^ 16) × IsTarget to × IsEui from
 IsHead (Down ack version seq pan to from) =
     (version ≤ 1) × (seq < 2 ^ 8) × (pan < 2 ^ 16) × IsEui to × IsAddress from
+
+-- what the types of a head's fields leave open
+abbrev pub IsAllowed : MacHead → Type 0
+IsAllowed (Sealed ack seq pan to from counter index) = (to ≢ 0xFFFE) × (index ≤ 1)
+IsAllowed (Up ack version seq pan to from) = (version ≤ 1) × (to ≢ 0xFFFE)
+IsAllowed (Down ack version seq pan to from) = version ≤ 1
+
+-- whether a head is of a sealed frame
+abbrev pub IsSealed : MacHead → Type 0
+IsSealed (Sealed ack seq pan to from counter index) = ⊤
+IsSealed (Up ack version seq pan to from) = ⊥
+IsSealed (Down ack version seq pan to from) = ⊥
+
+-- whether a head is of a plain frame
+abbrev pub IsPlain : MacHead → Type 0
+IsPlain (Sealed ack seq pan to from counter index) = ⊥
+IsPlain (Up ack version seq pan to from) = ⊤
+IsPlain (Down ack version seq pan to from) = ⊤
 
 -- the first octet of the frame control: data, with PAN id compression (section 7.2.1.1)
 abbrev pub low_control : Bool → Bool → ℕ

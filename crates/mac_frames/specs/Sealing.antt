@@ -1,15 +1,10 @@
 -- Sealed frames: CCM* with tags of 4 octets (IEEE 802.15.4-2006, section 7.6.3 and annex B).
-use Rattle.std.specs.Prelude.{◌≡◌, ℕ, List, [], ◌∷◌, ◌++◌, ⊤}
+use Rattle.std.specs.Prelude.{ℕ, List, [], ◌∷◌, ◌++◌}
 use Rattle.byteorder.specs.Endian.{big_bytes}
 use Rattle.aes_modes.specs.Ccm.{ccm_text, ccm_tag}
 use Rattle.mac_frames.specs.declared.head.MacHead.{MacHead}
 use Rattle.mac_frames.specs.declared.head.MacHead.TheVariants.{Sealed, Up, Down}
-use Rattle.mac_frames.specs.Grammar.{Frame, header}
-
-abbrev pub IsSealed : MacHead → Type 0
-IsSealed (Sealed ack seq pan to from counter index) = ⊤
-IsSealed (Up ack version seq pan to from) = ⊥
-IsSealed (Down ack version seq pan to from) = ⊥
+use Rattle.mac_frames.specs.Grammar.{Frame, IsSealed, header}
 
 -- the nonce of 13 octets: the sender's extended address that its PAN id and its short address make, the
 -- frame counter, and the security level (section 7.6.3.2)

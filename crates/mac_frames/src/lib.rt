@@ -8,7 +8,14 @@ mod control;
 mod fault;
 mod head;
 mod reading;
+mod sealing;
+mod writing;
 
 pub use fault::{FrameFault, FrameFaultKind};
 pub use head::MacHead;
 pub use reading::{RawFrame, read_frame};
+pub use sealing::{open_frame, seal_frame};
+pub use writing::plain_frame;
+
+#[cfg(test)]
+mod tests;

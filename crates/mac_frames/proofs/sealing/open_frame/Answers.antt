@@ -1,0 +1,24 @@
+use Rattle.std.proofs.Common.{◌≡◌, ◌++◌, ◌-◌, List, ℕ, length, sym, ◌∙◌, arith}
+use Rattle.std.proofs.lemmas.List.{take-append-drop}
+use Rattle.mac_frames.proofs.Opening.{opens_only, opens_so, tag_fits}
+use Rattle.mac_frames.proofs.sealing.open_frame.Goals as goal
+use Rattle.mac_frames.proofs.sealing.open_frame.Goals.{After-open_text}
+
+-- the body is the encrypted payload and the tag
+parts : (c : After-open_text) → c.args.raw.now.body.now ≡ c.split_at.result.0.now ++ c.split_at.result.1.now
+parts c =
+    sym (take-append-drop (length c.args.raw.now.body.now - 4) c.args.raw.now.body.now)
+    ∙ (λ i. sym c.split_at.ensures.front i ++ sym c.split_at.ensures.back i)
+
+pub returns-clause-opened : goal.returns-clause-opened
+returns-clause-opened c =
+    opens_so c.open_text.result c.args.raw.now.head c.args.aes.now c.nonce_of.result c.args.raw.now.header.now
+    c.args.raw.now.body.now c.split_at.result.0.now c.split_at.result.1.now c.open_text.new.out c.requires.sealed
+    c.requires.frame (parts c) c.nonce_of.ensures c.open_text.ensures.tag.0 c.open_text.ensures.opened
+
+pub returns-clause-only : goal.returns-clause-only
+returns-clause-only c = λ payload sealed.
+    opens_only c.open_text.result c.args.raw.now.head c.args.aes.now c.nonce_of.result c.args.raw.now.header.now
+    c.args.raw.now.body.now c.split_at.result.0.now c.split_at.result.1.now c.open_text.new.out payload
+    c.requires.frame (parts c)
+    (omega (arith, tag_fits c.args.raw.now.head c.args.raw.now.body.now c.requires.sealed c.requires.frame.rest)) c.nonce_of.ensures c.open_text.ensures.tag.1 c.open_text.ensures.opened sealed

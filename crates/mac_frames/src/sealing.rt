@@ -1,0 +1,114 @@
+//! Seals and opens frames.
+ghost use Rattle.std.specs.Prelude.{◌≡◌, ◌≤◌, ◌↔◌, ◌++◌, ℕ, List, [], length, IsOk, OnOk, OnErr};
+ghost use Rattle.aes_modes.specs.Ccm.{ccm_tag, ccm_text};
+ghost use Rattle.mac_frames.specs.Grammar.{Frame, IsAllowed, IsSealed};
+ghost use Rattle.mac_frames.specs.Sealing.{SealedFrame, nonce, nonce_of};
+
+use crate::head::MacHead;
+use crate::reading::RawFrame;
+use crate::writing::write_header;
+use aes_modes::{Aes, BadTag, ccm_open, ccm_seal};
+use plc_base::{FrameBuf, Short};
+
+// How many octets a tag has.
+const TAG: usize = 4;
+
+// The most octets that the payload of a sealed frame has.
+const PAYLOAD: usize = 381;
+
+// The nonce: the extended address that the PAN id and the short address make, the frame counter, the security level.
+fn nonce(pan: u16, from: Short, counter: u32) -> [u8; 13]
+    ensures { result ≡ nonce pan from counter }
+{
+    let [p0, p1] = pan.to_be_bytes();
+    let [s0, s1] = from.number().to_be_bytes();
+    let [c0, c1, c2, c3] = counter.to_be_bytes();
+    [p0, p1, 0x00, 0xFF, 0xFE, 0x00, s0, s1, c0, c1, c2, c3, 0x05]
+}
+
+// The nonce of a sealed head.
+fn nonce_of(head: &MacHead) -> [u8; 13]
+    requires { IsSealed head.now }
+    ensures { result ≡ nonce_of head.now }
+{
+    match head {
+        MacHead::Sealed {
+            pan,
+            from,
+            counter,
+            ..
+        } => nonce(*pan, *from, *counter),
+        _ => unreachable!(),
+    }
+}
+
+/// Seals a payload: writes the frame of a head `Sealed` in place of what `out` held.
+///
+/// The body is the payload, encrypted, and a tag of 4 octets: CCM* under the key of `aes`, with all octets before the body as
+/// its header. A short target is not FFFE, the key index is 0 or 1, and the payload has at most 381 octets. A frame counter may
+/// serve once for a sender under a key.
+pub fn seal_frame(aes: &Aes, head: &MacHead, payload: &[u8], out: &mut FrameBuf)
+    requires sealed { IsSealed head.now }
+    requires allowed { IsAllowed head.now }
+    requires room { length payload.now ≤ 381 }
+    ensures frame { SealedFrame head.now aes.now payload.now out.new }
+    // A sealed payload has one spelling.
+    ensures one_spelling { (octets : List ℕ) → SealedFrame head.now aes.now payload.now octets → octets ≡ out.new }
+{
+    write_header(head, out);
+    let count = payload.len();
+    let mut text = [0; PAYLOAD];
+    text[..count].copy_from_slice(payload);
+    let mut tag = [0; TAG];
+    ccm_seal(
+        aes,
+        &nonce_of(head),
+        out.octets(),
+        &mut text[..count],
+        &mut tag,
+    );
+    out.append(&text[..count]);
+    out.append(&tag);
+}
+
+// Opens an encrypted payload: what it is, in place of what `out` held, and nothing where the tag is another.
+fn open_text(
+    aes: &Aes,
+    nonce: &[u8; 13],
+    header: &[u8],
+    sealed: &[u8],
+    tag: &[u8],
+    out: &mut FrameBuf,
+) -> Result<(), BadTag>
+    requires header { length header.now ≤ 400 }
+    requires sealed { length sealed.now ≤ 381 }
+    requires tag { length tag.now ≡ 4 }
+    ensures tag { IsOk result ↔ (tag.now ≡ ccm_tag 4 aes.now nonce.now header.now (ccm_text aes.now nonce.now sealed.now)) }
+    ensures opened { OnOk result (out.new ≡ ccm_text aes.now nonce.now sealed.now) }
+    ensures bad_tag { OnErr result (out.new ≡ []) }
+{
+    out.clear();
+    let count = sealed.len();
+    let mut text = [0; PAYLOAD];
+    text[..count].copy_from_slice(sealed);
+    ccm_open(aes, nonce, header, &mut text[..count], tag)?;
+    out.append(&text[..count]);
+    Ok(())
+}
+
+/// Opens a sealed frame that was read: its payload, in place of what `out` held.
+///
+/// [`BadTag`] comes exactly where the tag is not that of the key of `aes`, the header and the payload. `out` is empty then.
+pub fn open_frame(aes: &Aes, raw: &RawFrame<'_>, out: &mut FrameBuf) -> Result<(), BadTag>
+    requires sealed { IsSealed raw.now.head }
+    requires frame { Frame raw.now.head raw.now.body.now (raw.now.header.now ++ raw.now.body.now) }
+    // What opens was sealed so.
+    ensures opened { OnOk result (SealedFrame raw.now.head aes.now out.new (raw.now.header.now ++ raw.now.body.now)) }
+    // What was sealed so opens.
+    ensures only { (payload : List ℕ) → SealedFrame raw.now.head aes.now payload (raw.now.header.now ++ raw.now.body.now)
+        → IsOk result × (out.new ≡ payload) }
+    ensures bad_tag { OnErr result (out.new ≡ []) }
+{
+    let (sealed, tag) = raw.body.split_at(raw.body.len() - TAG);
+    open_text(aes, &nonce_of(&raw.head), raw.header, sealed, tag, out)
+}

@@ -1,0 +1,127 @@
+//! Writes headers and plain frames.
+ghost use Rattle.std.specs.Prelude.{◌≡◌, ◌≤◌, ◌+◌, ◌++◌, ℕ, List, length, reverse};
+ghost use Rattle.byteorder.specs.Endian.{little_bytes};
+ghost use Rattle.mac_frames.specs.Grammar.{Frame, IsAllowed, IsEightOctets, IsHead, IsPlain, header, low_control};
+
+use crate::head::MacHead;
+use byteorder::{ByteOrder, LittleEndian};
+use plc_base::FrameBuf;
+
+// The first octet of the frame control.
+fn low_control(sealed: bool, ack: bool) -> u8
+    ensures { result ≡ low_control sealed ack }
+{
+    match (sealed, ack) {
+        (false, false) => 0x41,
+        (false, true) => 0x61,
+        (true, false) => 0x49,
+        (true, true) => 0x69,
+    }
+}
+
+// Appends a number of two octets, the lowest first.
+fn push_u16(out: &mut FrameBuf, number: u16)
+    requires { length out.old + 2 ≤ 400 }
+    ensures { out.new ≡ out.old ++ little_bytes 2 number }
+{
+    let mut octets = [0; 2];
+    LittleEndian::write_u16(&mut octets, number);
+    out.append(&octets);
+}
+
+// Appends a number of four octets, the lowest first.
+fn push_u32(out: &mut FrameBuf, number: u32)
+    requires { length out.old + 4 ≤ 400 }
+    ensures { out.new ≡ out.old ++ little_bytes 4 number }
+{
+    let mut octets = [0; 4];
+    LittleEndian::write_u32(&mut octets, number);
+    out.append(&octets);
+}
+
+// Appends the octets of an EUI, the last of its text first.
+fn push_reversed(out: &mut FrameBuf, octets: &[u8; 8])
+    requires { length out.old + 8 ≤ 400 }
+    ensures spelled { out.new ≡ out.old ++ reverse octets.now }
+    ensures octets { IsEightOctets octets.now }
+{
+    let mut reversed = *octets;
+    reversed.reverse();
+    out.append(&reversed);
+}
+
+/// Writes the header of 15 octets in place of what `out` held.
+pub(crate) fn write_header(head: &MacHead, out: &mut FrameBuf)
+    requires { IsAllowed head.now }
+    ensures spelled { out.new ≡ header head.now }
+    ensures fields { IsHead head.now }
+    ensures longer { length out.new ≡ 15 }
+{
+    out.clear();
+    match head {
+        MacHead::Sealed {
+            ack,
+            seq,
+            pan,
+            to,
+            from,
+            counter,
+            index,
+        } => {
+            out.push(low_control(true, *ack));
+            out.push(0x98);
+            out.push(*seq);
+            push_u16(out, *pan);
+            push_u16(out, *to);
+            push_u16(out, from.number());
+            out.push(0x0D);
+            push_u32(out, *counter);
+            out.push(*index);
+        }
+        MacHead::Up {
+            ack,
+            version,
+            seq,
+            pan,
+            to,
+            from,
+        } => {
+            out.push(low_control(false, *ack));
+            out.push(0xC8 + 0x10 * *version);
+            out.push(*seq);
+            push_u16(out, *pan);
+            push_u16(out, *to);
+            push_reversed(out, &from.0);
+        }
+        MacHead::Down {
+            ack,
+            version,
+            seq,
+            pan,
+            to,
+            from,
+        } => {
+            out.push(low_control(false, *ack));
+            out.push(0x8C + 0x10 * *version);
+            out.push(*seq);
+            push_u16(out, *pan);
+            push_reversed(out, &to.0);
+            push_u16(out, from.number());
+        }
+    }
+}
+
+/// Writes the plain frame of a head `Up` or `Down` and a payload, in place of what `out` held.
+///
+/// The version is 0 or 1, a short target is not FFFE, and the payload has at most 385 octets.
+pub fn plain_frame(head: &MacHead, payload: &[u8], out: &mut FrameBuf)
+    requires plain { IsPlain head.now }
+    requires allowed { IsAllowed head.now }
+    requires room { length payload.now ≤ 385 }
+    ensures frame { Frame head.now payload.now out.new }
+    // A frame has one spelling.
+    ensures one_spelling { (octets : List ℕ) → Frame head.now payload.now octets → octets ≡ out.new }
+{
+    write_header(head, out);
+    out.append(payload);
+}
