@@ -1,5 +1,5 @@
 -- What is stored stays what the counter holds.
-use Rattle.std.proofs.Common.{◌≡◌, ◌⊎◌, ℕ, ◌+◌, ◌^◌, ◌<◌, ◌≤◌, Bool, true, false, cond, [], Some, None, Result, Ok, Err, refl, ap, ◌∙◌, arith}
+use Rattle.std.proofs.Common.{◌≡◌, ◌⊎◌, ℕ, ◌+◌, ◌^◌, ◌<◌, ◌≤◌, Bool, true, false, cond, [], Some, None, Result, Ok, Err, refl, inl, inr, ap, ◌∙◌, arith}
 use Rattle.std.specs.Prelude.{nat_lt, IfSome, OnOk, is_ok, unwrap_or}
 use Rattle.std.proofs.lemmas.Bool.Decides.{nat_tests}
 use Rattle.std.specs.FinMap.{get, insert}
@@ -62,3 +62,9 @@ pub limit_stored : {T E : Type 0} (r : Result T E) (old new : Store) (limit : �
     → OnOk r (limit_in (get new.records limit_slot) ≡ Some limit)
 limit_stored (Ok done) old new limit fits stores = ap (λ m. limit_in (get m limit_slot)) stores.stored ∙ limit_in-insert old.records limit fits
 limit_stored (Err fault) old new limit fits stores = tt
+
+-- whatever became of a put of a limit, the old one is read or the new one
+pub limit_either : (old new : Records) (limit : ℕ) → limit < 2 ^ 32 → (new ≡ old) ⊎ (new ≡ insert old limit_slot (big_bytes 4 limit))
+    → (limit_in (get new limit_slot) ≡ limit_in (get old limit_slot)) ⊎ (limit_in (get new limit_slot) ≡ Some limit)
+limit_either old new limit fits (inl same) = inl (ap (λ m. limit_in (get m limit_slot)) same)
+limit_either old new limit fits (inr written) = inr (ap (λ m. limit_in (get m limit_slot)) written ∙ limit_in-insert old limit fits)

@@ -4,6 +4,8 @@
 mod fault;
 mod peer_marks;
 mod send_counter;
+#[cfg(test)]
+mod tests;
 
 pub use fault::{CounterFault, PeerFault};
 pub use peer_marks::{Peer, PeerMarks};

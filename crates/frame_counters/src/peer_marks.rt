@@ -1,5 +1,5 @@
 //! The marks of the senders: the counter that was last admitted of each.
-ghost use Rattle.std.specs.Prelude.{◌≡◌, ◌<◌, ◌≤◌, Ok, Some, None, is_ok, IfOk, IfErr, OnOk, OnErr, map, IsSorted, IsPermutation};
+ghost use Rattle.std.specs.Prelude.{◌≡◌, ◌⊎◌, ◌<◌, ◌≤◌, Ok, Some, None, is_ok, IfOk, IfErr, OnOk, OnErr, map, IsSorted, IsPermutation};
 ghost use Rattle.std.specs.Bool.{OnTrue};
 ghost use Rattle.std.specs.Ordering.{nat_cmp};
 ghost use Rattle.plc_base.specs.Keeper.{Stores, SameOutside};
@@ -62,7 +62,9 @@ impl SlotEntry for Peer {
 
     fn record(&self, _place: usize) -> Record {
         let Peer {
-            address, stored, ..
+            address,
+            stored,
+            ..
         } = *self;
         let mut octets = [0; 6];
         BigEndian::write_u16(&mut octets, address.number());
@@ -160,6 +162,8 @@ impl PeerMarks {
         ensures same { OnErr result (self.new ≡ self.old) }
         ensures store { Stores (K.store keeper.old) (keep_write self.old from counter) (is_ok result) (K.store keeper.new) }
         ensures kept { OnOk result (IsKept self.new (K.store keeper.new).records) }
+        // Whatever became of the put, the records are those of the marks before or of those after.
+        ensures either { IsKept self.old (K.store keeper.new).records ⊎ IsKept (kept_after self.old from counter) (K.store keeper.new).records }
         ensures elsewhere { SameOutside 0x0100 0x013F (K.store keeper.old).records (K.store keeper.new).records }
     {
         match self.table.place_of(key_of(from)) {
@@ -173,7 +177,8 @@ impl PeerMarks {
                     self.table.set_unstored(place, advanced);
                     Ok(())
                 } else {
-                    self.table.set_stored(keeper, place, ahead_of(from, counter))
+                    self.table
+                        .set_stored(keeper, place, ahead_of(from, counter))
                 }
             }
             None => self.table.push_stored(keeper, ahead_of(from, counter)),
@@ -197,6 +202,7 @@ impl PeerMarks {
         ensures table { self.new ≡ admit_after self.old from counter (is_stored result) }
         ensures store { Stores (K.store keeper.old) (admit_write self.old from counter) (is_stored result) (K.store keeper.new) }
         ensures kept { OnTrue (is_stored result) (IsKept self.new (K.store keeper.new).records) }
+        ensures either { IsKept self.old (K.store keeper.new).records ⊎ IsKept (kept_after self.old from counter) (K.store keeper.new).records }
         ensures elsewhere { SameOutside 0x0100 0x013F (K.store keeper.old).records (K.store keeper.new).records }
     {
         match self.room(from, counter) {

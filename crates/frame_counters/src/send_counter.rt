@@ -1,5 +1,5 @@
 //! The counter of the frames that a node sends.
-ghost use Rattle.std.specs.Prelude.{◌≡◌, ◌+◌, ◌<◌, ◌≤◌, IfOk, OnOk, OnErr, is_ok, Some};
+ghost use Rattle.std.specs.Prelude.{◌≡◌, ◌⊎◌, ◌+◌, ◌<◌, ◌≤◌, IfOk, OnOk, OnErr, is_ok, Some};
 ghost use Rattle.std.specs.FinMap.{get};
 ghost use Rattle.std.specs.Bool.{OnTrue};
 ghost use Rattle.plc_base.specs.Keeper.{Stores, SameOutside};
@@ -53,6 +53,8 @@ fn limit_record(limit: u32) -> Record
 fn store_limit<K: Keeper>(keeper: &mut K, limit: u32) -> Result<(), Failed>
     ensures store { Stores (K.store keeper.old) (limit_write limit) (is_ok result) (K.store keeper.new) }
     ensures stored { OnOk result (limit_in (get (K.store keeper.new).records limit_slot) ≡ Some limit) }
+    ensures either { (limit_in (get (K.store keeper.new).records limit_slot) ≡ limit_in (get (K.store keeper.old).records limit_slot))
+        ⊎ (limit_in (get (K.store keeper.new).records limit_slot) ≡ Some limit) }
     ensures elsewhere { SameOutside 2 2 (K.store keeper.old).records (K.store keeper.new).records }
 {
     keeper.put(LIMIT_SLOT, &limit_record(limit))
@@ -94,6 +96,8 @@ impl SendCounter {
         ensures same { OnErr result (self.new ≡ self.old) }
         ensures store { Stores (K.store keeper.old) (reserve_write self.old count) (is_ok result) (K.store keeper.new) }
         ensures kept { OnOk result (IsKept self.new (K.store keeper.new).records) }
+        // Whatever became of the put, the record is that of the counter before or of the one after.
+        ensures either { IsKept self.old (K.store keeper.new).records ⊎ IsKept (reserved self.old count) (K.store keeper.new).records }
         ensures elsewhere { SameOutside 2 2 (K.store keeper.old).records (K.store keeper.new).records }
     {
         let number = self.next;

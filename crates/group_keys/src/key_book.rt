@@ -1,5 +1,5 @@
 //! The coordinator's book of meters.
-ghost use Rattle.std.specs.Prelude.{◌≡◌, ◌+◌, ◌<◌, ◌≤◌, true, Ok, is_ok, map, IfOk, IfErr, OnOk, OnErr, OnSome};
+ghost use Rattle.std.specs.Prelude.{◌≡◌, ◌⊎◌, ◌+◌, ◌<◌, ◌≤◌, true, Ok, is_ok, map, IfOk, IfErr, OnOk, OnErr, OnSome};
 ghost use Rattle.std.specs.Bool.{OnTrue};
 ghost use Rattle.std.specs.Option.{option_map, option_and_then};
 ghost use Rattle.plc_base.specs.Keeper.{Stores, SameOutside};
@@ -9,9 +9,7 @@ ghost use Rattle.group_keys.specs.KeyBook.{Book, entries, IsKept, eui_number, en
 use crate::BookFault;
 use crate::fields::{HELD, flag_in, held_in, key_in, push_held};
 use byteorder::{BigEndian, ByteOrder};
-use plc_base::{
-    BadStore, Eui, Failed, Grant, Keeper, Key, Record, Short, SlotEntry, SlotTable,
-};
+use plc_base::{BadStore, Eui, Failed, Grant, Keeper, Key, Record, Short, SlotEntry, SlotTable};
 use std::marker::Model;
 
 /// What the book has of one meter.
@@ -216,6 +214,8 @@ impl KeyBook {
         ensures same { OnErr result (self.new ≡ self.old) }
         ensures store { Stores (K.store keeper.old) (change_write self.old entry) (is_ok result) (K.store keeper.new) }
         ensures kept { OnOk result (IsKept self.new (K.store keeper.new).records) }
+        // Whatever became of the put, the records are those of the book before or of the one after.
+        ensures either { IsKept self.old (K.store keeper.new).records ⊎ IsKept (with_entry self.old entry) (K.store keeper.new).records }
         ensures elsewhere { SameOutside 0x1000 0x13E6 (K.store keeper.old).records (K.store keeper.new).records }
     {
         match self.table.place_of(key_of(&entry.eui)) {
@@ -250,6 +250,7 @@ impl KeyBook {
         ensures book { self.new ≡ changing_after self.old (allow_change self.old eui psk.now) (is_stored result) }
         ensures store { Stores (K.store keeper.old) (changing_write self.old (allow_change self.old eui psk.now)) (is_stored result) (K.store keeper.new) }
         ensures kept { OnTrue (is_stored result) (IsKept self.new (K.store keeper.new).records) }
+        ensures either { IsKept self.old (K.store keeper.new).records ⊎ IsKept (changing_after self.old (allow_change self.old eui psk.now) true) (K.store keeper.new).records }
         ensures elsewhere { SameOutside 0x1000 0x13E6 (K.store keeper.old).records (K.store keeper.new).records }
     {
         if !self.has_room(eui) {
@@ -279,6 +280,7 @@ impl KeyBook {
         ensures book { self.new ≡ changing_after self.old (kick_change self.old eui) (is_stored result) }
         ensures store { Stores (K.store keeper.old) (changing_write self.old (kick_change self.old eui)) (is_stored result) (K.store keeper.new) }
         ensures kept { OnTrue (is_stored result) (IsKept self.new (K.store keeper.new).records) }
+        ensures either { IsKept self.old (K.store keeper.new).records ⊎ IsKept (changing_after self.old (kick_change self.old eui) true) (K.store keeper.new).records }
         ensures elsewhere { SameOutside 0x1000 0x13E6 (K.store keeper.old).records (K.store keeper.new).records }
     {
         let Some(entry) = self.allowed_one(eui) else {
@@ -310,6 +312,7 @@ impl KeyBook {
         ensures book { self.new ≡ changing_after self.old (issue_change self.old eui grant.now) (is_stored result) }
         ensures store { Stores (K.store keeper.old) (changing_write self.old (issue_change self.old eui grant.now)) (is_stored result) (K.store keeper.new) }
         ensures kept { OnTrue (is_stored result) (IsKept self.new (K.store keeper.new).records) }
+        ensures either { IsKept self.old (K.store keeper.new).records ⊎ IsKept (changing_after self.old (issue_change self.old eui grant.now) true) (K.store keeper.new).records }
         ensures elsewhere { SameOutside 0x1000 0x13E6 (K.store keeper.old).records (K.store keeper.new).records }
     {
         let Some(entry) = self.allowed_one(eui) else {

@@ -208,8 +208,7 @@ impl KeyRing {
         if self.key(index).is_none() {
             return Err(RingFault::NotHeld);
         }
-        self.set_active(keeper, index)
-            .map_err(|_| RingFault::Store)
+        self.set_active(keeper, index).map_err(|_| RingFault::Store)
     }
 
     /// Makes the key at an index, 0 or 1, the one that seals, where one is held.

@@ -5,6 +5,8 @@ mod fault;
 mod fields;
 mod key_book;
 mod key_ring;
+#[cfg(test)]
+mod tests;
 
 pub use fault::{BookFault, RingFault};
 pub use key_book::{BookEntry, KeyBook};

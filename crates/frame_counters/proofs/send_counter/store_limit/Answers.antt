@@ -1,7 +1,7 @@
 use Rattle.std.proofs.Common.{arith}
 use Rattle.plc_base.proofs.StoreLemmas.{stores_elsewhere}
 use Rattle.frame_counters.specs.SendCounter.{limit_write}
-use Rattle.frame_counters.proofs.Limits.{limit_stored}
+use Rattle.frame_counters.proofs.Limits.{limit_stored, limit_either}
 use Rattle.frame_counters.proofs.send_counter.store_limit.Goals as goal
 
 pub returns-clause-store : goal.returns-clause-store
@@ -18,3 +18,9 @@ returns-clause-elsewhere g c =
     let old = g.K.Keeper.store c.args.keeper.now in
     let new = g.K.Keeper.store c.put.new.self in
     stores_elsewhere old new (limit_write c.args.limit) _ 2 2 (returns-clause-store g c) (omega arith, omega arith)
+
+pub returns-clause-either : goal.returns-clause-either
+returns-clause-either g c =
+    let old = g.K.Keeper.store c.args.keeper.now in
+    let new = g.K.Keeper.store c.put.new.self in
+    limit_either old.records new.records c.args.limit (omega arith) (rw (← c.limit_record.ensures) c.put.ensures.old_or_new)
