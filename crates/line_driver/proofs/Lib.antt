@@ -1,5 +1,5 @@
 mod Follow
 mod LineLaws
 mod Taking
-pub mod Telling
+pub mod Turned
 mod Turns

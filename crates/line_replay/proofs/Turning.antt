@@ -5,7 +5,7 @@ use Rattle.std.specs.declared.option.Option.{Option}
 use Rattle.line_driver.specs.declared.machine.Exit.{Exit}
 use Rattle.line_driver.specs.Outcomes.{Turn, Takes}
 use Rattle.line_driver.specs.Clauses.{Told, Turned}
-use Rattle.line_driver.proofs.Telling.{taken}
+use Rattle.line_driver.proofs.Turned.{taken}
 use Rattle.line_world.specs.declared.event.Event.{Event}
 use Rattle.line_world.specs.declared.event.Happenings.{Happenings}
 use Rattle.line_world.specs.Worlds.{World}

@@ -1,4 +1,5 @@
 pub mod Readings
 pub mod Report
+pub mod Shown
 pub mod Texts
 pub mod Tool

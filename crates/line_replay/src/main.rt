@@ -4,6 +4,7 @@
 mod reading;
 mod replay;
 mod report;
+mod show;
 mod status;
 #[cfg(test)]
 mod tests;

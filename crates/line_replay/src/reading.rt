@@ -106,7 +106,7 @@ fn key(digits: &[u8]) -> Option<Key>
 }
 
 #[tactic(auto, unfolding(crate::specs::Readings::hex_octets))]
-fn hex_octets(digits: &[u8]) -> Option<LineOctets>
+pub fn hex_octets(digits: &[u8]) -> Option<LineOctets>
     ensures { result ≡ hex_octets digits.now }
 {
     if digits.is_empty() || digits.len() > 4096 {

@@ -1,8 +1,12 @@
 //! The texts of a report.
-ghost use Rattle.std.specs.Prelude.{◌≡◌, ◌++◌, IfOk, OnOk, string_bytes, codes, Some};
+ghost use Rattle.std.specs.Prelude.{◌≡◌, ◌≤◌, ◌++◌, IfOk, OnOk, string_bytes, codes, Some};
+ghost use Rattle.plc_base.specs.Causes.{Rose};
+ghost use Rattle.line_driver.specs.Clauses.{StopsWith};
 ghost use Rattle.line_replay.specs.Texts.{answer_word, verdict_word, reason_word, answer_text, up_text, happened_text, bad_text, end_text};
 
+use line_driver::{Exit, stop};
 use line_world::{Answer, Handed, Happenings, World};
+use plc_base::Sink;
 use std::alloc::{AllocError, Global};
 
 /// Why a line is bad. The reasons are tried in this order.
@@ -113,7 +117,7 @@ pub fn happened_text(
 
 /// The line of a bad line.
 #[tactic(auto, unfolding(crate::specs::Texts::bad_text))]
-pub fn bad_text(alloc: Global, number: u32, reason: Reason) -> Result<String, AllocError>
+fn bad_text(alloc: Global, number: u32, reason: Reason) -> Result<String, AllocError>
     ensures { IfOk result (λ text. string_bytes text ≡ bad_text number reason) }
 {
     let word = reason_word(reason);
@@ -131,4 +135,12 @@ pub fn end_text(alloc: Global, world: &World) -> Result<String, AllocError>
     let sends = counts.sends;
     let ups = counts.ups;
     format!(in alloc; "end {events} {flights} {sends} {ups} 0\n")
+}
+
+/// Reports a bad line, at which the run stops.
+pub fn refuse<K: Sink>(alloc: Global, number: u32, reason: Reason, sink: &mut K) -> Result<(), Exit>
+    ensures stops { StopsWith (K.taken sink.old) (K.taken sink.new) (Rose (K.faults sink.old) (K.faults sink.new)) (bad_text number reason) result }
+    ensures later { K.faults sink.old ≤ K.faults sink.new }
+{
+    stop(sink, bad_text(alloc, number, reason))
 }

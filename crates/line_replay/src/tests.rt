@@ -306,6 +306,87 @@ fn any_pieces(rt: HostRuntime) -> Result<(), Fail> {
     Ok(())
 }
 
+// Frames in hexadecimal, and what each is.
+const FRAMES: [(&str, &str); 6] = [
+    // a joining message, and a frame that is cut off
+    (
+        "61d8001d78000008070605040302014002010102030405060708\n69\n",
+        "1 plain to 0000 from 0102030405060708 payload 4002010102030405060708\n2 fault Short 1\nend 2\n",
+    ),
+    // a sealed frame, behind lines with no frame
+    (
+        "# sealed\n\n6998001d78020001000d0000000000e8c6be3fa01dc6a252e03de38f4258",
+        "3 sealed to 0002 from 0001 counter 0 index 0 body 15\nend 1\n",
+    ),
+    // a plain frame to a device
+    (
+        "619c001d7808070605040302010000400202010203040506070803020004\n",
+        "1 plain to 0102030405060708 from 0000 payload 400202010203040506070803020004\nend 1\n",
+    ),
+    // no payload, and digits of either case
+    (
+        "61d8001d7800000807060504030201\n61D8001D7800000807060504030201\n",
+        "1 plain to 0000 from 0102030405060708 payload -\n2 plain to 0000 from 0102030405060708 payload -\nend 2\n",
+    ),
+    // to all, with its tag alone
+    (
+        "49980b1d78ffff34120d785634120100000000\n",
+        "1 sealed to ffff from 1234 counter 305419896 index 1 body 4\nend 1\n",
+    ),
+    // each fault of a header
+    (
+        "00\n29980000\n6998001d78feff01000d00000000000000000000\n6998001d780200feff0d00000000000000000000\n6998001d78020001000c00000000000000000000\n6998001d78020001000d00000000020000000000\n6998001d78020001000d0000000000000000\n",
+        "1 fault Kind 0\n2 fault Mode 0\n3 fault Address 5\n4 fault Address 7\n5 fault Level 9\n6 fault Level 14\n7 fault Short 18\nend 7\n",
+    ),
+];
+
+#[test]
+fn frames_are_shown(rt: HostRuntime) -> Result<(), Fail> {
+    for (lines, shown) in FRAMES {
+        let (status, text) = run(rt.alloc(), &["show"], lines.as_bytes(), 11, &[], &[])?;
+        assert_eq!(rt; text.as_str(), shown);
+        assert_eq!(rt; status, Status::Fine);
+    }
+    for (lines, shown) in [
+        ("6\n", "bad 1 form\n"),
+        ("# x\n69 \n", "bad 2 form\n"),
+        ("69\n6g\n", "1 fault Short 1\nbad 2 form\n"),
+        ("replay\n", "bad 1 form\n"),
+    ] {
+        let (status, text) = run(rt.alloc(), &["show"], lines.as_bytes(), 11, &[], &[])?;
+        assert_eq!(rt; text.as_str(), shown);
+        assert_eq!(rt; status, Status::BadScript);
+    }
+    // Frames of 400 and 401 octets, and a line of 4,097.
+    let digits = [b'6'; 4097];
+    let (status, text) = run(rt.alloc(), &["show"], &digits[..800], 8192, &[], &[])?;
+    assert_eq!(rt;
+        (status, text.as_str()),
+        (Status::Fine, "1 fault Kind 0\nend 1\n")
+    );
+    let (status, text) = run(rt.alloc(), &["show"], &digits[..802], 8192, &[], &[])?;
+    assert_eq!(rt;
+        (status, text.as_str()),
+        (Status::Fine, "1 fault Long 400\nend 1\n")
+    );
+    let (status, text) = run(rt.alloc(), &["show"], &digits, 8192, &[], &[])?;
+    assert_eq!(rt;
+        (status, text.as_str()),
+        (Status::BadScript, "bad 1 long\n")
+    );
+    let (status, text) = run(rt.alloc(), &["show"], b"69\n69\n", 3, &[2], &[])?;
+    assert_eq!(rt;
+        (status, text.as_str()),
+        (Status::ReadFault, "1 fault Short 1\n")
+    );
+    let (status, text) = run(rt.alloc(), &["show"], b"69\n69\n", 3, &[], &[2])?;
+    assert_eq!(rt;
+        (status, text.as_str()),
+        (Status::WriteFault, "1 fault Short 1\n")
+    );
+    Ok(())
+}
+
 // The values are those of FIPS 197, RFC 4493, the EAX paper and RFC 3610.
 #[test]
 fn vectors_of_the_standards(rt: HostRuntime) -> Result<(), Fail> {

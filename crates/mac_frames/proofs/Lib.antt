@@ -3,3 +3,4 @@ pub mod Headers
 pub mod Laws
 pub mod Values
 pub mod Opening
+pub mod HeadsRead

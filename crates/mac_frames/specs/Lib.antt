@@ -1,4 +1,5 @@
 pub mod Grammar
 pub mod Faults
+pub mod Reading
 pub mod Sealing
 pub mod Control

@@ -3,6 +3,7 @@ ghost use Rattle.std.specs.Prelude.{◌≡◌, ◌≤◌, ◌<◌, ◌≢◌, �
 ghost use Rattle.byteorder.specs.Endian.{little_bytes};
 ghost use Rattle.octet_fields.specs.Fields.{after, little_two};
 ghost use Rattle.octet_fields.specs.Addresses.{IsAddress};
+ghost use Rattle.mac_frames.specs.Reading.{head_in, body_in};
 ghost use Rattle.mac_frames.specs.Grammar.{Frame, IsBody, IsHead, IsTarget, header, header_then, high_control, low_control};
 ghost use Rattle.mac_frames.specs.Faults.{down_fault, fields_fault, frame_fault, index_fault, level_fault, sealed_fault, sender_fault, target_fault, up_fault};
 ghost use Rattle.mac_frames.specs.declared.head.MacHead.{MacHead};
@@ -176,6 +177,8 @@ fn frame_of<'a>(octets: &'a [u8]) -> Result<RawFrame<'a>, FrameFault>
 pub fn read_frame<'a>(octets: &'a [u8]) -> Result<RawFrame<'a>, FrameFault>
     // What is read is spelled so.
     ensures found { IfOk result (λ raw. Frame raw.head raw.body.now octets.now) }
+    // It is what stands at the places of its fields.
+    ensures places { IfOk result (λ raw. (raw.head ≡ head_in octets.now) × (raw.body.now ≡ body_in octets.now)) }
     // The header and the body are the two parts of the octets.
     ensures parts { IfOk result (λ raw. (raw.header.now ≡ header raw.head) × (octets.now ≡ raw.header.now ++ raw.body.now)) }
     // A fault is the first one.

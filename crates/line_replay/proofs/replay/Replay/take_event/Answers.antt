@@ -3,8 +3,8 @@ use Rattle.line_replay.specs.Texts.{happened_text}
 use Rattle.line_replay.proofs.Turning.{event_taken}
 use Rattle.line_replay.proofs.replay.Replay.take_event.Goals as goal
 
-pub returns-in-Ok-clause-turned : goal.returns-in-Ok-clause-turned
-returns-in-Ok-clause-turned g c =
+pub returns-clause-turned : goal.returns-clause-turned
+returns-clause-turned g c =
     rw (← c.self.view_is) (event_taken
     c.args.number
     c.counts-taken.result.events

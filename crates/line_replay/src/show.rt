@@ -1,0 +1,204 @@
+//! Frames in hexadecimal, one a line, and what each is.
+ghost use Rattle.std.specs.Prelude.{◌≡◌, ◌≤◌, IfOk, string_bytes, List, ℕ};
+ghost use Rattle.line_replay.specs.Shown.{frame_line, kind_word, short_word, payload_word, plain_text, head_text, fault_text, frame_text_by, shown_text, frames_text, show_turn, show_stops};
+ghost use Rattle.mac_frames.specs.Faults.{frame_fault};
+
+use crate::reading::hex_octets;
+use crate::report::{Reason, refuse};
+use line_driver::{Exit, LineKind, LineMachine, tell};
+use line_world::LineOctets;
+use mac_frames::{FrameFault, FrameFaultKind, MacHead, read_frame};
+use plc_base::{Eui, Sink};
+use std::alloc::{AllocError, Global};
+use std::marker::Model;
+
+/// What a line holds.
+#[derive(Drop)]
+pub enum FrameLine {
+    /// Nothing: it is empty, or a comment.
+    Quiet,
+    /// It has no reading.
+    NoForm,
+    /// Octets that should be a frame.
+    Reads(LineOctets),
+}
+
+#[tactic(auto, unfolding(crate::specs::Shown::frame_line))]
+fn frame_line(octets: &[u8]) -> FrameLine
+    ensures { result ≡ frame_line octets.now }
+{
+    match octets.first() {
+        None => FrameLine::Quiet,
+        Some(b'#') => FrameLine::Quiet,
+        Some(_) => match hex_octets(octets) {
+            Some(octets) => FrameLine::Reads(octets),
+            None => FrameLine::NoForm,
+        },
+    }
+}
+
+fn kind_word(kind: FrameFaultKind) -> &'static str
+    ensures { result.now ≡ kind_word kind }
+{
+    match kind {
+        FrameFaultKind::Short => "Short",
+        FrameFaultKind::Kind => "Kind",
+        FrameFaultKind::Mode => "Mode",
+        FrameFaultKind::Level => "Level",
+        FrameFaultKind::Long => "Long",
+        FrameFaultKind::Address => "Address",
+    }
+}
+
+#[tactic(auto, unfolding(crate::specs::Shown::fault_text))]
+fn fault_text(alloc: Global, fault: FrameFault) -> Result<String, AllocError>
+    ensures { IfOk result (λ text. string_bytes text ≡ fault_text fault) }
+{
+    let kind = kind_word(fault.kind);
+    let place = fault.place;
+    format!(in alloc; "fault {kind} {place}\n")
+}
+
+/// A short address, as 4 digits.
+fn short_word(alloc: Global, address: u16) -> Result<String, AllocError>
+    ensures { IfOk result (λ text. string_bytes text ≡ short_word address) }
+{
+    hex::encode(alloc, address.to_be_bytes().as_slice())
+}
+
+/// A payload, or - where it is empty.
+fn payload_word(alloc: Global, payload: &[u8]) -> Result<String, AllocError>
+    ensures { IfOk result (λ text. string_bytes text ≡ payload_word payload.now) }
+{
+    if payload.is_empty() {
+        return String::from_str(alloc, "-");
+    }
+    hex::encode(alloc, payload)
+}
+
+fn plain_text(alloc: Global, to: &str, from: &str, payload: &[u8]) -> Result<String, AllocError>
+    ensures { IfOk result (λ text. string_bytes text ≡ plain_text to.now from.now payload.now) }
+{
+    let payload = payload_word(alloc, payload)?;
+    format!(in alloc; "plain to {to} from {from} payload {payload}\n")
+}
+
+#[tactic(auto, unfolding(crate::specs::Shown::head_text))]
+fn head_text(alloc: Global, head: &MacHead, body: &[u8]) -> Result<String, AllocError>
+    ensures { IfOk result (λ text. string_bytes text ≡ head_text head.now body.now) }
+{
+    match head {
+        MacHead::Sealed {
+            to,
+            from,
+            counter,
+            index,
+            ..
+        } => {
+            let to = short_word(alloc, *to)?;
+            let from = short_word(alloc, from.number())?;
+            let length = body.len();
+            format!(in alloc;
+                "sealed to {to} from {from} counter {counter} index {index} body {length}\n"
+            )
+        }
+        MacHead::Up { to, from, .. } => {
+            let to = short_word(alloc, *to)?;
+            let from = hex::encode(alloc, from.0.as_slice())?;
+            plain_text(alloc, to.as_str(), from.as_str(), body)
+        }
+        MacHead::Down { to, from, .. } => {
+            let to = hex::encode(alloc, to.0.as_slice())?;
+            let from = short_word(alloc, from.number())?;
+            plain_text(alloc, to.as_str(), from.as_str(), body)
+        }
+    }
+}
+
+/// What octets are as a frame, or their first fault.
+fn frame_text(alloc: Global, octets: &[u8]) -> Result<String, AllocError>
+    ensures { IfOk result (λ text. string_bytes text ≡ frame_text_by (frame_fault octets.now) octets.now) }
+{
+    match read_frame(octets) {
+        Ok(raw) => head_text(alloc, &raw.head, raw.body),
+        Err(fault) => fault_text(alloc, fault),
+    }
+}
+
+/// The line of a frame that stands in a line of this number.
+#[tactic(auto, unfolding(crate::specs::Shown::shown_text))]
+fn shown_text(alloc: Global, number: u32, octets: &[u8]) -> Result<String, AllocError>
+    ensures { IfOk result (λ text. string_bytes text ≡ shown_text number octets.now) }
+{
+    let text = frame_text(alloc, octets)?;
+    format!(in alloc; "{number} {text}")
+}
+
+#[tactic(auto, unfolding(crate::specs::Shown::frames_text))]
+fn frames_text(alloc: Global, frames: u64) -> Result<String, AllocError>
+    ensures { IfOk result (λ text. string_bytes text ≡ frames_text frames) }
+{
+    format!(in alloc; "end {frames}\n")
+}
+
+/// Shows frames line by line. A contract sees the number of frames so far.
+#[derive(Drop)]
+pub struct Show {
+    alloc: Global,
+    frames: u64,
+}
+
+impl Model for Show {
+    ghost use Rattle.std.specs.Prelude.{ℕ};
+
+    ghost Value = { ℕ };
+
+    ghost view = { λ s. s.frames };
+}
+
+impl Show {
+    /// No frame yet.
+    pub fn new(alloc: Global) -> Show
+        ensures { result ≡ 0 }
+    {
+        Show { alloc, frames: 0 }
+    }
+}
+
+impl LineMachine for Show {
+    ghost turn = { show_turn };
+
+    ghost end_text = { frames_text };
+
+    ghost stops = { show_stops };
+
+    #[tactic(auto, unfolding(crate::specs::Shown::show_turn), using(line_driver::proofs::Turned::stopped, line_driver::proofs::Turned::taken))]
+    fn take<K: Sink>(
+        &mut self,
+        number: u32,
+        kind: LineKind,
+        line: &[u8],
+        sink: &mut K,
+    ) -> Result<(), Exit> {
+        match kind {
+            LineKind::TooMuch => refuse(self.alloc, number, Reason::Input, sink),
+            LineKind::Long => refuse(self.alloc, number, Reason::Long, sink),
+            LineKind::Text => match frame_line(line) {
+                FrameLine::Quiet => Ok(()),
+                FrameLine::NoForm => refuse(self.alloc, number, Reason::Form, sink),
+                FrameLine::Reads(octets) => {
+                    // No input has so many lines.
+                    let Some(frames) = self.frames.checked_add(1) else {
+                        return Err(Exit::Memory);
+                    };
+                    self.frames = frames;
+                    tell(sink, shown_text(self.alloc, number, octets.octets()))
+                }
+            },
+        }
+    }
+
+    fn finish<K: Sink>(&self, sink: &mut K) -> Result<(), Exit> {
+        tell(sink, frames_text(self.alloc, self.frames))
+    }
+}
