@@ -1,5 +1,5 @@
 pub mod Controls
 pub mod Headers
-pub mod Laws
+pub mod NoFault
 pub mod Values
 pub mod Opening
