@@ -1,5 +1,5 @@
 -- The octets of a frame control, from their bits.
-use Rattle.std.proofs.Common.{◌≡◌, ℕ, ◌+◌, ◌/◌, ◌%◌, ◌<◌, ◌≤◌, List, length, None, true, false, refl, ap, ◌∙◌, eqb, arith, inl, inr}
+use Rattle.std.proofs.Common.{◌≡◌, ℕ, ◌<◌, ◌≤◌, List, length, None, eqb, arith, inl, inr}
 use Rattle.std.proofs.lemmas.Bool.{cases_eq, eq-eqb, ne_eqb}
 use Rattle.mac_frames.specs.Grammar.{low_control}
 use Rattle.std.proofs.lemmas.Grind.{common_steps}

@@ -1,6 +1,6 @@
 pub mod Controls
 pub mod Headers
-pub mod Laws
+pub mod NoFault
 pub mod Values
 pub mod Opening
 pub mod HeadsRead

@@ -1,5 +1,5 @@
 -- A sealed body is an encrypted payload and a tag, in one way.
-use Rattle.std.proofs.Common.{Result, Ok, Err, ◌≡◌, ℕ, ◌+◌, ◌≤◌, List, ◌++◌, length, take, drop, subst, refl, sym, ap, ◌∙◌, arith}
+use Rattle.std.proofs.Common.{Result, Ok, Err, ◌≡◌, ℕ, ◌≤◌, List, ◌++◌, length, take, drop, subst, refl, sym, ap, ◌∙◌, arith}
 use Rattle.std.specs.Prelude.{IsOk, OnOk}
 use Rattle.aes_modes.proofs.Opened.{at_ok}
 use Rattle.std.proofs.Math.Seq.{take-append_seam, drop-append_seam}
@@ -8,9 +8,9 @@ use Rattle.aes_modes.specs.Ccm.{ccm_text, ccm_tag}
 use Rattle.aes_modes.proofs.Texts.{ccm_text-twice, length-ccm_tag}
 use Rattle.mac_frames.specs.declared.head.MacHead.{MacHead}
 use Rattle.mac_frames.specs.declared.head.MacHead.TheVariants.{Sealed, Up, Down}
-use Rattle.mac_frames.specs.Grammar.{Frame, IsBody, IsSealed, header, header_then}
+use Rattle.mac_frames.specs.Grammar.{Frame, IsBody, IsSealed, header}
 use Rattle.mac_frames.specs.Sealing.{SealedFrame, nonce_of}
-use Rattle.mac_frames.proofs.Headers.{header_is, header_then-append, length-header}
+use Rattle.mac_frames.proofs.Headers.{header_then-append}
 use Rattle.mac_frames.proofs.Values.{one_value}
 
 -- two parts whose last have one length

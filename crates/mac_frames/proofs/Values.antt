@@ -1,5 +1,5 @@
 -- A spelling is of one frame.
-use Rattle.std.proofs.Common.{◌≡◌, ℕ, zero, suc, ◌+◌, ◌*◌, ◌/◌, ◌%◌, ◌^◌, ◌<◌, ◌≤◌, Bool, true, false, List, [], ◌∷◌, ◌++◌, length, take, drop, reverse, Some, None, Result, Ok, Err, refl, sym, ap, ◌∙◌, arith}
+use Rattle.std.proofs.Common.{◌≡◌, ℕ, ◌/◌, ◌%◌, ◌^◌, ◌<◌, Bool, true, false, List, ◌∷◌, ◌++◌, length, take, drop, reverse, Some, None, Result, Ok, Err, refl, sym, ap, ◌∙◌, arith}
 use Rattle.std.specs.Prelude.{IfOk, IsOkAnd, MatchResult}
 use Rattle.std.proofs.Math.Seq.{take-append_seam, drop-append_seam}
 use Rattle.std.proofs.lemmas.Bool.{true≢false}
@@ -12,8 +12,8 @@ use Rattle.mac_frames.specs.declared.reading.RawFrame.{RawFrame}
 use Rattle.mac_frames.specs.declared.head.MacHead.{MacHead}
 use Rattle.mac_frames.specs.declared.head.MacHead.TheVariants.{Sealed, Up, Down}
 use Rattle.mac_frames.specs.Faults.{frame_fault}
-use Rattle.mac_frames.proofs.Laws.{no_fault}
-use Rattle.mac_frames.specs.Grammar.{Frame, IsHead, IsEui, header_then, high_control, low_control}
+use Rattle.mac_frames.proofs.NoFault.{no_fault}
+use Rattle.mac_frames.specs.Grammar.{Frame, IsHead, IsEui, header_then, low_control}
 
 four_same : (x y : ℕ) → x < 2 ^ 32 → y < 2 ^ 32 → x % 256 ≡ y % 256 → x / 256 % 256 ≡ y / 256 % 256
     → x / 65536 % 256 ≡ y / 65536 % 256 → x / 16777216 % 256 ≡ y / 16777216 % 256 → x ≡ y

@@ -1,5 +1,5 @@
 -- The first fault of octets that are no MAC frame.
-use Rattle.std.specs.Prelude.{ℕ, ◌+◌, ◌/◌, ◌%◌, ◌^◌, Bool, not, List, length, Option, Some, None, nat_lt, ◌==◌, ◌&&◌, ◌||◌, if◌then◌else◌}
+use Rattle.std.specs.Prelude.{ℕ, ◌+◌, ◌/◌, ◌%◌, ◌^◌, Bool, not, List, length, Option, Some, nat_lt, ◌==◌, ◌&&◌, ◌||◌, if◌then◌else◌}
 use Rattle.octet_fields.specs.Fields.{octet, little_two}
 use Rattle.octet_fields.specs.Faults.{◌then◌, ◌when◌, cut_off}
 use Rattle.mac_frames.specs.declared.fault.FrameFault.{FrameFault}

@@ -7,6 +7,7 @@
 mod control;
 mod fault;
 mod head;
+pub mod laws;
 mod reading;
 mod sealing;
 mod writing;

@@ -1,6 +1,7 @@
 //! Frames from outside, and the first fault of others.
 
 use crate::FrameFaultKind::{Address, Kind, Level, Long, Mode, Short as Ended};
+use crate::laws::seal_and_open;
 use crate::{FrameFault, FrameFaultKind, MacHead, open_frame, plain_frame, read_frame, seal_frame};
 use aes_modes::{Aes, BadTag};
 use plc_base::{Eui, FrameBuf, Key, PAN, Short};
@@ -89,6 +90,8 @@ fn a_frame_that_others_understand(rt: HostRuntime) -> Result<(), Fail> {
         },
         Err(fault) => panic!(rt; "{fault}"),
     }
+    assert_eq!(rt; seal_and_open(&aes, &head, &payload, &mut opened), Ok(()));
+    assert_eq!(rt; opened.octets(), payload.as_slice());
     Ok(())
 }
 

@@ -1,6 +1,7 @@
 //! Vectors from the standards themselves.
 
 use super::*;
+use aes_modes::laws::{ccm_seal_and_open, eax_seal_and_open};
 use aes_modes::{BadTag, ccm_open, eax_open};
 use hex::FromHex;
 use std::process::Abort;
@@ -193,6 +194,13 @@ fn eax_vector(rt: &(impl Abort + AllocGlobal), vector: &Sealed) -> Result<(), Fa
     }
     assert_eq!(rt; eax_open(&aes, &nonce, &header, &mut text, &tag), Ok(()));
     assert_eq!(rt; text, plain);
+    let mut again = [0; 16];
+    assert_eq!(rt;
+        eax_seal_and_open(&aes, &nonce, &header, &mut text, &mut again),
+        Ok(())
+    );
+    assert_eq!(rt; again, tag);
+    assert_eq!(rt; text, plain);
     Ok(())
 }
 
@@ -341,6 +349,14 @@ fn ccm_vector(rt: &(impl Abort + AllocGlobal), vector: &Sealed) -> Result<(), Fa
     }
     assert!(rt; text.len() < 100);
     assert_eq!(rt; ccm_open(&aes, &nonce, &header, &mut text, &tag), Ok(()));
+    assert_eq!(rt; text, plain);
+    assert!(rt; text.len() < 100);
+    let mut again = [0; 8];
+    assert_eq!(rt;
+        ccm_seal_and_open(&aes, &nonce, &header, &mut text, &mut again),
+        Ok(())
+    );
+    assert_eq!(rt; again, tag);
     assert_eq!(rt; text, plain);
     Ok(())
 }

@@ -1,8 +1,8 @@
-use Rattle.std.proofs.Common.{◌≡◌, ◌<◌, ◌≤◌, length, ◌∷◌, List, ℕ, eqb, ap, sym, ◌∙◌, arith}
+use Rattle.std.proofs.Common.{◌≡◌, ◌<◌, ◌≤◌, length, ◌∷◌, ℕ, eqb, ap, sym, ◌∙◌, arith}
 use Rattle.octet_fields.specs.Fields.{after, octet}
 use Rattle.octet_fields.proofs.Places.{after_none}
 use Rattle.mac_frames.specs.Grammar.{low_control}
-use Rattle.mac_frames.specs.Faults.{bits, low_fault, short}
+use Rattle.mac_frames.specs.Faults.{bits}
 use Rattle.mac_frames.proofs.Controls.{low_is, low_none}
 use Rattle.mac_frames.proofs.control.low_of.Goals as goal
 

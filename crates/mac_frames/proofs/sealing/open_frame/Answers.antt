@@ -1,4 +1,4 @@
-use Rattle.std.proofs.Common.{◌≡◌, ◌++◌, ◌-◌, List, ℕ, length, sym, ◌∙◌, arith}
+use Rattle.std.proofs.Common.{◌≡◌, ◌++◌, ◌-◌, length, sym, ◌∙◌, arith}
 use Rattle.std.proofs.lemmas.List.{take-append-drop}
 use Rattle.mac_frames.proofs.Opening.{opens_only, opens_so, tag_fits}
 use Rattle.mac_frames.proofs.sealing.open_frame.Goals as goal

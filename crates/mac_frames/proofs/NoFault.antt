@@ -1,17 +1,16 @@
 -- What a frame spells has no fault.
-use Rattle.std.proofs.Common.{◌≡◌, ◌≢◌, ℕ, zero, suc, ◌+◌, ◌*◌, ◌/◌, ◌%◌, ◌^◌, ◌<◌, ◌≤◌, Bool, true, false, List, [], ◌∷◌, ◌++◌, length, reverse, None, refl, sym, ap, ◌∙◌, arith, inl, inr}
-use Rattle.std.proofs.lemmas.Bool.{cases_eq}
+use Rattle.std.proofs.Common.{◌≡◌, ◌≢◌, ℕ, zero, suc, ◌+◌, ◌<◌, ◌≤◌, Bool, true, false, List, ◌∷◌, ◌++◌, length, reverse, None, refl, sym, ap, ◌∙◌, arith}
 use Rattle.std.proofs.lemmas.Grind.{common_steps}
 use Rattle.std.proofs.lemmas.List.{length-append, length-reverse}
 use Rattle.byteorder.specs.Endian.{little_bytes}
 use Rattle.octet_fields.specs.Fields.{octet, little_two}
 use Rattle.octet_fields.specs.Faults.{cut_off}
-use Rattle.octet_fields.proofs.Places.{octet_behind, little_two_behind}
+use Rattle.octet_fields.proofs.Places.{little_two_behind}
 use Rattle.plc_base.specs.declared.address.Eui.{Eui}
 use Rattle.mac_frames.specs.declared.head.MacHead.{MacHead}
 use Rattle.mac_frames.specs.declared.head.MacHead.TheVariants.{Sealed, Up, Down}
-use Rattle.mac_frames.specs.Grammar.{Frame, IsHead, IsBody, IsTarget, header_then, high_control, low_control}
-use Rattle.mac_frames.specs.Faults.{bits, short, type_fault, low_fault, is_sealed, version_fault, has_modes, high_fault, target_fault, sender_fault, level_fault, index_fault, sealed_fault, up_fault, down_fault, fields_fault, frame_fault}
+use Rattle.mac_frames.specs.Grammar.{Frame, IsHead, IsBody, header_then, high_control, low_control}
+use Rattle.mac_frames.specs.Faults.{short, type_fault, low_fault, is_sealed, version_fault, has_modes, high_fault, target_fault, sender_fault, level_fault, index_fault, sealed_fault, up_fault, down_fault, fields_fault, frame_fault}
 
 -- a field that is as it should be has no fault
 short_none : (end : ℕ) (octets : List ℕ) → end ≤ length octets → short end octets ≡ None
