@@ -1,10 +1,7 @@
 -- No counter is given out twice.
 use Rattle.std.proofs.Common.{◌≡◌, ◌⊎◌, ℕ, zero, suc, ◌+◌, ◌^◌, ◌<◌, ◌≤◌, Bool, true, false, cond, List, [], ◌∷◌, ◌++◌, Option, Some, None, Ok, refl, sym, ap, subst, ◌∙◌, inl, inr, arith}
-use Rattle.std.specs.Prelude.{IfSome, nat_lt}
-use Rattle.std.proofs.lemmas.Bool.Decides.{nat_tests}
-use Rattle.std.specs.FinMap.{get, insert}
-use Rattle.byteorder.specs.Endian.{big_bytes}
-use Rattle.plc_base.specs.declared.keeper.BadStore.{BadStore}
+use Rattle.std.specs.Prelude.{IfSome}
+use Rattle.std.specs.FinMap.{get}
 use Rattle.plc_base.specs.Keeper.{Records, Store, Stores}
 use Rattle.frame_counters.specs.SendCounter.{Counting, IsKept, opened, counting_from, counting_at, limit_in, limit_slot, limit_write, raised, passes, reserve_write, reserved}
 use Rattle.frame_counters.specs.Given.{Gives, begins, reserves, fails, restarts, elsewhere, AllBelow, run_of}

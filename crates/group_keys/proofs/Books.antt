@@ -1,12 +1,11 @@
 -- A record of an entry is read back, and what a change of an entry puts and leaves.
-use Rattle.std.proofs.Common.{◌≡◌, ℕ, ◌+◌, ◌^◌, ◌<◌, Bool, true, false, cond, List, [], ◌∷◌, ◌++◌, length, take, drop, set, zero, suc, Option, Some, None, Result, Ok, Err, refl, sym, ap, ◌∙◌, arith, length-append}
-use Rattle.std.specs.Prelude.{◌==◌, ◌&&◌, nat_eq, slice_get, slice_index}
+use Rattle.std.proofs.Common.{◌≡◌, ℕ, ◌+◌, ◌^◌, ◌<◌, Bool, true, false, cond, List, [], ◌∷◌, ◌++◌, length, take, drop, set, zero, suc, Option, Some, None, Result, Ok, Err, refl, ap, ◌∙◌, arith, length-append}
+use Rattle.std.specs.Prelude.{◌==◌, ◌&&◌, nat_eq, slice_get}
 use Rattle.std.specs.Cmp.Lexicographic.{pointwise}
 use mathlib.Core.Bool.{beq}
 use lib.Pointwise.{bytes_decides}
 use Rattle.plc_base.specs.declared.address.Eui.{Eui}
 use Rattle.plc_base.specs.SlotTables as slots
-use Rattle.plc_base.specs.Keeper.{Write}
 use Rattle.std.specs.Option.{option_map, option_map_or, option_eq}
 use Rattle.plc_base.proofs.SlotTables.{place_of-set, place_of-push}
 use Rattle.group_keys.specs.declared.fault.BookFault.{BookFault}
@@ -16,7 +15,7 @@ use Rattle.byteorder.specs.Numbers.{big_number-reads_back}
 use Rattle.plc_base.specs.declared.key.Key.{Key}
 use Rattle.group_keys.specs.Fields.{held_in, held_octets, flag_in, flag_octet}
 use Rattle.group_keys.specs.declared.key_book.BookEntry.{BookEntry}
-use Rattle.group_keys.specs.KeyBook.{Book, entries, entry_in, entry_of, entry_behind, entry_octets, eui_number, place_of, address_of, changing_after, same_entry, same_key, holds, change_write, with_entry}
+use Rattle.group_keys.specs.KeyBook.{Book, entries, entry_in, entry_of, entry_behind, entry_octets, eui_number, place_of, address_of, changing_after, same_entry, same_key, change_write, with_entry}
 use Rattle.group_keys.proofs.Rings.{take_front, drop_front, held_in-held_octets}
 
 flag_in-flag_octet : (b : Bool) → flag_in (flag_octet b) ≡ Some b

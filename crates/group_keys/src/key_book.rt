@@ -111,7 +111,7 @@ pub struct KeyBook {
 
 impl Model for KeyBook {
     ghost use Rattle.plc_base.specs.declared.address.Eui.{Eui};
-ghost use Rattle.group_keys.specs.KeyBook.{Book, book_code};
+    ghost use Rattle.group_keys.specs.KeyBook.{Book, book_code};
 
     ghost Value = { Book };
 
