@@ -1,9 +1,10 @@
 //! The counter of the frames that a node sends.
-ghost use Rattle.std.specs.Prelude.{◌≡◌, ◌⊎◌, ◌+◌, ◌<◌, ◌≤◌, IfOk, OnOk, OnErr, is_ok, Some};
+ghost use Rattle.std.specs.Prelude.{◌≡◌, ◌⊎◌, ◌+◌, ◌<◌, ◌≤◌, IfOk, OnOk, OnErr, is_ok, Some, List, ℕ};
 ghost use Rattle.std.specs.FinMap.{get};
 ghost use Rattle.std.specs.Bool.{OnTrue};
 ghost use Rattle.plc_base.specs.Keeper.{Stores, SameOutside};
 ghost use Rattle.frame_counters.specs.SendCounter.{IsKept, limit_in, limit_slot, stored_limit, opened, reserve_write, reserved, limit_write, counting_at, take_result, take_write, take_after, is_stored, preset_result};
+ghost use Rattle.frame_counters.specs.Given.{Gives, AllBelow};
 ghost use Rattle.byteorder.specs.Endian.{big_bytes};
 
 use crate::CounterFault;
@@ -92,6 +93,8 @@ impl SendCounter {
         requires left { self.old.next + count ≤ 4294967295 }
         requires kept { IsKept self.old (K.store keeper.old).records }
         ensures number { IfOk result (λ number. number ≡ self.old.next) }
+        // It is above all that was given out before, over any reservations, failed puts and new starts.
+        ensures fresh { (given : List ℕ) → Gives given (Some self.old) (K.store keeper.old).records → IfOk result (λ number. AllBelow number given) }
         ensures counter { OnOk result (self.new ≡ reserved self.old count) }
         ensures same { OnErr result (self.new ≡ self.old) }
         ensures store { Stores (K.store keeper.old) (reserve_write self.old count) (is_ok result) (K.store keeper.new) }
@@ -120,6 +123,8 @@ impl SendCounter {
         ensures counter { self.new ≡ take_after self.old (is_stored result) }
         ensures store { Stores (K.store keeper.old) (take_write self.old) (is_stored result) (K.store keeper.new) }
         ensures below { IfOk result (λ number. number < stored_limit (K.store keeper.new).records) }
+        // It is above all that was given out before, over any takes, failed puts and new starts.
+        ensures fresh { (given : List ℕ) → Gives given (Some self.old) (K.store keeper.old).records → IfOk result (λ number. AllBelow number given) }
         ensures kept { OnTrue (is_stored result) (IsKept self.new (K.store keeper.new).records) }
         ensures elsewhere { SameOutside 2 2 (K.store keeper.old).records (K.store keeper.new).records }
     {

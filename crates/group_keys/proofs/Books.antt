@@ -1,20 +1,21 @@
 -- A record of an entry is read back, and what a change of an entry puts and leaves.
-use Rattle.std.proofs.Common.{◌≡◌, ℕ, ◌+◌, ◌^◌, ◌<◌, Bool, true, false, cond, List, [], ◌∷◌, ◌++◌, length, take, drop, set, get_or, zero, suc, Option, Some, None, refl, sym, ap, ◌∙◌, arith, length-append}
-use Rattle.std.specs.Prelude.{◌==◌, ◌&&◌, nat_eq, slice_get, slice_index}
+use Rattle.std.proofs.Common.{◌≡◌, ℕ, ◌+◌, ◌^◌, ◌<◌, Bool, true, false, cond, List, [], ◌∷◌, ◌++◌, length, take, drop, set, zero, suc, Option, Some, None, Result, Ok, Err, refl, ap, ◌∙◌, arith, length-append}
+use Rattle.std.specs.Prelude.{◌==◌, ◌&&◌, nat_eq, slice_get}
 use Rattle.std.specs.Cmp.Lexicographic.{pointwise}
 use mathlib.Core.Bool.{beq}
 use lib.Pointwise.{bytes_decides}
 use Rattle.plc_base.specs.declared.address.Eui.{Eui}
 use Rattle.plc_base.specs.SlotTables as slots
-use Rattle.plc_base.specs.Keeper.{Write}
-use Rattle.std.specs.Option.{option_map_or, option_eq}
+use Rattle.std.specs.Option.{option_map, option_map_or, option_eq}
+use Rattle.plc_base.proofs.SlotTables.{place_of-set, place_of-push}
+use Rattle.group_keys.specs.declared.fault.BookFault.{BookFault}
 use Rattle.std.proofs.lemmas.Bool.Decides.{nat_tests}
 use Rattle.byteorder.specs.Endian.{big_number, big_bytes}
 use Rattle.byteorder.specs.Numbers.{big_number-reads_back}
 use Rattle.plc_base.specs.declared.key.Key.{Key}
 use Rattle.group_keys.specs.Fields.{held_in, held_octets, flag_in, flag_octet}
 use Rattle.group_keys.specs.declared.key_book.BookEntry.{BookEntry}
-use Rattle.group_keys.specs.KeyBook.{Book, entries, entry_in, entry_of, entry_behind, entry_octets, place_of, entry_for, same_entry, same_key, holds, change_write, with_entry}
+use Rattle.group_keys.specs.KeyBook.{Book, entries, entry_in, entry_of, entry_behind, entry_octets, eui_number, place_of, address_of, changing_after, same_entry, same_key, change_write, with_entry}
 use Rattle.group_keys.proofs.Rings.{take_front, drop_front, held_in-held_octets}
 
 flag_in-flag_octet : (b : Bool) → flag_in (flag_octet b) ≡ Some b
@@ -112,3 +113,25 @@ entry_same book entry before place e got same =
     let is = same_entry_is before entry same in
     let there : slice_get book place ≡ Some entry = got ∙ ap Some is in
     rw e (set_same book place entry there)
+
+-- # Addresses for good
+
+-- a meter that has an address keeps it, whatever entry is written
+pub address_kept : (book : Book) (entry : BookEntry) (meter : Eui) (address : ℕ) → address_of book meter ≡ Some address → address_of (with_entry book entry) meter ≡ Some address
+address_kept book entry meter address e = by_place (place_of book meter) refl e
+  where
+    stays : (place : ℕ) → place_of book meter ≡ Some place → (o : Option ℕ) → place_of book entry.eui ≡ o
+        → slots.place_of entries (option_map_or (λ place. set book place entry) o (book ++ entry ∷ [])) (eui_number meter) ≡ Some place
+    stays place there None is = place_of-push entries book entry (eui_number meter) place there
+    stays place there (Some at) is = place_of-set entries book entry at (eui_number meter) place is there
+
+    by_place : (o : Option ℕ) → place_of book meter ≡ o → option_map (λ place. place + 1) o ≡ Some address → address_of (with_entry book entry) meter ≡ Some address
+    by_place None is h = cc
+    by_place (Some place) is h = ap (option_map (λ place. place + 1)) (stays place is (place_of book entry.eui) refl) ∙ h
+
+-- so it keeps it over a call, done or not
+pub changing_kept : (book : Book) (change : Result BookEntry BookFault) (done : Bool) (meter : Eui) (address : ℕ) → address_of book meter ≡ Some address
+    → address_of (changing_after book change done) meter ≡ Some address
+changing_kept book (Ok entry) true meter address e = address_kept book entry meter address e
+changing_kept book (Ok entry) false meter address e = e
+changing_kept book (Err fault) done meter address e = e

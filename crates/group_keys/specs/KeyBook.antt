@@ -1,6 +1,6 @@
 -- The coordinator's book: one entry for each meter, the k-th with the address k.
-use Rattle.std.specs.Prelude.{◌≡◌, ℕ, ◌+◌, ◌==◌, ◌&&◌, ◌||◌, nat_lt, Bool, true, false, nat_eq, if◌then◌else◌, List, [], ◌∷◌, ◌++◌, length, take, drop, set, slice_get, slice_index, Option, Some, None, is_some, Result, Ok, Err, refl}
-use Rattle.std.specs.Option.{option_map, option_map_or, option_and_then, option_eq}
+use Rattle.std.specs.Prelude.{ℕ, ◌+◌, ◌==◌, ◌&&◌, ◌||◌, nat_lt, Bool, true, false, nat_eq, if◌then◌else◌, List, [], ◌∷◌, ◌++◌, length, take, drop, set, slice_index, Option, Some, None, is_some, Result, Ok, Err, refl}
+use Rattle.std.specs.Option.{option_map, option_map_or, option_eq}
 use Rattle.std.specs.Cmp.Lexicographic.{pointwise}
 use mathlib.Core.Bool.{beq}
 use Rattle.std.specs.Coded.{Coded, code_by, coded×, coded_ℕ, coded_bool, coded_list, coded_option}

@@ -1,9 +1,10 @@
 //! The coordinator's book of meters.
-ghost use Rattle.std.specs.Prelude.{◌≡◌, ◌⊎◌, ◌+◌, ◌<◌, ◌≤◌, true, Ok, is_ok, map, IfOk, IfErr, OnOk, OnErr, OnSome};
+ghost use Rattle.std.specs.Prelude.{◌≡◌, ◌⊎◌, ◌+◌, ◌<◌, ◌≤◌, true, ℕ, Ok, Some, is_ok, map, IfOk, IfErr, OnOk, OnErr, OnSome};
 ghost use Rattle.std.specs.Bool.{OnTrue};
 ghost use Rattle.std.specs.Option.{option_map, option_and_then};
 ghost use Rattle.plc_base.specs.Keeper.{Stores, SameOutside};
 ghost use Rattle.plc_base.specs.SlotTables.{IsTable, IsGapless, IsReading, IsBad, opened};
+ghost use Rattle.plc_base.specs.declared.address.Eui.{Eui};
 ghost use Rattle.group_keys.specs.KeyBook.{Book, entries, IsKept, eui_number, entry_for, address_of, is_allowed, issued_at, has_room, place_for, with_entry, change_write, allowed_one, allow_change, kick_change, issue_change, changing_result, changing_after, changing_write, done_result, is_stored};
 
 use crate::BookFault;
@@ -109,6 +110,7 @@ pub struct KeyBook {
 }
 
 impl Model for KeyBook {
+    ghost use Rattle.plc_base.specs.declared.address.Eui.{Eui};
     ghost use Rattle.group_keys.specs.KeyBook.{Book, book_code};
 
     ghost Value = { Book };
@@ -212,6 +214,8 @@ impl KeyBook {
         ensures address { IfOk result (λ address. address ≡ place_for self.old entry.eui + 1) }
         ensures book { OnOk result (self.new ≡ with_entry self.old entry) }
         ensures same { OnErr result (self.new ≡ self.old) }
+        // The address of a meter never changes.
+        ensures addresses { (meter : Eui) (address : ℕ) → address_of self.old meter ≡ Some address → address_of self.new meter ≡ Some address }
         ensures store { Stores (K.store keeper.old) (change_write self.old entry) (is_ok result) (K.store keeper.new) }
         ensures kept { OnOk result (IsKept self.new (K.store keeper.new).records) }
         // Whatever became of the put, the records are those of the book before or of the one after.
@@ -248,6 +252,7 @@ impl KeyBook {
         requires { IsKept self.old (K.store keeper.old).records }
         ensures answer { result ≡ changing_result self.old (allow_change self.old eui psk.now) (is_stored result) }
         ensures book { self.new ≡ changing_after self.old (allow_change self.old eui psk.now) (is_stored result) }
+        ensures addresses { (meter : Eui) (address : ℕ) → address_of self.old meter ≡ Some address → address_of self.new meter ≡ Some address }
         ensures store { Stores (K.store keeper.old) (changing_write self.old (allow_change self.old eui psk.now)) (is_stored result) (K.store keeper.new) }
         ensures kept { OnTrue (is_stored result) (IsKept self.new (K.store keeper.new).records) }
         ensures either { IsKept self.old (K.store keeper.new).records ⊎ IsKept (changing_after self.old (allow_change self.old eui psk.now) true) (K.store keeper.new).records }
@@ -278,6 +283,7 @@ impl KeyBook {
         requires { IsKept self.old (K.store keeper.old).records }
         ensures answer { result ≡ changing_result self.old (kick_change self.old eui) (is_stored result) }
         ensures book { self.new ≡ changing_after self.old (kick_change self.old eui) (is_stored result) }
+        ensures addresses { (meter : Eui) (address : ℕ) → address_of self.old meter ≡ Some address → address_of self.new meter ≡ Some address }
         ensures store { Stores (K.store keeper.old) (changing_write self.old (kick_change self.old eui)) (is_stored result) (K.store keeper.new) }
         ensures kept { OnTrue (is_stored result) (IsKept self.new (K.store keeper.new).records) }
         ensures either { IsKept self.old (K.store keeper.new).records ⊎ IsKept (changing_after self.old (kick_change self.old eui) true) (K.store keeper.new).records }
@@ -310,6 +316,7 @@ impl KeyBook {
         requires { IsKept self.old (K.store keeper.old).records }
         ensures answer { result ≡ done_result (changing_result self.old (issue_change self.old eui grant.now) (is_stored result)) }
         ensures book { self.new ≡ changing_after self.old (issue_change self.old eui grant.now) (is_stored result) }
+        ensures addresses { (meter : Eui) (address : ℕ) → address_of self.old meter ≡ Some address → address_of self.new meter ≡ Some address }
         ensures store { Stores (K.store keeper.old) (changing_write self.old (issue_change self.old eui grant.now)) (is_stored result) (K.store keeper.new) }
         ensures kept { OnTrue (is_stored result) (IsKept self.new (K.store keeper.new).records) }
         ensures either { IsKept self.old (K.store keeper.new).records ⊎ IsKept (changing_after self.old (issue_change self.old eui grant.now) true) (K.store keeper.new).records }

@@ -13,9 +13,13 @@ const TWO: Key = Key([2; 16]);
 // The record of a ring: joined, address, active index, and the flags and first octets of the two keys.
 fn ring_octets(head: [u8; 4], first: [u8; 2], second: [u8; 2]) -> [u8; 38] {
     let mut octets = [0; 38];
-    octets[..4].copy_from_slice(&head);
-    octets[4..6].copy_from_slice(&first);
-    octets[21..23].copy_from_slice(&second);
+    for place in 0..4 {
+        octets[place] = head[place];
+    }
+    octets[4] = first[0];
+    octets[5] = first[1];
+    octets[21] = second[0];
+    octets[22] = second[1];
     octets
 }
 
@@ -72,8 +76,10 @@ fn entry_octets(eui: u8, address: u8, allowed: u8, first: [u8; 2], second: [u8; 
     octets[7] = eui;
     octets[25] = address;
     octets[26] = allowed;
-    octets[27..29].copy_from_slice(&first);
-    octets[44..46].copy_from_slice(&second);
+    octets[27] = first[0];
+    octets[28] = first[1];
+    octets[44] = second[0];
+    octets[45] = second[1];
     octets
 }
 
@@ -222,6 +228,7 @@ fn each_put_is_cut(rt: HostRuntime) -> Result<(), Fail> {
     for (nth, keeps_new, active, second, allowed, issued, address) in CUTS {
         let mut node = Holder::fresh(rt.alloc())?;
         let grant = grant_of(7)?;
+        assert!(rt; nth > 0);
         node.cut(nth, keeps_new);
         let answers = [
             node.install(&grant).is_ok(),

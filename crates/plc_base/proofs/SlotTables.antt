@@ -1,13 +1,13 @@
 -- A table stays stored where one entry is written, or where only what is not stored changes.
-use Rattle.std.proofs.Common.{◌≡◌, ◌≢◌, ◌⊎◌, inl, inr, ℕ, zero, suc, ◌+◌, ◌<◌, ◌≤◌, false, List, [], ◌∷◌, ◌++◌, Option, Some, None, length, map, get_or, set, refl, sym, ap, subst, ◌∙◌, arith, length-append}
+use Rattle.std.proofs.Common.{◌≡◌, ◌≢◌, ◌⊎◌, inl, inr, ℕ, true, zero, suc, ◌+◌, ◌<◌, ◌≤◌, false, List, [], ◌∷◌, ◌++◌, Option, Some, None, length, map, get_or, set, refl, sym, ap, subst, ◌∙◌, arith, length-append}
 use Rattle.std.proofs.lemmas.Bool.{cases_eq, cases_lt}
 use Rattle.std.proofs.lemmas.Bool.Decides.{nat_tests}
 use Rattle.std.proofs.lemmas.Grind.{common_steps}
-use Rattle.std.proofs.lemmas.List.{length-set, get_or-set_same, get_or-set_other, append-nil, drop_all, take_all}
+use Rattle.std.proofs.lemmas.List.{length-set, get_or-set_same, get_or-set_other, get_or_append_left, append-nil, drop_all, take_all}
 use Rattle.std.proofs.lemmas.List.Quantifiers.{all_pairs_push, position-Some}
-use Rattle.std.proofs.lemmas.List.Sums.{fails_before_first}
+use Rattle.std.proofs.lemmas.List.Sums.{fails_before_first, position_or_len_is}
 use Rattle.std.proofs.lemmas.Option.{slice_get-get_or}
-use Rattle.std.specs.Prelude.{slice_get, is_some, IfSome, MatchOption, ◌==◌}
+use Rattle.std.specs.Prelude.{slice_get, is_some, IfSome, MatchOption, nat_lt, ◌==◌}
 use Rattle.std.specs.List.{refill}
 use Rattle.std.specs.Option.{option_map}
 use Rattle.std.specs.FinMap.{get, insert}
@@ -251,3 +251,34 @@ pub place_free : {A : Type 0} (layout : Layout A) (table : List A) (key : ℕ) (
     → MatchOption o (IsFree layout table (length table) key) (λ place. IsFree layout table place key)
 place_free layout table key None h e = free_new layout table key (length table) (ap is_some (sym e))
 place_free layout table key (Some place) h e = free_found layout table key place h (sym e)
+
+-- an entry that is found stays where it is, if all entries keep their keys
+pub same_place : {A : Type 0} (layout : Layout A) (table next : List A) (d : A) (key place : ℕ) → length table ≤ length next
+    → ((k : ℕ) → k < length table → layout.key (get_or next k d) ≡ layout.key (get_or table k d)) → place_of layout table key ≡ Some place
+    → place_of layout next key ≡ Some place
+same_place {A = A} layout table next d key place long same e =
+    let p = position-Some (λ entry. layout.key entry == key) table place d e in
+    let first = position_or_len_is (λ entry. layout.key entry == key) next place d (omega (arith, p.0))
+    (λ k h. ap (λ (x : ℕ). x == key) (same k (omega (arith, p.0))) ∙ p.2 k h) (λ h. ap (λ (x : ℕ). x == key) (same place p.0) ∙ p.1) in
+    let inside : nat_lt place (length next) ≡ true = grind (arith, nat_tests, p.0) in
+    rw (first, inside) refl
+
+-- so it does where an entry is written in the place of its key, or behind the others
+pub place_of-set : {A : Type 0} (layout : Layout A) (table : List A) (e : A) (at key place : ℕ) → place_of layout table (layout.key e) ≡ Some at
+    → place_of layout table key ≡ Some place → place_of layout (set table at e) key ≡ Some place
+place_of-set {A = A} layout table e at key place there found_at =
+    same_place layout table (set table at e) e key place (omega (arith, length-set table at e)) same found_at
+  where
+    same : (k : ℕ) → k < length table → layout.key (get_or (set table at e) k e) ≡ layout.key (get_or table k e)
+    same k h = elim (cases_eq k at) [
+      | inl here ↦ rw (here, get_or-set_same table at e e (found layout table (layout.key e) at e there).0) (sym (found layout table (layout.key e) at e there).1)
+      | inr other ↦ rw (get_or-set_other table at k e e other) refl
+    ]
+
+pub place_of-push : {A : Type 0} (layout : Layout A) (table : List A) (e : A) (key place : ℕ) → place_of layout table key ≡ Some place
+    → place_of layout (table ++ e ∷ []) key ≡ Some place
+place_of-push {A = A} layout table e key place found_at =
+    same_place layout table (table ++ e ∷ []) e key place (omega (arith, length-append table (e ∷ []))) same found_at
+  where
+    same : (k : ℕ) → k < length table → layout.key (get_or (table ++ e ∷ []) k e) ≡ layout.key (get_or table k e)
+    same k h = ap layout.key (get_or_append_left table (e ∷ []) e k h)

@@ -173,7 +173,6 @@ impl<K: Keeper + Drop> Holder<K> {
 
 impl Holder<MemKeeper> {
     /// Over a keeper in memory that has no record.
-    #[tactic(auto, using(plc_base::proofs::Opening::empty_gapless))]
     pub fn fresh(alloc: Global) -> Result<Holder<MemKeeper>, Fail> {
         let keeper = MemKeeper::new(alloc)?;
         Ok(Holder::start(keeper)?)
