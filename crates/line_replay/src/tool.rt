@@ -1,6 +1,6 @@
 //! All that the program does.
 ghost use Rattle.std.specs.Prelude.{◌≡◌, ◌≤◌, ◌⊎◌, Some, None};
-ghost use Rattle.std.specs.Io.KnownBytes.{IsAtEnd, Keeps};
+ghost use Rattle.std.specs.Io.KnownBytes.{IsAtEnd};
 ghost use Rattle.plc_base.specs.Causes.{Rose};
 ghost use Rattle.line_replay.specs.Tool.{Ran, Replays, Tells, command_of};
 ghost use Rattle.line_driver.specs.Outcomes.{outcome};
@@ -129,10 +129,10 @@ pub fn run_tool<S: Source, K: Sink>(
     // What ends Fine was read whole.
     ensures whole_script { command_of words.now ≡ Some Command.Replay → result ≡ Status.Fine → IsAtEnd (S.left source.new) }
     ensures whole_frames { command_of words.now ≡ Some Command.Show → result ≡ Status.Fine → IsAtEnd (S.left source.new) }
-    // The vectors are those of the definitions.
-    ensures vectors { command_of words.now ≡ Some Command.Vectors → Keeps (S.left source.old) (S.left source.new) × Tells vectors_text Status.Fine (K.taken sink.old) (K.taken sink.new) (Rose (K.faults sink.old) (K.faults sink.new)) result }
-    // Other words write the usage line.
-    ensures usage { command_of words.now ≡ None → Keeps (S.left source.old) (S.left source.new) × Tells usage_text Status.Usage (K.taken sink.old) (K.taken sink.new) (Rose (K.faults sink.old) (K.faults sink.new)) result }
+    // The vectors are those of the definitions, and nothing is read for them.
+    ensures vectors { command_of words.now ≡ Some Command.Vectors → (source.new ≡ source.old) × Tells vectors_text Status.Fine (K.taken sink.old) (K.taken sink.new) (Rose (K.faults sink.old) (K.faults sink.new)) result }
+    // Other words write the usage line, and nothing is read.
+    ensures usage { command_of words.now ≡ None → (source.new ≡ source.old) × Tells usage_text Status.Usage (K.taken sink.old) (K.taken sink.new) (Rose (K.faults sink.old) (K.faults sink.new)) result }
     // A fault has its cause outside.
     ensures read { result ≡ Status.ReadFault → Rose (S.faults source.old) (S.faults source.new) }
     ensures write { result ≡ Status.WriteFault → Rose (K.faults sink.old) (K.faults sink.new) }

@@ -1,5 +1,6 @@
 //! Events, and what happens at them.
 use plc_base::{DatagramBuf, Eui, Key, LinkCost, Octets};
+use thiserror::Error;
 
 /// The octets that a line can hold in hexadecimal: at most 2,048.
 pub type LineOctets = Octets<2048>;
@@ -93,14 +94,18 @@ pub struct Happenings {
 }
 
 /// Why an event was not taken. The world is then as it was.
-#[derive(Clone, Copy, Debug, PartialEq, Eq)]
+#[derive(Clone, Copy, Debug, PartialEq, Eq, Error)]
 pub enum StepFault {
     /// There was no memory for it.
+    #[error("there is not enough memory for the event")]
     Memory,
     /// The event does not fit the setup of the line.
+    #[error("the event does not fit the setup of the line")]
     Setup,
     /// A node is not there.
+    #[error("there is no such node")]
     Node,
     /// The flight is not there.
+    #[error("there is no such flight")]
     Flight,
 }
