@@ -16,6 +16,7 @@ mod out_frame;
 mod slot_table;
 mod standard;
 mod streams;
+mod tags;
 
 pub use address::{Eui, PAN, Short};
 pub use grant::Grant;
@@ -30,3 +31,4 @@ pub use out_frame::OutFrame;
 pub use slot_table::{SlotEntry, SlotTable};
 pub use standard::{StdSink, StdSource};
 pub use streams::{Failed, Sink, Source, write_all};
+pub use tags::{PairTag, PairTags, TagList, TagText};

@@ -1,0 +1,4 @@
+pub mod Keys
+pub mod Messages
+pub mod Faults
+pub mod Tags

@@ -1,0 +1,171 @@
+//! The coordinator's end.
+ghost use Rattle.std.specs.Prelude.{◌≡◌, ◌≤◌, ◌↔◌, ◌+◌, ◌∷◌, [], length, Some, None, IsSome, IfOk, IfSome, OnOk, OnErr, MatchResult};
+ghost use Rattle.octet_fields.specs.Fields.{after, octet, part};
+ghost use Rattle.eap_psk.specs.Keys.{transient_key, mac_p};
+ghost use Rattle.eap_psk.specs.Messages.{First, Second, Third, Fourth, granting_text};
+ghost use Rattle.eap_psk.specs.Faults.{rand_p_of, second_fault, fourth_fault};
+ghost use Rattle.eap_psk.specs.Tags.{no_tags, mac_p_tag, mac_s_tag, granting_tag, success_tag};
+
+use crate::channel::{open_channel, write_channel};
+use crate::fault::EapFault;
+use crate::keys::PskKeys;
+use crate::reading::{check_same, fourth_of, second_of};
+use crate::writing::{fourth_header, granting_text, mac_p_input, mac_s_input, third_header, write_head};
+use aes_modes::cmac;
+use octet_fields::rest_at;
+use plc_base::{EapBuf, Eui, Grant, PairTag, Rand, TagList, TagText};
+
+/// The random values of a session that both ends have shown to share.
+#[derive(Clone, Copy, Debug, PartialEq, Eq)]
+pub struct Agreed {
+    /// The server's.
+    pub rand_s: Rand,
+    /// The peer's.
+    pub rand_p: Rand,
+}
+
+/// A session at the server: the coordinator's end of one EAP-PSK exchange.
+#[derive(Clone, Copy, Debug, PartialEq, Eq)]
+pub struct Server {
+    /// ID_P: the EUI-64 of the joining node.
+    pub eui: Eui,
+    /// ID_S: the coordinator's own EUI-64.
+    pub id_s: Eui,
+    /// RAND_S, which the server chose.
+    pub rand_s: Rand,
+    /// RAND_P, once the second message was taken.
+    pub rand_p: Option<Rand>,
+}
+
+impl Server {
+    /// Begins a session with the node of this EUI-64, and writes the first message, of 30 octets, in place of what `out` held.
+    pub fn first(eui: Eui, id_s: Eui, rand_s: Rand, out: &mut EapBuf) -> Server
+        ensures server { result ≡ record { eui = eui; id_s = id_s; rand_s = rand_s; rand_p = None } }
+        ensures message { First 1 rand_s.0 id_s.0 out.new }
+    {
+        out.clear();
+        write_head(1, 1, 30, 0, &rand_s, out);
+        out.append(&id_s.0);
+        Server {
+            eui,
+            id_s,
+            rand_s,
+            rand_p: None,
+        }
+    }
+
+    /// The number of the message that the server awaits: 2, or 4 once it took the second.
+    pub fn awaits(&self) -> u8
+        ensures second { (result ≡ 2) ↔ (self.now.rand_p ≡ None) }
+        ensures fourth { (result ≡ 4) ↔ IsSome self.now.rand_p }
+    {
+        if self.rand_p.is_some() { 4 } else { 2 }
+    }
+
+    /// Takes the second message. Where it is right, writes the third message, which carries the grant, in place of what `out` held,
+    /// and answers the server that awaits the fourth.
+    ///
+    /// `tags` gets MAC_P as opened, and MAC_S and the channel's tag as made. After a fault `out` and `tags` are empty. A fault
+    /// is [`EapFault::Form`], [`EapFault::OtherSession`] or [`EapFault::BadMac`].
+    pub fn take_second(
+        &self,
+        keys: &PskKeys,
+        packet: &[u8],
+        grant: &Grant,
+        out: &mut EapBuf,
+        tags: &mut TagList,
+    ) -> Result<Server, EapFault>
+        requires awaits { self.now.rand_p ≡ None }
+        // A fault is the first one.
+        ensures exact { MatchResult result (λ _. second_fault keys.now self.now packet.now ≡ None) (λ e. second_fault keys.now self.now packet.now ≡ Some e) }
+        ensures next { IfOk result (λ next. next ≡ record self.now { rand_p = Some (record { 0 = rand_p_of packet.now }) }) }
+        // What is taken is the second message of this session.
+        ensures read { OnOk result (Second keys.now.ak 1 self.now.rand_s.0 (rand_p_of packet.now) self.now.id_s.0 self.now.eui.0 packet.now) }
+        ensures written { OnOk result (Third keys.now.ak (transient_key keys.now.kdk (rand_p_of packet.now)) 2 self.now.rand_s.0 (rand_p_of packet.now) self.now.id_s.0 (granting_text grant.now) out.new) }
+        ensures tags { OnOk result (tags.new ≡ record {
+            made = mac_s_tag self.now.eui self.now.id_s (record { 0 = rand_p_of packet.now }) ∷ granting_tag self.now.eui 2 self.now.rand_s (record { 0 = rand_p_of packet.now }) (granting_text grant.now) ∷ [];
+            opened = mac_p_tag self.now.eui self.now.id_s self.now.rand_s (record { 0 = rand_p_of packet.now }) ∷ [] }) }
+        ensures refused { OnErr result ((out.new ≡ []) × (tags.new ≡ no_tags)) }
+    {
+        out.clear();
+        *tags = TagList::new();
+        let second = second_of(packet)?;
+        check_same(&second.rand_s.0, &self.rand_s.0, EapFault::OtherSession)?;
+        check_same(&second.id_p.0, &self.eui.0, EapFault::OtherSession)?;
+        let answer = mac_p_input(&self.eui, &self.id_s, &self.rand_s, &second.rand_p);
+        check_same(&second.mac_p, &cmac(keys.authentication(), answer.octets()), EapFault::BadMac)?;
+        let rand_p = second.rand_p;
+        let claim = mac_s_input(&self.id_s, &rand_p);
+        let text = granting_text(grant);
+        let header = third_header(2, &self.rand_s, text.octets());
+        out.append(header.octets());
+        out.append(&cmac(keys.authentication(), claim.octets()));
+        write_channel(&keys.transient(&rand_p), 0, header.octets(), text.octets(), out);
+        tags.opened.push(PairTag::MacP {
+            eui: self.eui,
+            text: answer,
+        });
+        tags.made.push(PairTag::MacS {
+            eui: self.eui,
+            text: claim,
+        });
+        tags.made.push(PairTag::Channel {
+            eui: self.eui,
+            rand_p,
+            nonce: 0,
+            header,
+            text,
+        });
+        Ok(Server {
+            rand_p: Some(rand_p),
+            ..*self
+        })
+    }
+
+    /// Takes the fourth message. Where it is right, both ends hold the same random values, which are answered.
+    ///
+    /// `tags` gets the channel's tag as opened. After a fault `tags` is empty. A fault is [`EapFault::Form`],
+    /// [`EapFault::OtherSession`], [`EapFault::BadChannel`] or [`EapFault::NoSuccess`].
+    pub fn take_fourth(&self, keys: &PskKeys, packet: &[u8], tags: &mut TagList) -> Result<Agreed, EapFault>
+        requires awaits { IsSome self.now.rand_p }
+        // A fault is the first one.
+        ensures exact { IfSome self.now.rand_p (λ rand_p. MatchResult result (λ _. fourth_fault keys.now self.now rand_p.0 packet.now ≡ None) (λ e. fourth_fault keys.now self.now rand_p.0 packet.now ≡ Some e)) }
+        ensures agreed { IfOk result (λ agreed. (agreed.rand_s ≡ self.now.rand_s) × (Some agreed.rand_p ≡ self.now.rand_p)) }
+        // What is taken is the fourth message of this session.
+        ensures read { IfOk result (λ agreed. Fourth (transient_key keys.now.kdk agreed.rand_p.0) 2 self.now.rand_s.0 packet.now) }
+        ensures tags { IfOk result (λ agreed. tags.new ≡ record { made = []; opened = success_tag self.now.eui 2 self.now.rand_s agreed.rand_p ∷ [] }) }
+        ensures refused { OnErr result (tags.new ≡ no_tags) }
+    {
+        self.take_fourth_with(self.rand_p.unwrap(), keys, packet, tags)
+    }
+
+    // The same with RAND_P.
+    #[tactic(auto, unfolding(octet_fields::specs::Fields::octet))]
+    fn take_fourth_with(&self, rand_p: Rand, keys: &PskKeys, packet: &[u8], tags: &mut TagList) -> Result<Agreed, EapFault>
+        ensures exact { MatchResult result (λ _. fourth_fault keys.now self.now rand_p.0 packet.now ≡ None) (λ e. fourth_fault keys.now self.now rand_p.0 packet.now ≡ Some e) }
+        ensures agreed { IfOk result (λ agreed. agreed ≡ record { rand_s = self.now.rand_s; rand_p = rand_p }) }
+        ensures read { OnOk result (Fourth (transient_key keys.now.kdk rand_p.0) 2 self.now.rand_s.0 packet.now) }
+        ensures tags { OnOk result (tags.new ≡ record { made = []; opened = success_tag self.now.eui 2 self.now.rand_s rand_p ∷ [] }) }
+        ensures refused { OnErr result (tags.new ≡ no_tags) }
+    {
+        *tags = TagList::new();
+        let fourth = fourth_of(packet)?;
+        check_same(&fourth.head.rand_s.0, &self.rand_s.0, EapFault::OtherSession)?;
+        let tek = keys.transient(&rand_p);
+        let text = open_channel(&tek, 1, &fourth.head.octets, &fourth.tag, rest_at(packet, 42))?;
+        if text.octets()[0] != 0x80 {
+            return Err(EapFault::NoSuccess);
+        }
+        tags.opened.push(PairTag::Channel {
+            eui: self.eui,
+            rand_p,
+            nonce: 1,
+            header: TagText::from_octets(&fourth.head.octets),
+            text: TagText::from_octets(&[0x80]),
+        });
+        Ok(Agreed {
+            rand_s: self.rand_s,
+            rand_p,
+        })
+    }
+}

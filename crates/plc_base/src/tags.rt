@@ -1,0 +1,128 @@
+//! The tags that authenticate the messages of a joining, by what they were computed over.
+ghost use Rattle.std.specs.Prelude.{◌≡◌, ◌<◌, ◌++◌, ◌∷◌, [], length};
+
+use crate::{Eui, Octets, Rand};
+use arrayvec::ArrayVec;
+use std::marker::Model;
+
+/// What a tag was computed over: at most 64 octets.
+pub type TagText = Octets<64>;
+
+/// A tag between a joining node and the coordinator, named by the node and by what the tag was computed over (RFC 4764, 3.2
+/// and 3.3).
+#[derive(Debug, Drop)]
+pub enum PairTag {
+    /// MAC_P: by it the node shows that it holds the pair key.
+    MacP {
+        /// The node.
+        eui: Eui,
+        /// ID_P, ID_S, RAND_S, RAND_P.
+        text: TagText,
+    },
+    /// MAC_S: by it the coordinator shows that it holds the pair key.
+    MacS {
+        /// The node.
+        eui: Eui,
+        /// ID_S, RAND_P.
+        text: TagText,
+    },
+    /// The tag of the protected channel.
+    Channel {
+        /// The node.
+        eui: Eui,
+        /// RAND_P, of which the channel's key is made.
+        rand_p: Rand,
+        /// The nonce: 0 from the coordinator, 1 from the node.
+        nonce: u32,
+        /// The packet's first 22 octets, which the tag covers.
+        header: TagText,
+        /// The plain text.
+        text: TagText,
+    },
+}
+
+impl Default for PairTag {
+    /// A blank, for an unused place of a list.
+    fn default() -> PairTag {
+        PairTag::MacS {
+            eui: Eui([0; 8]),
+            text: TagText::new(),
+        }
+    }
+}
+
+/// At most two tags. A contract sees the list of them.
+#[derive(Debug, Drop)]
+pub struct PairTags {
+    items: ArrayVec<PairTag, 2>,
+}
+
+impl Model for PairTags {
+    ghost use Rattle.std.specs.Prelude.{List};
+    ghost use Rattle.plc_base.specs.declared.tags.PairTag.{PairTag};
+
+    ghost Value = { List PairTag };
+
+    ghost view = { λ t. t.items.items };
+}
+
+impl PairTags {
+    /// No tag.
+    pub fn new() -> PairTags
+        ensures { result ≡ [] }
+    {
+        PairTags {
+            items: ArrayVec::new(),
+        }
+    }
+
+    /// The tags, in the order in which they were pushed.
+    pub fn tags(&self) -> &[PairTag]
+        ensures { result.now ≡ self.now }
+    {
+        self.items.as_slice()
+    }
+
+    /// Appends a tag.
+    pub fn push(&mut self, tag: PairTag)
+        requires { length self.old < 2 }
+        ensures { self.new ≡ self.old ++ tag ∷ [] }
+    {
+        self.items.push(tag);
+    }
+}
+
+impl Default for PairTags {
+    /// No tag.
+    fn default() -> PairTags {
+        PairTags::new()
+    }
+}
+
+/// The tags of one step: those that the node made, and those that it checked and found right.
+#[derive(Debug, Drop)]
+pub struct TagList {
+    /// The tags that were made.
+    pub made: PairTags,
+    /// The tags that were checked and found right.
+    pub opened: PairTags,
+}
+
+impl TagList {
+    /// No tags.
+    pub fn new() -> TagList
+        ensures { result ≡ record { made = []; opened = [] } }
+    {
+        TagList {
+            made: PairTags::new(),
+            opened: PairTags::new(),
+        }
+    }
+}
+
+impl Default for TagList {
+    /// No tags.
+    fn default() -> TagList {
+        TagList::new()
+    }
+}
