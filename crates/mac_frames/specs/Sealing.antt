@@ -1,5 +1,5 @@
 -- Sealed frames: CCM* with tags of 4 octets (IEEE 802.15.4-2006, section 7.6.3 and annex B).
-use Rattle.std.specs.Prelude.{ℕ, List, [], ◌∷◌, ◌++◌}
+use Rattle.std.specs.Prelude.{◌≡◌, ℕ, ◌-◌, List, [], ◌∷◌, ◌++◌, length, take, drop}
 use Rattle.byteorder.specs.Endian.{big_bytes}
 use Rattle.aes_modes.specs.Ccm.{ccm_text, ccm_tag}
 use Rattle.mac_frames.specs.declared.head.MacHead.{MacHead}
@@ -17,6 +17,21 @@ abbrev pub nonce_of : MacHead → List ℕ
 nonce_of (Sealed ack seq pan to from counter index) = nonce pan from counter
 nonce_of (Up ack version seq pan to from) = []
 nonce_of (Down ack version seq pan to from) = []
+
+-- the encrypted payload and the tag that a sealed body is
+abbrev pub sealed_text : List ℕ → List ℕ
+sealed_text body = take (length body - 4) body
+
+abbrev pub sealed_tag : List ℕ → List ℕ
+sealed_tag body = drop (length body - 4) body
+
+-- the payload of a sealed body under a key and the nonce of a head, whatever its tag
+unfoldable pub payload_in : List ℕ → MacHead → List ℕ → List ℕ
+payload_in key head body = ccm_text key (nonce_of head) (sealed_text body)
+
+-- its tag is the one that the key, the head, the header's octets and that payload have
+unfoldable pub HasTag : List ℕ → MacHead → List ℕ → List ℕ → Type 0
+HasTag key head front body = sealed_tag body ≡ ccm_tag 4 key (nonce_of head) front (payload_in key head body)
 
 -- The octets are a frame whose body is the payload, encrypted under the key and the head's nonce, and the
 -- tag of all octets before it and the payload.

@@ -2,7 +2,7 @@
 ghost use Rattle.std.specs.Prelude.{◌≡◌, ◌≤◌, ◌↔◌, ◌++◌, ℕ, List, [], length, IsOk, OnOk, OnErr};
 ghost use Rattle.aes_modes.specs.Ccm.{ccm_tag, ccm_text};
 ghost use Rattle.mac_frames.specs.Grammar.{Frame, IsAllowed, IsSealed};
-ghost use Rattle.mac_frames.specs.Sealing.{SealedFrame, nonce, nonce_of};
+ghost use Rattle.mac_frames.specs.Sealing.{HasTag, SealedFrame, nonce, nonce_of, payload_in};
 
 use crate::head::MacHead;
 use crate::reading::RawFrame;
@@ -102,6 +102,9 @@ fn open_text(
 pub fn open_frame(aes: &Aes, raw: &RawFrame<'_>, out: &mut FrameBuf) -> Result<(), BadTag>
     requires sealed { IsSealed raw.now.head }
     requires frame { Frame raw.now.head raw.now.body.now (raw.now.header.now ++ raw.now.body.now) }
+    // It opens exactly where the tag is right.
+    ensures tag { IsOk result ↔ HasTag aes.now raw.now.head raw.now.header.now raw.now.body.now }
+    ensures payload { OnOk result (out.new ≡ payload_in aes.now raw.now.head raw.now.body.now) }
     // What opens was sealed so.
     ensures opened { OnOk result (SealedFrame raw.now.head aes.now out.new (raw.now.header.now ++ raw.now.body.now)) }
     // What was sealed so opens.

@@ -1,5 +1,8 @@
 use Rattle.std.proofs.Common.{◌≡◌, ◌++◌, ◌-◌, length, sym, ◌∙◌, arith}
 use Rattle.std.proofs.lemmas.List.{take-append-drop}
+use Rattle.std.proofs.lemmas.Result.{on_ok_weaker}
+use Rattle.aes_modes.specs.Ccm.{ccm_tag, ccm_text}
+use Rattle.mac_frames.specs.Sealing.{HasTag, nonce_of, payload_in}
 use Rattle.mac_frames.proofs.Opening.{opens_only, opens_so, tag_fits}
 use Rattle.mac_frames.proofs.sealing.open_frame.Goals as goal
 use Rattle.mac_frames.proofs.sealing.open_frame.Goals.{After-open_text}
@@ -22,3 +25,25 @@ returns-clause-only c = λ payload sealed.
     c.args.raw.now.body.now c.split_at.result.0.now c.split_at.result.1.now c.open_text.new.out payload
     c.requires.frame (parts c)
     (omega (arith, tag_fits c.args.raw.now.head c.args.raw.now.body.now c.requires.sealed c.requires.frame.rest)) c.nonce_of.ensures c.open_text.ensures.tag.1 c.open_text.ensures.opened sealed
+
+-- the tag that opening wants, of the body's parts
+wanted : (c : After-open_text)
+    → ccm_tag 4 c.args.aes.now c.nonce_of.result c.args.raw.now.header.now (ccm_text c.args.aes.now c.nonce_of.result c.split_at.result.0.now)
+    ≡ ccm_tag 4 c.args.aes.now (nonce_of c.args.raw.now.head) c.args.raw.now.header.now (payload_in c.args.aes.now c.args.raw.now.head c.args.raw.now.body.now)
+unfolding payload_in
+wanted c = λ i.
+    ccm_tag 4 c.args.aes.now (c.nonce_of.ensures i) c.args.raw.now.header.now
+    (ccm_text c.args.aes.now (c.nonce_of.ensures i) (c.split_at.ensures.front i))
+
+pub returns-clause-tag : goal.returns-clause-tag
+unfolding HasTag
+returns-clause-tag c = (
+  λ ok. sym c.split_at.ensures.back ∙ c.open_text.ensures.tag.0 ok ∙ wanted c,
+  λ right. c.open_text.ensures.tag.1 (c.split_at.ensures.back ∙ right ∙ sym (wanted c)),
+)
+
+pub returns-clause-payload : goal.returns-clause-payload
+unfolding payload_in
+returns-clause-payload c =
+    on_ok_weaker c.open_text.result
+    (λ is. is ∙ (λ i. ccm_text c.args.aes.now (c.nonce_of.ensures i) (c.split_at.ensures.front i))) c.open_text.ensures.opened
