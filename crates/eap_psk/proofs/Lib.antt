@@ -1,4 +1,6 @@
 pub mod Blocks
 pub mod Fronts
+pub mod Named
+pub mod Passing
 pub mod Relations
 pub mod Same

@@ -44,7 +44,13 @@ fn opens(tek: &Aes, nonce: u32, header: &[u8], tag: &[u8; 16], text: &mut [u8]) 
 
 // The plain text of a channel.
 #[tactic(auto, using(crate::proofs::Same::same_is))]
-pub(crate) fn open_channel(tek: &Aes, nonce: u32, header: &[u8], tag: &[u8; 16], sealed: &[u8]) -> Result<EapBuf, EapFault>
+pub(crate) fn open_channel(
+    tek: &Aes,
+    nonce: u32,
+    header: &[u8],
+    tag: &[u8; 16],
+    sealed: &[u8],
+) -> Result<EapBuf, EapFault>
     requires { length sealed.now ≤ 128 }
     ensures { MatchResult result
         (λ x. (same tag.now (channel_tag tek.now nonce header.now sealed.now) ≡ true) × (tag.now ≡ channel_tag tek.now nonce header.now sealed.now) × (x ≡ channel_text tek.now nonce sealed.now) × (length x ≡ length sealed.now))

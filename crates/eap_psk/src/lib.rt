@@ -9,6 +9,7 @@
 mod channel;
 mod fault;
 mod keys;
+pub mod laws;
 mod peer;
 mod reading;
 mod server;

@@ -86,8 +86,9 @@ impl Peer {
         ensures agreed { IfOk result (λ x. x.1 ≡ record { rand_s = self.now.rand_s; rand_p = self.now.rand_p }) }
         ensures written { IfOk result (λ x. Fourth (transient_key keys.now.kdk self.now.rand_p.0) (octet 1 packet.now) self.now.rand_s.0 out.new) }
         ensures tags { IfOk result (λ x. tags.new ≡ record {
-            made = success_tag self.now.eui (octet 1 packet.now) self.now.rand_s self.now.rand_p ∷ [];
-            opened = mac_s_tag self.now.eui self.now.id_s self.now.rand_p ∷ granting_tag self.now.eui (octet 1 packet.now) self.now.rand_s self.now.rand_p (granting_text x.0) ∷ [] }) }
+          made = success_tag self.now.eui (octet 1 packet.now) self.now.rand_s self.now.rand_p ∷ [];
+          opened = mac_s_tag self.now.eui self.now.id_s self.now.rand_p ∷ granting_tag self.now.eui (octet 1 packet.now) self.now.rand_s self.now.rand_p (granting_text x.0) ∷ [];
+        }) }
         ensures refused { OnErr result ((out.new ≡ []) × (tags.new ≡ no_tags)) }
     {
         out.clear();
@@ -95,7 +96,11 @@ impl Peer {
         let third = third_of(packet)?;
         check_same(&third.head.rand_s.0, &self.rand_s.0, EapFault::OtherSession)?;
         let claim = mac_s_input(&self.id_s, &self.rand_p);
-        check_same(&third.mac_s, &cmac(keys.authentication(), claim.octets()), EapFault::BadMac)?;
+        check_same(
+            &third.mac_s,
+            &cmac(keys.authentication(), claim.octets()),
+            EapFault::BadMac,
+        )?;
         let tek = keys.transient(&self.rand_p);
         let text = open_channel(&tek, 0, &third.head.octets, &third.tag, rest_at(packet, 58))?;
         let grant = granting_of(text.octets())?;

@@ -51,7 +51,7 @@ fn fields_of(packet: &[u8], code: u8, number: u8) -> Result<Fields, EapFault>
     requires long { 22 ≤ length packet.now }
     ensures { MatchResult result
         (λ x. (head_stands code number packet.now ≡ true) × (x.identifier ≡ octet 1 packet.now) × (x.rand_s.0 ≡ part 6 16 packet.now) × (length x.rand_s.0 ≡ 16)
-            × (packet.now ≡ head code x.identifier (length packet.now) number x.rand_s.0 ++ after 22 packet.now))
+        × (packet.now ≡ head code x.identifier (length packet.now) number x.rand_s.0 ++ after 22 packet.now))
         (λ e. (head_stands code number packet.now ≡ false) × (e ≡ EapFault.Form)) }
 {
     let first = octet_at(packet, 0)?;
@@ -72,8 +72,8 @@ fn head_of(packet: &[u8], code: u8, number: u8) -> Result<Head, EapFault>
     requires long { 22 ≤ length packet.now }
     ensures { MatchResult result
         (λ x. (head_stands code number packet.now ≡ true) × (x.identifier ≡ octet 1 packet.now) × (x.rand_s.0 ≡ part 6 16 packet.now) × (length x.rand_s.0 ≡ 16)
-            × (x.octets ≡ part 0 22 packet.now) × (x.octets ≡ head code x.identifier (length packet.now) number x.rand_s.0)
-            × (packet.now ≡ head code x.identifier (length packet.now) number x.rand_s.0 ++ after 22 packet.now))
+        × (x.octets ≡ part 0 22 packet.now) × (x.octets ≡ head code x.identifier (length packet.now) number x.rand_s.0)
+        × (packet.now ≡ head code x.identifier (length packet.now) number x.rand_s.0 ++ after 22 packet.now))
         (λ e. (head_stands code number packet.now ≡ false) × (e ≡ EapFault.Form)) }
 {
     let fields = fields_of(packet, code, number)?;
@@ -119,7 +119,7 @@ pub(crate) struct SecondMessage {
 pub(crate) fn second_of(packet: &[u8]) -> Result<SecondMessage, EapFault>
     ensures { MatchResult result
         (λ x. (is_second packet.now ≡ true) × (x.rand_s.0 ≡ part 6 16 packet.now) × (x.rand_p.0 ≡ part 22 16 packet.now) × (x.mac_p ≡ part 38 16 packet.now) × (x.id_p.0 ≡ part 54 8 packet.now)
-            × (packet.now ≡ head 2 1 62 1 x.rand_s.0 ++ (x.rand_p.0 ++ (x.mac_p ++ x.id_p.0))))
+        × (packet.now ≡ head 2 1 62 1 x.rand_s.0 ++ (x.rand_p.0 ++ (x.mac_p ++ x.id_p.0))))
         (λ e. (is_second packet.now ≡ false) × (e ≡ EapFault.Form)) }
 {
     if packet.len() != 62 {
@@ -152,8 +152,8 @@ pub(crate) struct ThirdMessage {
 pub(crate) fn third_of(packet: &[u8]) -> Result<ThirdMessage, EapFault>
     ensures { MatchResult result
         (λ x. (is_third packet.now ≡ true) × (x.head.octets ≡ part 0 22 packet.now) × (x.head.octets ≡ head 1 x.head.identifier (length packet.now) 2 x.head.rand_s.0) × (58 ≤ length packet.now) × (length packet.now ≤ 128) × (x.head.identifier ≡ octet 1 packet.now)
-            × (x.head.rand_s.0 ≡ part 6 16 packet.now) × (length x.head.rand_s.0 ≡ 16) × (x.mac_s ≡ part 22 16 packet.now) × (x.tag ≡ part 42 16 packet.now)
-            × (packet.now ≡ head 1 x.head.identifier (length packet.now) 2 x.head.rand_s.0 ++ (x.mac_s ++ (big_bytes 4 0 ++ (x.tag ++ after 58 packet.now)))))
+        × (x.head.rand_s.0 ≡ part 6 16 packet.now) × (length x.head.rand_s.0 ≡ 16) × (x.mac_s ≡ part 22 16 packet.now) × (x.tag ≡ part 42 16 packet.now)
+        × (packet.now ≡ head 1 x.head.identifier (length packet.now) 2 x.head.rand_s.0 ++ (x.mac_s ++ (big_bytes 4 0 ++ (x.tag ++ after 58 packet.now)))))
         (λ e. (is_third packet.now ≡ false) × (e ≡ EapFault.Form)) }
 {
     if packet.len() < 58 || packet.len() > 128 {
@@ -179,7 +179,7 @@ pub(crate) struct FourthMessage {
 pub(crate) fn fourth_of(packet: &[u8]) -> Result<FourthMessage, EapFault>
     ensures { MatchResult result
         (λ x. (is_fourth packet.now ≡ true) × (length packet.now ≡ 43) × (x.head.octets ≡ part 0 22 packet.now) × (x.head.octets ≡ head 2 2 43 3 x.head.rand_s.0) × (x.head.rand_s.0 ≡ part 6 16 packet.now) × (length x.head.rand_s.0 ≡ 16) × (x.tag ≡ part 26 16 packet.now)
-            × (packet.now ≡ head 2 2 43 3 x.head.rand_s.0 ++ (big_bytes 4 1 ++ (x.tag ++ after 42 packet.now))))
+        × (packet.now ≡ head 2 2 43 3 x.head.rand_s.0 ++ (big_bytes 4 1 ++ (x.tag ++ after 42 packet.now))))
         (λ e. (is_fourth packet.now ≡ false) × (e ≡ EapFault.Form)) }
 {
     if packet.len() != 43 {

@@ -10,7 +10,9 @@ use crate::channel::{open_channel, write_channel};
 use crate::fault::EapFault;
 use crate::keys::PskKeys;
 use crate::reading::{check_same, fourth_of, second_of};
-use crate::writing::{fourth_header, granting_text, mac_p_input, mac_s_input, third_header, write_head};
+use crate::writing::{
+    fourth_header, granting_text, mac_p_input, mac_s_input, third_header, write_head,
+};
 use aes_modes::cmac;
 use octet_fields::rest_at;
 use plc_base::{EapBuf, Eui, Grant, PairTag, Rand, TagList, TagText};
@@ -83,8 +85,9 @@ impl Server {
         ensures read { OnOk result (Second keys.now.ak 1 self.now.rand_s.0 (rand_p_of packet.now) self.now.id_s.0 self.now.eui.0 packet.now) }
         ensures written { OnOk result (Third keys.now.ak (transient_key keys.now.kdk (rand_p_of packet.now)) 2 self.now.rand_s.0 (rand_p_of packet.now) self.now.id_s.0 (granting_text grant.now) out.new) }
         ensures tags { OnOk result (tags.new ≡ record {
-            made = mac_s_tag self.now.eui self.now.id_s (record { 0 = rand_p_of packet.now }) ∷ granting_tag self.now.eui 2 self.now.rand_s (record { 0 = rand_p_of packet.now }) (granting_text grant.now) ∷ [];
-            opened = mac_p_tag self.now.eui self.now.id_s self.now.rand_s (record { 0 = rand_p_of packet.now }) ∷ [] }) }
+          made = mac_s_tag self.now.eui self.now.id_s (record { 0 = rand_p_of packet.now }) ∷ granting_tag self.now.eui 2 self.now.rand_s (record { 0 = rand_p_of packet.now }) (granting_text grant.now) ∷ [];
+          opened = mac_p_tag self.now.eui self.now.id_s self.now.rand_s (record { 0 = rand_p_of packet.now }) ∷ [];
+        }) }
         ensures refused { OnErr result ((out.new ≡ []) × (tags.new ≡ no_tags)) }
     {
         out.clear();
@@ -93,14 +96,24 @@ impl Server {
         check_same(&second.rand_s.0, &self.rand_s.0, EapFault::OtherSession)?;
         check_same(&second.id_p.0, &self.eui.0, EapFault::OtherSession)?;
         let answer = mac_p_input(&self.eui, &self.id_s, &self.rand_s, &second.rand_p);
-        check_same(&second.mac_p, &cmac(keys.authentication(), answer.octets()), EapFault::BadMac)?;
+        check_same(
+            &second.mac_p,
+            &cmac(keys.authentication(), answer.octets()),
+            EapFault::BadMac,
+        )?;
         let rand_p = second.rand_p;
         let claim = mac_s_input(&self.id_s, &rand_p);
         let text = granting_text(grant);
         let header = third_header(2, &self.rand_s, text.octets());
         out.append(header.octets());
         out.append(&cmac(keys.authentication(), claim.octets()));
-        write_channel(&keys.transient(&rand_p), 0, header.octets(), text.octets(), out);
+        write_channel(
+            &keys.transient(&rand_p),
+            0,
+            header.octets(),
+            text.octets(),
+            out,
+        );
         tags.opened.push(PairTag::MacP {
             eui: self.eui,
             text: answer,
@@ -126,7 +139,12 @@ impl Server {
     ///
     /// `tags` gets the channel's tag as opened. After a fault `tags` is empty. A fault is [`EapFault::Form`],
     /// [`EapFault::OtherSession`], [`EapFault::BadChannel`] or [`EapFault::NoSuccess`].
-    pub fn take_fourth(&self, keys: &PskKeys, packet: &[u8], tags: &mut TagList) -> Result<Agreed, EapFault>
+    pub fn take_fourth(
+        &self,
+        keys: &PskKeys,
+        packet: &[u8],
+        tags: &mut TagList,
+    ) -> Result<Agreed, EapFault>
         requires awaits { IsSome self.now.rand_p }
         // A fault is the first one.
         ensures exact { IfSome self.now.rand_p (λ rand_p. MatchResult result (λ _. fourth_fault keys.now self.now rand_p.0 packet.now ≡ None) (λ e. fourth_fault keys.now self.now rand_p.0 packet.now ≡ Some e)) }
@@ -141,7 +159,13 @@ impl Server {
 
     // The same with RAND_P.
     #[tactic(auto, unfolding(octet_fields::specs::Fields::octet))]
-    fn take_fourth_with(&self, rand_p: Rand, keys: &PskKeys, packet: &[u8], tags: &mut TagList) -> Result<Agreed, EapFault>
+    fn take_fourth_with(
+        &self,
+        rand_p: Rand,
+        keys: &PskKeys,
+        packet: &[u8],
+        tags: &mut TagList,
+    ) -> Result<Agreed, EapFault>
         ensures exact { MatchResult result (λ _. fourth_fault keys.now self.now rand_p.0 packet.now ≡ None) (λ e. fourth_fault keys.now self.now rand_p.0 packet.now ≡ Some e) }
         ensures agreed { IfOk result (λ agreed. agreed ≡ record { rand_s = self.now.rand_s; rand_p = rand_p }) }
         ensures read { OnOk result (Fourth (transient_key keys.now.kdk rand_p.0) 2 self.now.rand_s.0 packet.now) }
@@ -150,9 +174,19 @@ impl Server {
     {
         *tags = TagList::new();
         let fourth = fourth_of(packet)?;
-        check_same(&fourth.head.rand_s.0, &self.rand_s.0, EapFault::OtherSession)?;
+        check_same(
+            &fourth.head.rand_s.0,
+            &self.rand_s.0,
+            EapFault::OtherSession,
+        )?;
         let tek = keys.transient(&rand_p);
-        let text = open_channel(&tek, 1, &fourth.head.octets, &fourth.tag, rest_at(packet, 42))?;
+        let text = open_channel(
+            &tek,
+            1,
+            &fourth.head.octets,
+            &fourth.tag,
+            rest_at(packet, 42),
+        )?;
         if text.octets()[0] != 0x80 {
             return Err(EapFault::NoSuccess);
         }

@@ -10,11 +10,20 @@ use std::process::Abort;
 use std::test::Fail;
 
 const NODE: Eui = Eui([1, 2, 3, 4, 5, 6, 7, 8]);
+
 const COORDINATOR: Eui = Eui([0xAA, 0xBB, 0xCC, 0xDD, 0xEE, 0xFF, 0, 0x11]);
+
 const COUNTED: [u8; 16] = [0, 1, 2, 3, 4, 5, 6, 7, 8, 9, 10, 11, 12, 13, 14, 15];
-const PSK: Key = Key([16, 17, 18, 19, 20, 21, 22, 23, 24, 25, 26, 27, 28, 29, 30, 31]);
+
+const PSK: Key = Key([
+    16, 17, 18, 19, 20, 21, 22, 23, 24, 25, 26, 27, 28, 29, 30, 31,
+]);
+
 const RAND_S: Rand = Rand(COUNTED);
-const RAND_P: Rand = Rand([0xF0, 0xF1, 0xF2, 0xF3, 0xF4, 0xF5, 0xF6, 0xF7, 0xF8, 0xF9, 0xFA, 0xFB, 0xFC, 0xFD, 0xFE, 0xFF]);
+
+const RAND_P: Rand = Rand([
+    0xF0, 0xF1, 0xF2, 0xF3, 0xF4, 0xF5, 0xF6, 0xF7, 0xF8, 0xF9, 0xFA, 0xFB, 0xFC, 0xFD, 0xFE, 0xFF,
+]);
 
 // An exchange with one pair key, up to its end.
 #[derive(Drop)]
@@ -38,22 +47,53 @@ fn run_through(rt: &impl Abort) -> Exchange {
     let keys = PskKeys::of(&PSK);
     let grant = grant_of(Short::new(1).expect(rt, "an address"));
     let mut tags = TagList::new();
-    let mut packets = [EapBuf::new(), EapBuf::new(), EapBuf::new(), EapBuf::new()];
-    let [first, second, third, fourth] = &mut packets;
-    let server = Server::first(NODE, COORDINATOR, RAND_S, first);
-    let peer = Peer::answer_first(&keys, NODE, RAND_P, first.octets(), second, &mut tags).expect(rt, "a first message");
+    let (mut first, mut second, mut third, mut fourth) = (
+        EapBuf::new(),
+        EapBuf::new(),
+        EapBuf::new(),
+        EapBuf::new(),
+    );
+    let server = Server::first(NODE, COORDINATOR, RAND_S, &mut first);
+    let peer = Peer::answer_first(
+        &keys,
+        NODE,
+        RAND_P,
+        first.octets(),
+        &mut second,
+        &mut tags,
+    ).expect(rt, "a first message");
     assert_eq!(rt; (tags.made.tags().len(), tags.opened.tags().len()), (1, 0));
-    let later = server.take_second(&keys, second.octets(), &grant, third, &mut tags).expect(rt, "a second message");
+    let later = server
+        .take_second(&keys, second.octets(), &grant, &mut third, &mut tags)
+        .expect(rt, "a second message");
     assert_eq!(rt; (tags.made.tags().len(), tags.opened.tags().len()), (2, 1));
-    let (got, agreed) = peer.take_third(&keys, third.octets(), fourth, &mut tags).expect(rt, "a third message");
+    let (got, agreed) = peer
+        .take_third(&keys, third.octets(), &mut fourth, &mut tags)
+        .expect(rt, "a third message");
     assert_eq!(rt; (tags.made.tags().len(), tags.opened.tags().len()), (1, 2));
-    assert_eq!(rt; (got.address, got.active), (grant.address, 0));
-    assert_eq!(rt; got.keys, grant.keys);
+    let (wanted, got) = (&grant, &got);
+    assert_eq!(rt; (got.address, got.active), (wanted.address, 0));
+    assert_eq!(rt; got.keys, wanted.keys);
     assert!(rt; later.awaits() == 4);
-    assert_eq!(rt; later.take_fourth(&keys, fourth.octets(), &mut tags), Ok(agreed));
-    assert_eq!(rt; agreed, Agreed { rand_s: RAND_S, rand_p: RAND_P });
+    assert_eq!(rt;
+        later.take_fourth(&keys, fourth.octets(), &mut tags),
+        Ok(agreed)
+    );
+    assert_eq!(rt;
+        agreed,
+        Agreed {
+            rand_s: RAND_S,
+            rand_p: RAND_P
+        }
+    );
     assert_eq!(rt; (tags.made.tags().len(), tags.opened.tags().len()), (0, 1));
-    Exchange { keys, server, later, peer, packets }
+    Exchange {
+        keys,
+        server,
+        later,
+        peer,
+        packets: [first, second, third, fourth],
+    }
 }
 
 // Tags of an earlier step, which every call replaces.
@@ -65,14 +105,25 @@ fn old_tags() -> TagList {
 }
 
 fn count(tags: &TagList) -> usize {
-    tags.made.tags().len().wrapping_add(tags.opened.tags().len())
+    tags.made
+        .tags()
+        .len()
+        .wrapping_add(tags.opened.tags().len())
 }
 
 // What each end answers to a packet. After a fault nothing is written and no tag is told.
 fn first(rt: &impl Abort, run: &Exchange, packet: &EapBuf) -> Option<EapFault> {
     let mut out = EapBuf::from_octets(&[1]);
     let mut tags = old_tags();
-    let fault = Peer::answer_first(&run.keys, NODE, RAND_P, packet.octets(), &mut out, &mut tags).err();
+    let fault = Peer::answer_first(
+        &run.keys,
+        NODE,
+        RAND_P,
+        packet.octets(),
+        &mut out,
+        &mut tags,
+    )
+    .err();
     assert_eq!(rt; fault.is_some(), out.is_empty());
     assert_eq!(rt; fault.is_some(), count(&tags) == 0);
     fault
@@ -83,7 +134,10 @@ fn second(rt: &impl Abort, run: &Exchange, packet: &EapBuf) -> Option<EapFault> 
     let mut out = EapBuf::from_octets(&[1]);
     let mut tags = old_tags();
     assert!(rt; run.server.awaits() == 2);
-    let fault = run.server.take_second(&run.keys, packet.octets(), &grant, &mut out, &mut tags).err();
+    let fault = run
+        .server
+        .take_second(&run.keys, packet.octets(), &grant, &mut out, &mut tags)
+        .err();
     assert_eq!(rt; fault.is_some(), out.is_empty());
     assert_eq!(rt; fault.is_some(), count(&tags) == 0);
     fault
@@ -92,7 +146,10 @@ fn second(rt: &impl Abort, run: &Exchange, packet: &EapBuf) -> Option<EapFault> 
 fn third(rt: &impl Abort, run: &Exchange, packet: &EapBuf) -> Option<EapFault> {
     let mut out = EapBuf::from_octets(&[1]);
     let mut tags = old_tags();
-    let fault = run.peer.take_third(&run.keys, packet.octets(), &mut out, &mut tags).err();
+    let fault = run
+        .peer
+        .take_third(&run.keys, packet.octets(), &mut out, &mut tags)
+        .err();
     assert_eq!(rt; fault.is_some(), out.is_empty());
     assert_eq!(rt; fault.is_some(), count(&tags) == 0);
     fault
@@ -101,7 +158,10 @@ fn third(rt: &impl Abort, run: &Exchange, packet: &EapBuf) -> Option<EapFault> {
 fn fourth(rt: &impl Abort, run: &Exchange, packet: &EapBuf) -> Option<EapFault> {
     let mut tags = old_tags();
     assert!(rt; run.later.awaits() == 4);
-    let fault = run.later.take_fourth(&run.keys, packet.octets(), &mut tags).err();
+    let fault = run
+        .later
+        .take_fourth(&run.keys, packet.octets(), &mut tags)
+        .err();
     assert_eq!(rt; fault.is_some(), count(&tags) == 0);
     fault
 }
@@ -110,17 +170,38 @@ fn fourth(rt: &impl Abort, run: &Exchange, packet: &EapBuf) -> Option<EapFault> 
 fn the_four_packets(rt: HostRuntime) -> Result<(), Fail> {
     let run = run_through(&rt);
     let [first, second, third, fourth] = &run.packets;
-    let (counted, rand_p) = ("000102030405060708090a0b0c0d0e0f", "f0f1f2f3f4f5f6f7f8f9fafbfcfdfeff");
-    let (mac_p, mac_s) = ("7a45bd226672d566b602854499f41345", "9669174b52bbffae8dada5a5bb8a0c20");
+    let (counted, rand_p) = (
+        "000102030405060708090a0b0c0d0e0f",
+        "f0f1f2f3f4f5f6f7f8f9fafbfcfdfeff",
+    );
+    let (mac_p, mac_s) = (
+        "7a45bd226672d566b602854499f41345",
+        "9669174b52bbffae8dada5a5bb8a0c20",
+    );
     let text = format!(in rt.alloc(); "0101001e2f00{counted}aabbccddeeff0011")?;
-    assert_eq!(rt; first.octets(), hex::decode(rt.alloc(), text.as_str())?.as_slice());
+    assert_eq!(rt;
+        first.octets(),
+        hex::decode(rt.alloc(), text.as_str())?.as_slice()
+    );
     let text = format!(in rt.alloc(); "0201003e2f40{counted}{rand_p}{mac_p}0102030405060708")?;
-    assert_eq!(rt; second.octets(), hex::decode(rt.alloc(), text.as_str())?.as_slice());
+    assert_eq!(rt;
+        second.octets(),
+        hex::decode(rt.alloc(), text.as_str())?.as_slice()
+    );
     let text = format!(in rt.alloc(); "010200562f80{counted}{mac_s}00000000")?;
     assert_eq!(rt; third.len(), 86);
-    assert!(rt; third.octets().starts_with(hex::decode(rt.alloc(), text.as_str())?.as_slice()));
-    let text = format!(in rt.alloc(); "0202002b2fc0{counted}00000001537b52e37ec9582b96a413dd7bde963e08")?;
-    assert_eq!(rt; fourth.octets(), hex::decode(rt.alloc(), text.as_str())?.as_slice());
+    assert!(rt;
+        third
+            .octets()
+            .starts_with(hex::decode(rt.alloc(), text.as_str())?.as_slice())
+    );
+    let text = format!(in rt.alloc();
+        "0202002b2fc0{counted}00000001537b52e37ec9582b96a413dd7bde963e08"
+    )?;
+    assert_eq!(rt;
+        fourth.octets(),
+        hex::decode(rt.alloc(), text.as_str())?.as_slice()
+    );
     Ok(())
 }
 
@@ -137,11 +218,19 @@ fn a_third_message_with_two_keys(rt: HostRuntime) {
     let mut tags = TagList::new();
     assert!(rt; run.server.awaits() == 2);
     let [_, second, _, _] = &run.packets;
-    assert!(rt; run.server.take_second(&run.keys, second.octets(), &grant, &mut out, &mut tags).is_ok());
+    assert!(rt;
+        run.server
+            .take_second(&run.keys, second.octets(), &grant, &mut out, &mut tags)
+            .is_ok()
+    );
     assert_eq!(rt; out.len(), 105);
-    let (got, _) = run.peer.take_third(&run.keys, out.octets(), &mut answer, &mut tags).expect(&rt, "a third message");
-    assert_eq!(rt; (got.address, got.active), (grant.address, 1));
-    assert_eq!(rt; got.keys, grant.keys);
+    let (got, _) = run
+        .peer
+        .take_third(&run.keys, out.octets(), &mut answer, &mut tags)
+        .expect(&rt, "a third message");
+    let (wanted, got) = (&grant, &got);
+    assert_eq!(rt; (got.address, got.active), (wanted.address, 1));
+    assert_eq!(rt; got.keys, wanted.keys);
 }
 
 // The packet with one bit changed, in the octet at a place.
@@ -228,27 +317,59 @@ fn every_length(rt: HostRuntime) {
 fn texts_that_say_no_success(rt: HostRuntime) {
     let run = run_through(&rt);
     let tek = run.keys.transient(&RAND_P);
-    let list = [0xA0, 2, 1, 2, 0, 1, 2, 1, 0, 3, 0x11, 0, 0, 1, 2, 3, 4, 5, 6, 7, 8, 9, 10, 11, 12, 13, 14, 15];
+    let list = [
+        0xA0, 2, 1, 2, 0, 1, 2, 1, 0, 3, 0x11, 0, 0, 1, 2, 3, 4, 5, 6, 7, 8, 9, 10, 11, 12, 13, 14,
+        15,
+    ];
     for (text, want) in [
         ([0x80].as_slice(), Some(NoSuccess)),
         ([].as_slice(), Some(NoSuccess)),
         ([0xA0].as_slice(), Some(NoSuccess)),
         ([0xA0, 2].as_slice(), Some(NoSuccess)),
         ([0xA0, 2, 1, 2, 0, 1, 2, 1, 0].as_slice(), Some(NoSuccess)),
-        ([0xA0, 3, 1, 2, 0, 1, 2, 1, 0, 3, 0x11, 0, 0, 1, 2, 3, 4, 5, 6, 7, 8, 9, 10, 11, 12, 13, 14, 15].as_slice(), Some(NoSuccess)),
-        ([0x80, 2, 1, 2, 0, 1, 2, 1, 0, 3, 0x11, 0, 0, 1, 2, 3, 4, 5, 6, 7, 8, 9, 10, 11, 12, 13, 14, 15].as_slice(), Some(NoSuccess)),
-        ([0xA0, 2, 1, 2, 0xFF, 0xFE, 2, 1, 0, 3, 0x11, 0, 0, 1, 2, 3, 4, 5, 6, 7, 8, 9, 10, 11, 12, 13, 14, 15].as_slice(), Some(NoSuccess)),
+        (
+            [
+                0xA0, 3, 1, 2, 0, 1, 2, 1, 0, 3, 0x11, 0, 0, 1, 2, 3, 4, 5, 6, 7, 8, 9, 10, 11, 12,
+                13, 14, 15,
+            ]
+            .as_slice(),
+            Some(NoSuccess),
+        ),
+        (
+            [
+                0x80, 2, 1, 2, 0, 1, 2, 1, 0, 3, 0x11, 0, 0, 1, 2, 3, 4, 5, 6, 7, 8, 9, 10, 11, 12,
+                13, 14, 15,
+            ]
+            .as_slice(),
+            Some(NoSuccess),
+        ),
+        (
+            [
+                0xA0, 2, 1, 2, 0xFF, 0xFE, 2, 1, 0, 3, 0x11, 0, 0, 1, 2, 3, 4, 5, 6, 7, 8, 9, 10,
+                11, 12, 13, 14, 15,
+            ]
+            .as_slice(),
+            Some(NoSuccess),
+        ),
         (list.as_slice(), None),
     ] {
         if text.len() <= 64 {
             let header = third_header(9, &RAND_S, text);
             let mut packet = EapBuf::from_octets(header.octets());
-            packet.append(&cmac(run.keys.authentication(), mac_s_input(&COORDINATOR, &RAND_P).octets()));
+            packet.append(&cmac(
+                run.keys.authentication(),
+                mac_s_input(&COORDINATOR, &RAND_P).octets(),
+            ));
             write_channel(&tek, 0, header.octets(), text, &mut packet);
             assert_eq!(rt; third(&rt, &run, &packet), want, "{text:?}");
         }
     }
-    for (octet, want) in [(0x80, None), (0x81, Some(NoSuccess)), (0, Some(NoSuccess)), (0xA0, Some(NoSuccess))] {
+    for (octet, want) in [
+        (0x80, None),
+        (0x81, Some(NoSuccess)),
+        (0, Some(NoSuccess)),
+        (0xA0, Some(NoSuccess)),
+    ] {
         let header = fourth_header(2, &RAND_S);
         let mut packet = EapBuf::from_octets(header.octets());
         write_channel(&tek, 1, header.octets(), &[octet], &mut packet);

@@ -7,7 +7,14 @@ use joining_messages::write_grant;
 use plc_base::{EapBuf, Eui, Grant, Octets, Rand, TagText};
 
 // Appends what every message begins with.
-pub(crate) fn write_head<const N: usize>(code: u8, identifier: u8, count: u16, number: u8, rand_s: &Rand, out: &mut Octets<N>)
+pub(crate) fn write_head<const N: usize>(
+    code: u8,
+    identifier: u8,
+    count: u16,
+    number: u8,
+    rand_s: &Rand,
+    out: &mut Octets<N>,
+)
     requires number { number ≤ 3 }
     requires room { length out.old + 22 ≤ N }
     ensures spelled { out.new ≡ out.old ++ head code identifier count number rand_s.now.0 }
@@ -50,7 +57,14 @@ pub(crate) fn third_header(identifier: u8, rand_s: &Rand, text: &[u8]) -> TagTex
     ensures length { length result ≡ 22 }
 {
     let mut header = TagText::new();
-    write_head(1, identifier, 58 + text.len() as u16, 2, rand_s, &mut header);
+    write_head(
+        1,
+        identifier,
+        58 + text.len() as u16,
+        2,
+        rand_s,
+        &mut header,
+    );
     header
 }
 

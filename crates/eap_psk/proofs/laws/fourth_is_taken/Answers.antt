@@ -1,0 +1,5 @@
+use Rattle.eap_psk.proofs.Passing.{fourth_taken}
+use Rattle.eap_psk.proofs.laws.fourth_is_taken.Goals as goal
+
+pub returns : goal.returns
+returns c = fourth_taken

@@ -1,0 +1,5 @@
+use Rattle.eap_psk.proofs.Passing.{second_taken}
+use Rattle.eap_psk.proofs.laws.second_is_taken.Goals as goal
+
+pub returns : goal.returns
+returns c = second_taken

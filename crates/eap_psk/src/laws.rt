@@ -1,0 +1,36 @@
+//! Laws of the four messages: what one end makes, the other takes, and both then hold the same random values and the same grant.
+//!
+//! The functions do nothing: each states laws over the definitions as its contract. With the clauses of [`Server`] and [`Peer`],
+//! which say that a message is taken exactly where it has no fault, and of which session it then is, they say that two ends with
+//! the same pair key whose messages are passed on reach the same end.
+//!
+//! [`Server`]: crate::Server
+//! [`Peer`]: crate::Peer
+ghost use Rattle.eap_psk.specs.Laws.{FirstIsTaken, FirstNamesTheSession, SecondIsTaken, ThirdIsTaken, ThirdGrantsOneThing, FourthIsTaken, GrantingTagsAgree};
+
+/// A first message is taken, and is of one session.
+pub fn first_is_taken()
+    ensures taken { FirstIsTaken }
+    ensures session { FirstNamesTheSession }
+{}
+
+/// A second message of the session is taken, with its RAND_P.
+pub fn second_is_taken()
+    ensures { SecondIsTaken }
+{}
+
+/// A third message of the session is taken, and grants one thing.
+pub fn third_is_taken()
+    ensures taken { ThirdIsTaken }
+    ensures grant { ThirdGrantsOneThing }
+{}
+
+/// A fourth message of the session is taken.
+pub fn fourth_is_taken()
+    ensures { FourthIsTaken }
+{}
+
+/// Two equal tags of channels that grant are of one node, of the same random values and of the same grant.
+pub fn granting_tags_agree()
+    ensures { GrantingTagsAgree }
+{}
