@@ -1,9 +1,10 @@
 //! The marks of the senders: the counter that was last admitted of each.
-ghost use Rattle.std.specs.Prelude.{◌≡◌, ◌⊎◌, ◌<◌, ◌≤◌, Ok, Some, None, is_ok, IfOk, IfErr, OnOk, OnErr, map, IsSorted, IsPermutation};
+ghost use Rattle.std.specs.Prelude.{◌≡◌, ◌⊎◌, ◌<◌, ◌≤◌, Ok, Some, None, List, is_ok, IfOk, IfErr, OnOk, OnErr, map, IsSorted, IsPermutation};
 ghost use Rattle.std.specs.Bool.{OnTrue};
 ghost use Rattle.std.specs.Ordering.{nat_cmp};
 ghost use Rattle.plc_base.specs.Keeper.{Stores, SameOutside};
 ghost use Rattle.plc_base.specs.SlotTables.{IsTable, IsGapless, IsReading, IsBad, opened};
+ghost use Rattle.frame_counters.specs.Admitted.{Admitted, Admits, AllEarlier};
 ghost use Rattle.frame_counters.specs.PeerMarks.{Table, peers, IsKept, at_rest, peer_ahead, mark_of, room_for, keep_write, kept_after, admit_result, admit_write, admit_after, is_stored};
 
 use crate::PeerFault;
@@ -83,6 +84,7 @@ pub struct PeerMarks {
 }
 
 impl Model for PeerMarks {
+    ghost use Rattle.frame_counters.specs.Admitted.{Admitted, Admits, AllEarlier};
     ghost use Rattle.frame_counters.specs.PeerMarks.{Table, table_code, IsCovered};
 
     ghost Value = { Table };
@@ -199,6 +201,8 @@ impl PeerMarks {
     ) -> Result<(), PeerFault>
         requires { IsKept self.old (K.store keeper.old).records }
         ensures answer { result ≡ admit_result self.old from counter (is_stored result) }
+        // It is above all that was admitted of the sender before, over any frames, failed puts and new starts.
+        ensures fresh { (before : List Admitted) → Admits before (Some self.old) (K.store keeper.old).records → OnOk result (AllEarlier from counter before) }
         ensures table { self.new ≡ admit_after self.old from counter (is_stored result) }
         ensures store { Stores (K.store keeper.old) (admit_write self.old from counter) (is_stored result) (K.store keeper.new) }
         ensures kept { OnTrue (is_stored result) (IsKept self.new (K.store keeper.new).records) }
