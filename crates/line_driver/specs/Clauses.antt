@@ -1,4 +1,4 @@
--- Content a machine's calls and the run over it say.
+-- What a machine's calls and the run over it say.
 use Rattle.std.specs.Prelude.{◌≡◌, ℕ, Bool, true, false, List, [], Result, Ok, Err, IsTrue}
 use Rattle.std.specs.declared.option.Option.{Option}
 use Rattle.std.specs.Io.KnownBytes.{Consumes, Appends}

@@ -21,20 +21,27 @@ pub const MAX_INPUT: u32 = 67_108_864;
 /// The octets of a line that is not too long.
 pub type LineBuffer = ArrayVec<u8, 4096>;
 
-/// Content was found: a line in the buffer, one that is too long, or the octet that is too much.
+/// What was found: a line in the buffer, one that is too long, or the octet that is too much.
 #[derive(Clone, Copy, Debug, PartialEq, Eq)]
 pub enum LineKind {
+    /// A line of at most 4,096 octets, which stand in the buffer.
     Text,
+    /// A line of more octets. They were counted and not kept.
     Long,
+    /// The octet behind the last that a script may have. No line follows.
     TooMuch,
 }
 
 /// How far a source was read.
 #[derive(Drop)]
 pub struct Input {
+    /// The octets that were read and are not used yet, at most 8,192.
     pub window: HeapCircularBuffer<u8>,
+    /// How many octets were taken out of the window.
     pub seen: u32,
+    /// How many lines were taken: the number of the last one.
     pub count: u32,
+    /// Whether a read has answered the end of input.
     pub ended: bool,
     ghost capacity: { window.capacity ≡ 8192 },
     ghost bounded: { length window.items ≤ 8192 },
@@ -43,6 +50,7 @@ pub struct Input {
 }
 
 impl Input {
+    /// Nothing read yet. It takes the memory of the window.
     pub fn new(alloc: Global) -> Result<Input, AllocError>
         ensures window { IfOk result (λ input. input.window.items ≡ []) }
         ensures seen { IfOk result (λ input. input.seen ≡ 0) }

@@ -6,7 +6,7 @@ mod laws;
 mod machine;
 mod telling;
 
-pub use input::{LineBuffer, LineKind, MAX_INPUT, MAX_LINE, WINDOW};
+pub use input::{LineKind, MAX_INPUT, MAX_LINE, WINDOW};
 pub use laws::lines_of_a_script;
 pub use machine::{Exit, LineMachine, run};
 pub use telling::{stop, tell};

@@ -11,25 +11,33 @@ use crate::input::{Input, LineBuffer, LineKind, WINDOW};
 use plc_base::{Failed, Sink, Source};
 use std::alloc::Global;
 
-/// How a run ended.
+/// How a run ended, or why a machine's call ends it.
 #[derive(Clone, Copy, Debug, PartialEq, Eq)]
 pub enum Exit {
+    /// The input was read to its end, and the text at the end was written.
     Fine,
+    /// A line is bad. Its report was written, and no line behind it was taken.
     BadScript,
+    /// There was not enough memory. A front of the text was written.
     Memory,
+    /// The source failed. The text of all whole lines before was written.
     ReadFault,
+    /// The sink failed. A front of the text was written.
     WriteFault,
 }
 
-/// Content takes the lines of a script one by one.
+/// What takes the lines of a script one by one.
 pub trait LineMachine {
-    /// Content a line of this number does, from this state on.
+    /// What a line of this number does, from this state on.
     ghost turn: { Self → ℕ → Content → Turn Self };
 
     /// The text at the end of input.
     ghost end_text: { Self → List ℕ };
 
-    /// Gives a line its turn, whose octets these are where it is a text.
+    /// Gives the line of this number its turn, whose octets these are where it is a text, and writes its report.
+    ///
+    /// `BadScript` where the line is bad, `WriteFault` where the sink failed, `Memory` for want of memory; never another
+    /// error. The machine is not used again after an error.
     fn take<K: Sink>(
         &mut self,
         number: u32,
@@ -40,7 +48,7 @@ pub trait LineMachine {
         ensures turned { Turned (K.taken sink.old) (K.taken sink.new) (Rose (K.faults sink.old) (K.faults sink.new)) self.old self.new (turn self.old number (content_found line.now kind)) result }
         ensures later { K.faults sink.old ≤ K.faults sink.new };
 
-    /// Writes the text at the end of input.
+    /// Writes the text at the end of input. `WriteFault` where the sink failed, `Memory` for want of memory.
     fn finish<K: Sink>(&self, sink: &mut K) -> Result<(), Exit>
         ensures told { Told (K.taken sink.old) (K.taken sink.new) (Rose (K.faults sink.old) (K.faults sink.new)) (end_text self.now) result }
         ensures later { K.faults sink.old ≤ K.faults sink.new };
@@ -97,7 +105,10 @@ fn take_line<M: LineMachine, K: Sink>(
     machine.take(number, kind, line.as_slice(), sink)
 }
 
-/// Reads a script from the source, and writes the report of a machine to the sink.
+/// Reads a script from the source line by line, and writes the report of a machine to the sink.
+///
+/// The report of a line is written before the next one is taken, and at a bad line at most 8,192 octets behind it were read. In what
+/// state the machine is left is not said.
 pub fn run<M: LineMachine, S: Source, K: Sink>(
     alloc: Global,
     machine: &mut M,

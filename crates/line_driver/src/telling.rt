@@ -1,5 +1,5 @@
 //! Texts that a machine writes.
-ghost use Rattle.std.specs.Prelude.{◌≡◌, ◌≤◌, IfOk, string_bytes, List, ℕ};
+ghost use Rattle.std.specs.Prelude.{◌≡◌, ◌≤◌, IfOk, IsErr, string_bytes, List, ℕ};
 ghost use Rattle.plc_base.specs.Causes.{Rose};
 ghost use Rattle.line_driver.specs.Clauses.{Told, StopsWith};
 
@@ -10,6 +10,7 @@ use std::alloc::AllocError;
 /// Writes a text, if there was memory for it.
 pub fn tell<K: Sink>(sink: &mut K, text: Result<String, AllocError>) -> Result<(), Exit>
     ensures told { (t : List ℕ) → IfOk text (λ s. string_bytes s ≡ t) → Told (K.taken sink.old) (K.taken sink.new) (Rose (K.faults sink.old) (K.faults sink.new)) t result }
+    ensures memory { result ≡ Err Exit.Memory → IsErr text }
     ensures later { K.faults sink.old ≤ K.faults sink.new }
 {
     match text {
@@ -24,6 +25,7 @@ pub fn tell<K: Sink>(sink: &mut K, text: Result<String, AllocError>) -> Result<(
 /// Writes the report of a bad line, at which the run stops.
 pub fn stop<K: Sink>(sink: &mut K, text: Result<String, AllocError>) -> Result<(), Exit>
     ensures stops { (t : List ℕ) → IfOk text (λ s. string_bytes s ≡ t) → StopsWith (K.taken sink.old) (K.taken sink.new) (Rose (K.faults sink.old) (K.faults sink.new)) t result }
+    ensures memory { result ≡ Err Exit.Memory → IsErr text }
     ensures later { K.faults sink.old ≤ K.faults sink.new }
 {
     match tell(sink, text) {

@@ -18,11 +18,11 @@ use Rattle.line_replay.specs.Texts.{end_text}
 -- what a taking says of the run that goes on
 abbrev GoesOn : World → Taking → Type 0
 GoesOn w Skipped = Unit {0}
-GoesOn w (Taken x) = (w.events < 50000) × (step w x.event ≡ Ok (x.after, x.happened))
+GoesOn w (Taken x) = (w.events < 50000) × (x.number ≡ w.events + 1) × (step w x.event ≡ Ok (x.after, x.happened))
 GoesOn w (Refused reason) = Unit {0}
 
 step_goes : (w : World) (event : Event) (r : Step) → w.events < 50000 → step w event ≡ r → GoesOn w (step_taking w event r)
-step_goes w event (Ok q) room is = (room, is)
+step_goes w event (Ok q) room is = (room, refl, is)
 step_goes w event (Err faults.Memory) room is = tt
 step_goes w event (Err faults.Setup) room is = tt
 step_goes w event (Err faults.Node) room is = tt
@@ -45,7 +45,7 @@ taking_goes w (Text octets) = reading_goes w (reading octets)
 
 run_by : (w : World) (t : Taking) (rest : World → List Entry) → GoesOn w t → ((next : World) → IsRun next (rest next)) → IsRun w (entries_by w t rest)
 run_by w Skipped rest on all = all w
-run_by w (Taken x) rest on all = (on.0, on.1, all x.after)
+run_by w (Taken x) rest on all = (on.0, on.1, on.2, all x.after)
 run_by w (Refused reason) rest on all = tt
 
 run_from : (ls : List Line) (w : World) → IsRun w (entries_from w ls)

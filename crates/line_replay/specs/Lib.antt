@@ -1,5 +1,6 @@
 pub mod Readings
 pub mod Report
 pub mod Shown
+pub mod Statuses
 pub mod Texts
 pub mod Tool

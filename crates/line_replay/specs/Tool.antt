@@ -45,8 +45,8 @@ pub record Ran (outcome : List ℕ → Bool → Outcome) (ahead : ℕ) (left0 le
 pub record Replays (ahead : ℕ) (left0 left1 taken0 taken1 : Option (List ℕ)) (ended : Bool) (source_rose sink_rose : Type 0) (result : Status) : Type 0 where
   pub ran : Ran outcome ahead left0 left1 taken0 taken1 ended source_rose sink_rose result
   -- the report is the lines of the run's entries, and then the last line
-  pub by_entries : report ran.b ended ≡ entries_text (entries ran.b ended) ++ last_text ran.b ended
-  pub safe : IsSafe (entries ran.b ended)
+  pub by_entries : (e : Bool) → report ran.b e ≡ entries_text (entries ran.b e) ++ last_text ran.b e
+  pub safe : (e : Bool) → IsSafe (entries ran.b e)
 
 -- Why a status comes where one text is written and nothing is read: all of it was written, and the status is the one for that; or
 -- the sink failed, and a front of it was written.

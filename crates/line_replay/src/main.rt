@@ -11,17 +11,32 @@ mod tests;
 mod tool;
 
 use plc_base::{StdSink, StdSource};
+use status::Status;
+use std::alloc::AllocError;
 use std::process::ExitCode;
 use std::{env, io};
 use tool::run_tool;
 
-fn main(rt: HostRuntime) -> io::Result<ExitCode> {
+/// The words after the program's name. A word that is no text is of no form, so it stands for none at all.
+fn words(rt: &HostRuntime) -> Result<Vec<String>, AllocError> {
     let mut words = Vec::new(rt.alloc());
-    for word in env::args(&rt)?.skip(1) {
+    let args = match env::args(rt) {
+        Ok(args) => args,
+        Err(fault) if fault.kind() == io::ErrorKind::OutOfMemory => return Err(AllocError),
+        Err(_) => return Ok(words),
+    };
+    for word in args.skip(1) {
         words.push(word)?;
     }
+    Ok(words)
+}
+
+fn main(rt: HostRuntime) -> ExitCode {
     let mut source = StdSource::new(rt.stdin());
     let mut sink = StdSink::new(rt.stdout());
-    let status = run_tool(rt.alloc(), words.as_slice(), &mut source, &mut sink);
-    Ok(ExitCode::from(status.number()))
+    let status = match words(&rt) {
+        Ok(words) => run_tool(rt.alloc(), words.as_slice(), &mut source, &mut sink),
+        Err(AllocError) => Status::Memory,
+    };
+    ExitCode::from(status.number())
 }

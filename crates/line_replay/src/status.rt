@@ -1,4 +1,5 @@
 //! How a call of the tool ends.
+ghost use Rattle.std.specs.Prelude.{◌≡◌};
 
 /// How a call of the tool ended. The program ends with its number.
 #[derive(Clone, Copy, Debug, PartialEq, Eq)]
@@ -18,8 +19,12 @@ pub enum Status {
 }
 
 impl Status {
+    ghost use Rattle.line_replay.specs.Statuses.{status_number};
+
     /// The number that the program ends with.
-    pub fn number(self) -> u8 {
+    pub fn number(self) -> u8
+        ensures { result ≡ status_number self }
+    {
         match self {
             Status::Fine => 0,
             Status::BadScript => 1,

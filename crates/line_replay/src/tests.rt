@@ -439,10 +439,10 @@ fn faults_of_the_outside(rt: HostRuntime) -> Result<(), Fail> {
     for number in 1..=20u32 {
         let (status, text) = run(rt.alloc(), &["replay", "-q"], script, 16, &[number], &[])?;
         assert!(rt; TWO_METERS_REPORT.starts_with(text.as_str()));
-        assert!(rt; status == Status::ReadFault || number > 15);
+        assert_eq!(rt; status == Status::ReadFault, number <= 16);
         let (status, text) = run(rt.alloc(), &["replay", "-q"], script, 16, &[], &[number])?;
         assert!(rt; TWO_METERS_REPORT.starts_with(text.as_str()));
-        assert!(rt; status == Status::WriteFault || number > 9);
+        assert_eq!(rt; status == Status::WriteFault, number <= 9);
     }
     Ok(())
 }

@@ -21,7 +21,7 @@ use Rattle.line_world.specs.Nodes.{marked, mark_of, is_above, is_own, new_node, 
 use Rattle.line_world.specs.Units.{whole_in}
 use Rattle.line_world.specs.Worlds.{World, start, node_at, flight_at}
 use Rattle.line_world.specs.Steps.{Step, step, happened, set_up, ran, has_begun, takes_setup, made, coordinated, metered, is_known, joined, joining, depoted, with_neighbour, set_near, nearing_by, nearing, neared, hop_by, goes_whole, went, sent_by, sent as sent_out, sending_by, sending, accepted, heard, came, delivering_by, delivering}
-use Rattle.line_world.specs.Runs.{Entry, IsRun, IsSafe, IsSafeAt, IsSafeAfter, IsReadable, IsNew, WasSent, Sending, entries_of, run, is_sent, sends_at, ups_by, send_at}
+use Rattle.line_world.specs.Runs.{Entry, IsRun, IsSafe, IsSafeAt, IsSafeAfter, IsReadable, IsNew, WasSent, Sending, entries_of, run, is_sent, is_delivery, IsDelivered, sends_at, ups_by, send_at}
 use Rattle.line_world.proofs.Keeping.{IsCarried, IsTaken, Keeps, none_there, all_none, keeps_setup, keeps_ran, keeps_up, keeps_went, some_nodes}
 use Rattle.line_world.proofs.Places.{get_push, get_stays, get_last, get_set, set_here, set_there, same_some}
 use Rattle.line_world.proofs.Naming.{IsNamed, named_none, named_push, named_join, named_kept, Kept, kept_all, kept_set, kept_twice, Rises}
@@ -32,14 +32,14 @@ use Rattle.line_world.proofs.Marking.{marks_rise, taken_in}
 record Good (sent : List Sending) (handed : List Handed) (event : Event) (q : World × Happenings) : Type 0 where
   keeps : Keeps q.0 (sent ++ sends_at event q.1) (handed ++ ups_by q.1.up)
   safe : IsSafeAt sent handed q.1
-  readable : q.1.answer ≢ BadUnit
+  readable : IsDelivered event q.1.answer
 
 no_send : (b : Bool) (none : List Sending) → none ≡ [] → (if b then none else none) ≡ []
 no_send true none empty = empty
 no_send false none empty = empty
 
 -- an event that neither sends nor hands up
-quietly : (sent : List Sending) (handed : List Handed) (event : Event) (w : World) (h : Happenings) → Keeps w sent handed → sends_at event h ≡ [] → h.up ≡ None → h.answer ≢ BadUnit → Good sent handed event (w, h)
+quietly : (sent : List Sending) (handed : List Handed) (event : Event) (w : World) (h : Happenings) → Keeps w sent handed → sends_at event h ≡ [] → h.up ≡ None → IsDelivered event h.answer → Good sent handed event (w, h)
 quietly sent handed event w h k unsent none readable = record {
   keeps = rw (unsent, none, append-nil sent, append-nil handed) k;
   safe = rw none tt;
@@ -93,17 +93,17 @@ named_first : (nodes : List Node) (depots : ℕ) (eui : Eui) (key : Key) → nod
 named_first nodes depots eui key none h = named_push nodes depots (new_node eui key (Some 0)) h (λ p e. let zero_is : 0 ≡ p = same_some e in omega (arith, zero_is)) (λ n x p is address e. none_there nodes n x none is)
 
 module _ (w : World) (sent : List Sending) (handed : List Handed) (k : Keeps w sent handed) where
-  made_good : (event : Event) (eui : Eui) (key : Key) (address : Option ℕ) → w.running ≡ false → IsNamed (w.nodes ++ new_node eui key address ∷ []) w.depots → sends_at event (happened w Made) ≡ [] → Good sent handed event (made w eui key address)
+  made_good : (event : Event) (eui : Eui) (key : Key) (address : Option ℕ) → w.running ≡ false → IsNamed (w.nodes ++ new_node eui key address ∷ []) w.depots → sends_at event (happened w Made) ≡ [] → IsDelivered event Made → Good sent handed event (made w eui key address)
   unfolding made
-  made_good event eui key address still named unsent =
-      quietly sent handed event (record (set_up w) { nodes = w.nodes ++ new_node eui key address ∷ [] }) (happened w Made) (keeps_setup w sent handed (w.nodes ++ new_node eui key address ∷ []) w.depots k still named (omega (arith, k.depots))) unsent refl (λ e. cc (e))
+  made_good event eui key address still named unsent heard =
+      quietly sent handed event (record (set_up w) { nodes = w.nodes ++ new_node eui key address ∷ [] }) (happened w Made) (keeps_setup w sent handed (w.nodes ++ new_node eui key address ∷ []) w.depots k still named (omega (arith, k.depots))) unsent refl heard
 
   coordinated_good : (eui : Eui) (key : Key) (q : World × Happenings) → coordinated w eui key ≡ taken_as q → Good sent handed (Coordinator eui key) q
   unfolding coordinated
   coordinated_good eui key q is =
       let t = passed (has_begun w) faults.Setup (Ok (made w eui key (Some 0))) q is in
       let none = no_nodes w t.0 in
-      subst (Good sent handed (Coordinator eui key)) (ok_same (made w eui key (Some 0)) q t.1) (made_good (Coordinator eui key) eui key (Some 0) (not_begun w.running (λ on. omega (arith, k.begun on, ap length none))) (named_first w.nodes w.depots eui key none k.named) refl)
+      subst (Good sent handed (Coordinator eui key)) (ok_same (made w eui key (Some 0)) q t.1) (made_good (Coordinator eui key) eui key (Some 0) (not_begun w.running (λ on. omega (arith, k.begun on, ap length none))) (named_first w.nodes w.depots eui key none k.named) refl tt)
     where
       not_begun : (b : Bool) → (b ≡ true → ⊥) → b ≡ false
       not_begun true never = absurd (never refl)
@@ -114,7 +114,7 @@ module _ (w : World) (sent : List Sending) (handed : List Handed) (k : Keeps w s
   metered_good eui psk q is =
       let t = passed (not (takes_setup w) || nat_lt 999 (length w.nodes) || is_known eui w.nodes) faults.Setup (Ok (made w eui psk None)) q is in
       let open_so = (neither (not (takes_setup w)) (nat_lt 999 (length w.nodes)) (neither (not (takes_setup w) || nat_lt 999 (length w.nodes)) (is_known eui w.nodes) t.0).0).0 in
-      subst (Good sent handed (Meter eui psk)) (ok_same (made w eui psk None) q t.1) (made_good (Meter eui psk) eui psk None (still_setup w (not_so (takes_setup w) open_so)) (named_new w.nodes w.depots eui psk k.named) refl)
+      subst (Good sent handed (Meter eui psk)) (ok_same (made w eui psk None) q t.1) (made_good (Meter eui psk) eui psk None (still_setup w (not_so (takes_setup w) open_so)) (named_new w.nodes w.depots eui psk k.named) refl tt)
 
   -- ---- depot
 
@@ -124,7 +124,7 @@ module _ (w : World) (sent : List Sending) (handed : List Handed) (k : Keeps w s
   joining_good number (Some node) q still is =
       let t = passed (number == 0 || is_some node.address) faults.Setup (Ok (joined w number node)) q is in
       let new = record node { address = Some (w.depots + 1) } in
-      subst (Good sent handed (Depot number)) (ok_same (joined w number node) q t.1) (quietly sent handed (Depot number) (joined w number node).0 (happened w Joined) (keeps_setup w sent handed (slice_set w.nodes number new) (w.depots + 1) k still (named_join w.nodes w.depots number new k.named refl) (omega (arith, k.depots))) refl refl (λ e. cc (e)))
+      subst (Good sent handed (Depot number)) (ok_same (joined w number node) q t.1) (quietly sent handed (Depot number) (joined w number node).0 (happened w Joined) (keeps_setup w sent handed (slice_set w.nodes number new) (w.depots + 1) k still (named_join w.nodes w.depots number new k.named refl) (omega (arith, k.depots))) refl refl tt)
 
   depoted_good : (number : ℕ) (q : World × Happenings) → depoted w number ≡ taken_as q → Good sent handed (Depot number) q
   unfolding depoted
@@ -133,11 +133,11 @@ module _ (w : World) (sent : List Sending) (handed : List Handed) (k : Keeps w s
 
   -- ---- near
 
-  nearing_good : (a b : ℕ) (cost : ℕ) (event : Event) (x y : Node) (p r : Option ℕ) (q : World × Happenings) → w.running ≡ false → slice_get w.nodes a ≡ Some x → slice_get w.nodes b ≡ Some y → sends_at event (happened w Set) ≡ [] → nearing_by w a b cost x y p r ≡ taken_as q → Good sent handed event q
+  nearing_good : (a b : ℕ) (cost : ℕ) (event : Event) (x y : Node) (p r : Option ℕ) (q : World × Happenings) → w.running ≡ false → slice_get w.nodes a ≡ Some x → slice_get w.nodes b ≡ Some y → sends_at event (happened w Set) ≡ [] → IsDelivered event Set → nearing_by w a b cost x y p r ≡ taken_as q → Good sent handed event q
   unfolding set_near
-  nearing_good a b cost event x y None r q still is_x is_y unsent is = absurd (cc (is))
-  nearing_good a b cost event x y (Some p) None q still is_x is_y unsent is = absurd (cc (is))
-  nearing_good a b cost event x y (Some p) (Some r) q still is_x is_y unsent is =
+  nearing_good a b cost event x y None r q still is_x is_y unsent heard is = absurd (cc (is))
+  nearing_good a b cost event x y (Some p) None q still is_x is_y unsent heard is = absurd (cc (is))
+  nearing_good a b cost event x y (Some p) (Some r) q still is_x is_y unsent heard is =
       let t = passed (a == b || has_neighbour x.near r || nat_lt 63 (length x.near) || nat_lt 63 (length y.near)) faults.Setup (Ok (set_near w a b cost x y p r)) q is in
       let apart = eqb-false a b (neither (a == b) (has_neighbour x.near r) (neither (a == b || has_neighbour x.near r) (nat_lt 63 (length x.near)) (neither (a == b || has_neighbour x.near r || nat_lt 63 (length x.near)) (nat_lt 63 (length y.near)) t.0).0).0).0 in
       let x' = with_neighbour x r cost in
@@ -145,20 +145,20 @@ module _ (w : World) (sent : List Sending) (handed : List Handed) (k : Keeps w s
       let one = kept_set w.nodes a x x' is_x refl (λ s c h. h) in
       let two = kept_set (slice_set w.nodes a x') b y y' (set_there w.nodes a x' b y (λ e. apart (sym e)) is_y) refl (λ s c h. h) in
       let named = named_kept w.nodes (slice_set (slice_set w.nodes a x') b y') w.depots (kept_twice w.nodes (slice_set w.nodes a x') (slice_set (slice_set w.nodes a x') b y') one two) k.named in
-      subst (Good sent handed event) (ok_same (set_near w a b cost x y p r) q t.1) (quietly sent handed event (set_near w a b cost x y p r).0 (happened w Set) (keeps_setup w sent handed (slice_set (slice_set w.nodes a x') b y') w.depots k still named (omega (arith, k.depots))) unsent refl (λ e. cc (e)))
+      subst (Good sent handed event) (ok_same (set_near w a b cost x y p r) q t.1) (quietly sent handed event (set_near w a b cost x y p r).0 (happened w Set) (keeps_setup w sent handed (slice_set (slice_set w.nodes a x') b y') w.depots k still named (omega (arith, k.depots))) unsent refl heard)
 
-  near_found : (a b cost : ℕ) (event : Event) (x y : Option Node) (q : World × Happenings) → w.running ≡ false → node_at w a ≡ x → node_at w b ≡ y → sends_at event (happened w Set) ≡ [] → nearing w a b cost x y ≡ taken_as q → Good sent handed event q
-  near_found a b cost event None y q still is_x is_y unsent is = absurd (cc (is))
-  near_found a b cost event (Some x) None q still is_x is_y unsent is = absurd (cc (is))
-  near_found a b cost event (Some x) (Some y) q still is_x is_y unsent is = nearing_good a b cost event x y x.address y.address q still is_x is_y unsent is
+  near_found : (a b cost : ℕ) (event : Event) (x y : Option Node) (q : World × Happenings) → w.running ≡ false → node_at w a ≡ x → node_at w b ≡ y → sends_at event (happened w Set) ≡ [] → IsDelivered event Set → nearing w a b cost x y ≡ taken_as q → Good sent handed event q
+  near_found a b cost event None y q still is_x is_y unsent heard is = absurd (cc (is))
+  near_found a b cost event (Some x) None q still is_x is_y unsent heard is = absurd (cc (is))
+  near_found a b cost event (Some x) (Some y) q still is_x is_y unsent heard is = nearing_good a b cost event x y x.address y.address q still is_x is_y unsent heard is
 
-  neared_good : (a b cost : ℕ) (event : Event) (q : World × Happenings) → sends_at event (happened w Set) ≡ [] → neared w a b cost ≡ taken_as q → Good sent handed event q
+  neared_good : (a b cost : ℕ) (event : Event) (q : World × Happenings) → sends_at event (happened w Set) ≡ [] → IsDelivered event Set → neared w a b cost ≡ taken_as q → Good sent handed event q
   unfolding neared
-  neared_good a b cost event q unsent is =
-      let t = goes (takes_setup w) faults.Setup (nearing w a b cost (node_at w a) (node_at w b)) q is in near_found a b cost event (node_at w a) (node_at w b) q (still_setup w t.0) refl refl unsent t.1
+  neared_good a b cost event q unsent heard is =
+      let t = goes (takes_setup w) faults.Setup (nearing w a b cost (node_at w a) (node_at w b)) q is in near_found a b cost event (node_at w a) (node_at w b) q (still_setup w t.0) refl refl unsent heard t.1
 
   -- an event that only counts
-  counted_good : (event : Event) (n : ℕ) (x : Node) (answer : Answer) → slice_get w.nodes n ≡ Some x → sends_at event (happened w answer) ≡ [] → answer ≢ BadUnit → Good sent handed event (ran w, happened w answer)
+  counted_good : (event : Event) (n : ℕ) (x : Node) (answer : Answer) → slice_get w.nodes n ≡ Some x → sends_at event (happened w answer) ≡ [] → IsDelivered event answer → Good sent handed event (ran w, happened w answer)
   counted_good event n x answer is unsent readable =
       quietly sent handed event (ran w) (happened w answer) (keeps_ran w sent handed w.nodes w.ups k (kept_all w.nodes) (some_nodes w.nodes n x is)) unsent refl readable
 
@@ -167,12 +167,12 @@ module _ (w : World) (sent : List Sending) (handed : List Handed) (k : Keeps w s
   went_good : (from to : ℕ) (x y : Node) (datagram : List ℕ) (p r : Option ℕ) (q : World × Happenings) → w.events < 50000 → slice_get w.nodes from ≡ Some x → slice_get w.nodes to ≡ Some y → x.address ≡ p → y.address ≡ r → goes_whole datagram ≡ true
       → sent_by w from x datagram (hop_by x p r) ≡ q → Good sent handed (Send from to datagram) q
   unfolding went goes_whole
-  went_good from to x y datagram None r q room is_x is_y own next whole is = subst (Good sent handed (Send from to datagram)) is (counted_good (Send from to datagram) from x NoRoute is_x refl (λ e. cc (e)))
-  went_good from to x y datagram (Some p) None q room is_x is_y own next whole is = subst (Good sent handed (Send from to datagram)) is (counted_good (Send from to datagram) from x NoRoute is_x refl (λ e. cc (e)))
+  went_good from to x y datagram None r q room is_x is_y own next whole is = subst (Good sent handed (Send from to datagram)) is (counted_good (Send from to datagram) from x NoRoute is_x refl tt)
+  went_good from to x y datagram (Some p) None q room is_x is_y own next whole is = subst (Good sent handed (Send from to datagram)) is (counted_good (Send from to datagram) from x NoRoute is_x refl tt)
   went_good from to x y datagram (Some p) (Some r) q room is_x is_y own next whole is = by_route (has_neighbour x.near r) is
     where
       by_route : (b : Bool) → sent_by w from x datagram (if b then Some (record { own = p; next = r }) else None) ≡ q → Good sent handed (Send from to datagram) q
-      by_route false e = subst (Good sent handed (Send from to datagram)) e (counted_good (Send from to datagram) from x NoRoute is_x refl (λ e. cc (e)))
+      by_route false e = subst (Good sent handed (Send from to datagram)) e (counted_good (Send from to datagram) from x NoRoute is_x refl tt)
       by_route true e = subst (Good sent handed (Send from to datagram)) e (record {
         keeps = subst (Keeps (went w from x p r datagram).0 (sent ++ record { from = from; to = to; datagram = datagram } ∷ [])) (sym (append-nil handed))
             (keeps_went w sent handed from to p r x y datagram k is_x is_y next
@@ -180,7 +180,7 @@ module _ (w : World) (sent : List Sending) (handed : List Handed) (k : Keeps w s
             (ltb-true 0 (length datagram) (both (nat_lt 0 (length datagram)) (nat_lt (length datagram) 376) whole).0)
             (omega (arith, ltb-true (length datagram) 376 (both (nat_lt 0 (length datagram)) (nat_lt (length datagram) 376) whole).1)));
         safe = tt;
-        readable = λ e. cc (e);
+        readable = tt;
       })
 
   sent_found : (from to : ℕ) (x y : Option Node) (datagram : List ℕ) (q : World × Happenings) → w.events < 50000 → node_at w from ≡ x → node_at w to ≡ y → sending_by w from datagram x y ≡ taken_as q → Good sent handed (Send from to datagram) q
@@ -191,7 +191,7 @@ module _ (w : World) (sent : List Sending) (handed : List Handed) (k : Keeps w s
     where
       by_size : (b : Bool) → goes_whole datagram ≡ b → (if b then sent_by w from x datagram (hop_by x x.address y.address) else (ran w, happened w BadSize)) ≡ q → Good sent handed (Send from to datagram) q
       by_size true whole e = went_good from to x y datagram x.address y.address q room is_x is_y refl refl whole e
-      by_size false whole e = subst (Good sent handed (Send from to datagram)) e (counted_good (Send from to datagram) from x BadSize is_x refl (λ e. cc (e)))
+      by_size false whole e = subst (Good sent handed (Send from to datagram)) e (counted_good (Send from to datagram) from x BadSize is_x refl tt)
 
   sending_good : (from to : ℕ) (datagram : List ℕ) (q : World × Happenings) → w.events < 50000 → sending w from to datagram ≡ taken_as q → Good sent handed (Send from to datagram) q
   unfolding sending
@@ -240,10 +240,10 @@ module _ (w : World) (sent : List Sending) (handed : List Handed) (k : Keeps w s
         cc (above, seen)
 
     -- the unit of the flight, when it is read
-    heard_good : (unit : Option WholeUnit) → whole_in f.unit ≡ unit → sends_at event (happened w Up) ≡ [] → Good sent handed event (heard (accepted w number node f.from f.counter) number f.to f.note unit)
+    heard_good : (unit : Option WholeUnit) → whole_in f.unit ≡ unit → sends_at event (happened w Up) ≡ [] → IsDelivered event Up → Good sent handed event (heard (accepted w number node f.from f.counter) number f.to f.note unit)
     unfolding up was_sent
-    heard_good None reads unsent = absurd (cc (reads, carried.reads))
-    heard_good (Some unit) reads unsent =
+    heard_good None reads unsent met = absurd (cc (reads, carried.reads))
+    heard_good (Some unit) reads unsent met =
         let unit_is : unit ≡ carried.unit = same_some (sym reads ∙ carried.reads) in
         let nodes = slice_set w.nodes number hearer in
         let after = record (ran w) { nodes = nodes; ups = w.ups + 1 } in
@@ -259,21 +259,21 @@ module _ (w : World) (sent : List Sending) (handed : List Handed) (k : Keeps w s
         let good : Good sent handed event (after, record (happened w Up) { up = Some up }) = record {
           keeps = subst (λ (s : List Sending). Keeps after s (handed ++ up ∷ [])) (sym (ap (λ (s : List Sending). sent ++ s) unsent ∙ append-nil sent)) (keeps_up after sent handed up kept refl taken);
           safe = (was_sent, is_new);
-          readable = λ e. cc (e);
+          readable = met;
         } in
         let test : unit.mesh.to == f.to ≡ true = eq-eqb unit.mesh.to f.to (ap (λ (u : WholeUnit). u.mesh.to) unit_is ∙ carried.to) in
         rw test (rw unit_is good)
 
-  came_good : (event : Event) (number j : ℕ) (node : Node) (f : Flight) → slice_get w.nodes number ≡ Some node → slice_get w.flights j ≡ Some f → ((a : Answer) → sends_at event (happened w a) ≡ []) → Good sent handed event (came w number node f)
+  came_good : (event : Event) (number j : ℕ) (node : Node) (f : Flight) → slice_get w.nodes number ≡ Some node → slice_get w.flights j ≡ Some f → ((a : Answer) → sends_at event (happened w a) ≡ []) → ((a : Answer) → is_delivery a ≡ true → IsDelivered event a) → Good sent handed event (came w number node f)
   unfolding came
-  came_good event number j node f is_node is_f unsent = by_target (is_own node.address f.to) refl
+  came_good event number j node f is_node is_f unsent met = by_target (is_own node.address f.to) refl
     where
       by_mark : (b : Bool) → is_above (mark_of node.marks f.from) f.counter ≡ b → node.address ≡ Some f.to → Good sent handed event (if not b then (ran w, happened w Replayed) else heard (accepted w number node f.from f.counter) number f.to f.note (whole_in f.unit))
-      by_mark false below own = counted_good event number node Replayed is_node (unsent Replayed) (λ e. cc (e))
-      by_mark true above own = heard_good event number j node f is_node is_f own above (whole_in f.unit) refl (unsent Up)
+      by_mark false below own = counted_good event number node Replayed is_node (unsent Replayed) (met Replayed refl)
+      by_mark true above own = heard_good event number j node f is_node is_f own above (whole_in f.unit) refl (unsent Up) (met Up refl)
 
       by_target : (b : Bool) → is_own node.address f.to ≡ b → Good sent handed event (if not b then (ran w, happened w NotForMe) else (if not (is_above (mark_of node.marks f.from) f.counter) then (ran w, happened w Replayed) else heard (accepted w number node f.from f.counter) number f.to f.note (whole_in f.unit)))
-      by_target false other = counted_good event number node NotForMe is_node (unsent NotForMe) (λ e. cc (e))
+      by_target false other = counted_good event number node NotForMe is_node (unsent NotForMe) (met NotForMe refl)
       by_target true own = by_mark (is_above (mark_of node.marks f.from) f.counter) refl (own_is node.address f.to own)
 
   flight_place : (number : ℕ) (f : Flight) → flight_at w number ≡ Some f → slice_get w.flights (number - 1) ≡ Some f
@@ -285,7 +285,7 @@ module _ (w : World) (sent : List Sending) (handed : List Handed) (k : Keeps w s
   delivered_found : (flight number cost : ℕ) (x : Option Node) (y : Option Flight) (q : World × Happenings) → node_at w number ≡ x → flight_at w flight ≡ y → delivering_by w number x y ≡ taken_as q → Good sent handed (Deliver flight number cost) q
   delivered_found flight number cost None y q is_x is_y is = absurd (cc (is))
   delivered_found flight number cost (Some x) None q is_x is_y is = absurd (cc (is))
-  delivered_found flight number cost (Some x) (Some f) q is_x is_y is = subst (Good sent handed (Deliver flight number cost)) (ok_same (came w number x f) q is) (came_good (Deliver flight number cost) number (flight - 1) x f is_x (flight_place flight f is_y) unsent)
+  delivered_found flight number cost (Some x) (Some f) q is_x is_y is = subst (Good sent handed (Deliver flight number cost)) (ok_same (came w number x f) q is) (came_good (Deliver flight number cost) number (flight - 1) x f is_x (flight_place flight f is_y) unsent (λ a h. h))
     where
       unsent : (a : Answer) → sends_at (Deliver flight number cost) (happened w a) ≡ []
       unsent a = no_send (is_sent a) [] refl
@@ -301,7 +301,7 @@ module _ (w : World) (sent : List Sending) (handed : List Handed) (k : Keeps w s
   step_good (Coordinator eui key) q room is = coordinated_good eui key q is
   step_good (Meter eui psk) q room is = metered_good eui psk q is
   step_good (Depot node) q room is = depoted_good node q is
-  step_good (Near a b cost) q room is = neared_good a b cost (Near a b cost) q refl is
+  step_good (Near a b cost) q room is = neared_good a b cost (Near a b cost) q refl tt is
   step_good (Send from to datagram) q room is = sending_good from to datagram q room is
   step_good (Deliver flight node cost) q room is = delivering_good flight node cost q is
 
@@ -323,8 +323,8 @@ keeps_start = record {
 safe_from : (entries : List Entry) (w : World) (sent : List Sending) (handed : List Handed) → Keeps w sent handed → IsRun w entries → IsSafeAfter sent handed entries × IsReadable entries
 safe_from [] w sent handed k is = (tt, tt)
 safe_from (x ∷ xs) w sent handed k is =
-    let good = step_good w sent handed k x.event (x.after, x.happened) is.0 is.1 in
-    let rest = safe_from xs x.after (sent ++ sends_at x.event x.happened) (handed ++ ups_by x.happened.up) good.keeps is.2 in ((good.safe, rest.0), (good.readable, rest.1))
+    let good = step_good w sent handed k x.event (x.after, x.happened) is.0 is.2 in
+    let rest = safe_from xs x.after (sent ++ sends_at x.event x.happened) (handed ++ ups_by x.happened.up) good.keeps is.3 in ((good.safe, rest.0), (good.readable, rest.1))
 
 pub safe_entries : (entries : List Entry) → IsRun start entries → IsSafe entries
 safe_entries entries is = (safe_from entries start [] [] keeps_start is).0
@@ -335,7 +335,7 @@ readable_entries entries is = (safe_from entries start [] [] keeps_start is).1
 run_step : (w : World) (event : Event) (r : Step) (rest : World → List Entry) (b : Bool) → nat_lt w.events 50000 ≡ b → step w event ≡ r → ((next : World) → IsRun next (rest next)) → IsRun w (if b then entries_of w event r rest else [])
 run_step w event r rest false room is on = tt
 run_step w event (Err fault) rest true room is on = tt
-run_step w event (Ok q) rest true room is on = (ltb-true w.events 50000 room, is, on q.0)
+run_step w event (Ok q) rest true room is on = (ltb-true w.events 50000 room, refl, is, on q.0)
 
 run_is : (events : List Event) (w : World) → IsRun w (run w events)
 run_is [] w = tt

@@ -1,9 +1,9 @@
 -- Runs of the world, and what holds of each of them.
 use Rattle.std.specs.Prelude.{◌≡◌, ◌≢◌, ℕ, ◌+◌, ◌-◌, ◌<◌, ◌==◌, nat_lt, Bool, true, false, List, [], ◌∷◌, ◌++◌, All, Option, None, Some, Ok, Err, Result, IfSome, slice_get, if◌then◌else◌}
 use Rattle.line_world.specs.declared.event.Answer.{Answer}
-use Rattle.line_world.specs.declared.event.Answer.TheVariants.{Sent, BadUnit}
+use Rattle.line_world.specs.declared.event.Answer.TheVariants.{Sent, Up, NotForMe, Replayed}
 use Rattle.line_world.specs.declared.event.Event.{Event}
-use Rattle.line_world.specs.declared.event.Event.TheVariants.{Send}
+use Rattle.line_world.specs.declared.event.Event.TheVariants.{Send, Deliver}
 use Rattle.line_world.specs.declared.event.Handed.{Handed}
 use Rattle.line_world.specs.declared.event.Happenings.{Happenings}
 use Rattle.line_world.specs.Worlds.{World}
@@ -31,7 +31,7 @@ run w (event ∷ events) = if nat_lt w.events 50000 then entries_of w event (ste
 -- the entries are a run from a world on
 abbrev pub IsRun : World → List Entry → Type 0
 IsRun w [] = Unit {0}
-IsRun w (x ∷ xs) = (w.events < 50000) × (step w x.event ≡ Ok (x.after, x.happened)) × IsRun x.after xs
+IsRun w (x ∷ xs) = (w.events < 50000) × (x.number ≡ w.events + 1) × (step w x.event ≡ Ok (x.after, x.happened)) × IsRun x.after xs
 
 -- ---- what a history says of datagrams
 
@@ -98,7 +98,19 @@ IsSafeAfter sent handed (x ∷ xs) = IsSafeAt sent handed x.happened × IsSafeAf
 abbrev pub IsSafe : List Entry → Type 0
 IsSafe entries = IsSafeAfter [] [] entries
 
--- every flight that comes to its node is a whole datagram
+-- whether an answer is one that a flight of `send` can meet
+abbrev pub is_delivery : Answer → Bool
+is_delivery Up = true
+is_delivery NotForMe = true
+is_delivery Replayed = true
+is_delivery _ = false
+
+abbrev pub IsDelivered : Event → Answer → Type 0
+IsDelivered (Deliver flight node cost) answer = is_delivery answer ≡ true
+IsDelivered _ answer = Unit {0}
+
+-- every flight is a whole datagram for the address that it goes to, so that a delivery hands it up, or it is for another node, or it
+-- is a repeat
 abbrev pub IsReadable : List Entry → Type 0
 IsReadable [] = Unit {0}
-IsReadable (x ∷ xs) = (x.happened.answer ≢ BadUnit) × IsReadable xs
+IsReadable (x ∷ xs) = IsDelivered x.event x.happened.answer × IsReadable xs

@@ -12,34 +12,48 @@ pub type LineOctets = Octets<2048>;
 pub enum Event {
     /// Makes node 0, the coordinator, with its group key.
     Coordinator {
+        /// Its identity.
         eui: Eui,
+        /// The group key.
         key: Key,
     },
     /// Makes the next node, a meter, with its preshared key.
     Meter {
+        /// Its identity.
         eui: Eui,
+        /// The preshared key.
         psk: Key,
     },
     /// Joins a meter in the workshop.
     Depot {
+        /// The meter.
         node: u32,
     },
     /// Gives two joined nodes the route to each other, over one hop of this cost.
     Near {
+        /// One of the two.
         a: u32,
+        /// The other.
         b: u32,
+        /// What the link between them costs.
         cost: LinkCost,
     },
     /// Sends a datagram from a node to a node.
     Send {
+        /// The node that sends it.
         from: u32,
+        /// The node that it is for.
         to: u32,
+        /// Its octets.
         datagram: LineOctets,
     },
     /// Brings a flight to a node over a link of this cost.
     Deliver {
+        /// The flight's number, from 1.
         flight: u32,
+        /// The node that hears it.
         node: u32,
+        /// What the link that it came over costs.
         cost: LinkCost,
     },
 }
@@ -57,7 +71,7 @@ pub enum Answer {
     Sent,
     /// A datagram was handed up.
     Up,
-    /// The datagram has more than 375 octets.
+    /// The datagram has not 1 to 375 octets.
     BadSize,
     /// No route to that address is there.
     NoRoute,

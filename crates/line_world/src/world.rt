@@ -99,7 +99,10 @@ impl World {
         }
     }
 
-    /// Takes an event. After a fault the world is as it was.
+    /// Takes an event, and answers what happened: the step of the definition. Fewer than 50,000 events were taken before.
+    ///
+    /// `Setup`, `Node` and `Flight` come exactly where the definition says that the event is not taken for that reason, `Memory`
+    /// where there was none for it. After each of them the world is as it was.
     pub fn step(&mut self, event: &Event) -> Result<Happenings, StepFault>
         requires { self.old.events < MAX_EVENTS }
         ensures { Gives self.old result self.new (step self.old event.now) }

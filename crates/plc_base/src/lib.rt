@@ -15,6 +15,8 @@ mod octets;
 mod out_frame;
 mod slot_table;
 mod standard;
+#[cfg(test)]
+mod stream_tests;
 mod streams;
 mod tags;
 

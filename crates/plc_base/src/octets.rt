@@ -118,7 +118,9 @@ impl<const N: usize> Octets<N> {
 
 impl<const N: usize> Default for Octets<N> {
     /// No octets.
-    fn default() -> Octets<N> {
+    fn default() -> Octets<N>
+        ensures { result ≡ [] }
+    {
         Octets::new()
     }
 }

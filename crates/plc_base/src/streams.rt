@@ -21,7 +21,9 @@ pub trait Source {
     /// How often it has failed.
     ghost faults: { Self → ℕ };
 
-    /// Moves the first octets to the front of `buf`. An answer of 0 is the end of input.
+    /// Moves the first octets to the front of `buf` and answers how many. An answer of 0 is the end of input.
+    ///
+    /// `Failed` where the object failed, which it has counted. It has then taken nothing.
     fn read(&mut self, buf: &mut [u8]) -> Result<usize, Failed>
         requires { 0 < length buf.old }
         ensures bound { ReadsAtMost result buf.new }
@@ -40,6 +42,8 @@ pub trait Sink {
     ghost faults: { Self → ℕ };
 
     /// Takes the first octets of `piece`, at least one, and answers how many.
+    ///
+    /// `Failed` where the object failed, which it has counted. It has then taken nothing.
     fn write(&mut self, piece: &[u8]) -> Result<usize, Failed>
         requires { 0 < length piece.now }
         ensures bound { IfOk result (λ n. (0 < n) × (n ≤ length piece.now)) }
@@ -47,7 +51,7 @@ pub trait Sink {
         ensures cause { HasCause (faults self.old) (faults self.new) result };
 }
 
-/// Writes the whole text, or a front of it where the sink fails.
+/// Writes the whole text. Where the sink fails, a front of it was written.
 pub fn write_all<K: Sink>(sink: &mut K, text: &[u8]) -> Result<(), Failed>
     ensures wrote { Wrote (K.taken sink.old) (K.taken sink.new) result text.now }
     ensures cause { HasCause (K.faults sink.old) (K.faults sink.new) result }
