@@ -1,5 +1,5 @@
 -- A number added to the last octet of a block.
-use Rattle.std.proofs.Common.{◌≡◌, ℕ, zero, suc, List, [], ◌∷◌, ◌++◌, length, refl, ap, ◌∙◌, arith, bit_xor}
+use Rattle.std.proofs.Common.{◌≡◌, ℕ, zero, suc, List, [], ◌∷◌, ◌++◌, length, refl, ap, arith, bit_xor}
 use Rattle.std.specs.Prelude.{slice_index, slice_set, replicate}
 use Rattle.std.specs.Int.Bits.{xor_zero_r}
 use Rattle.aes_modes.specs.Cipher.{xor_bytes}

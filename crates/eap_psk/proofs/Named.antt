@@ -1,5 +1,5 @@
 -- What messages and tags name.
-use Rattle.std.proofs.Common.{◌≡◌, ℕ, ◌+◌, List, ◌∷◌, ◌++◌, length, refl, sym, ap, ◌∙◌, arith}
+use Rattle.std.proofs.Common.{◌≡◌, ℕ, List, ◌++◌, length, refl, sym, ap, ◌∙◌, arith}
 use Rattle.octet_fields.specs.Fields.{after}
 use Rattle.octet_fields.proofs.Places.{fronts_same}
 use Rattle.plc_base.specs.Grant.{Granted}

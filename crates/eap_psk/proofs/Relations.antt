@@ -1,9 +1,10 @@
 -- What the checks of a packet say together: the relation of its message.
-use Rattle.std.proofs.Common.{◌≡◌, ◌≤◌, ℕ, ◌+◌, ◌-◌, List, [], ◌∷◌, ◌++◌, length, refl, sym, ap, ◌∙◌, arith}
+use Rattle.std.proofs.Common.{◌≡◌, ◌≤◌, ℕ, ◌+◌, ◌-◌, List, [], ◌∷◌, ◌++◌, length, ap, ◌∙◌, arith}
 use Rattle.std.specs.Prelude.{slice_index}
 use Rattle.std.proofs.lemmas.List.{length-drop}
 use Rattle.byteorder.specs.Endian.{big_bytes}
-use Rattle.octet_fields.specs.Fields.{after, octet}
+use Rattle.octet_fields.specs.Fields.{after}
+use Rattle.joining_messages.proofs.Rests.{one_is}
 use Rattle.aes_modes.proofs.Texts.{eax_text-twice, length-eax_text}
 use Rattle.eap_psk.specs.Keys.{nonce_block, channel, channel_tag, channel_text, mac_s}
 use Rattle.eap_psk.specs.Messages.{Third, Fourth, head, third_head, fourth_head, success_text}
@@ -34,11 +35,6 @@ third_read ak tek header packet text rand_s rand_p id_s mac tag identifier is lo
     is ∙ ap (λ (h : List ℕ). h ++ (mac ++ (big_bytes 4 0 ++ (tag ++ after 58 packet)))) named
     ∙ ap (λ (xs : List ℕ). third_head identifier rand_s (length text) ++ (mac ++ xs)) sealed
     ∙ ap (λ (m : List ℕ). third_head identifier rand_s (length text) ++ (m ++ channel tek 0 (third_head identifier rand_s (length text)) text)) mac_is
-
-one_is : (xs : List ℕ) → length xs ≡ 1 → xs ≡ slice_index xs 0 ∷ []
-one_is [] h = absurd (omega arith)
-one_is (a ∷ []) h = refl
-one_is (a ∷ (b ∷ xs)) h = absurd (omega arith)
 
 pub fourth_read : (tek header packet text rand_s tag : List ℕ)
     → packet ≡ head 2 2 43 3 rand_s ++ (big_bytes 4 1 ++ (tag ++ after 42 packet)) → length packet ≡ 43

@@ -1,5 +1,5 @@
 -- When octets are the same.
-use Rattle.std.proofs.Common.{◌≡◌, Bool, true, false, List, ℕ, refl}
+use Rattle.std.proofs.Common.{◌≡◌, Bool, true, List, ℕ}
 use Rattle.std.specs.Prelude.{◌↔◌, IsTrue}
 use Rattle.std.proofs.lemmas.Slice.Eq.{bytes_eq-Decides}
 use Rattle.std.specs.Bool.{one_answer, Decides}

@@ -1,5 +1,5 @@
 -- Which fault of a packet is the first, at each end. All tests are of octets.
-use Rattle.std.specs.Prelude.{ℕ, ◌*◌, Bool, true, false, List, length, Option, Some, None, nat_lt, ◌==◌, ◌&&◌, if◌then◌else◌}
+use Rattle.std.specs.Prelude.{ℕ, ◌*◌, Bool, List, length, Option, Some, nat_lt, ◌==◌, ◌&&◌, if◌then◌else◌}
 use Rattle.std.specs.Str.{bytes_eq}
 use Rattle.octet_fields.specs.Fields.{after, octet, two, four, part}
 use Rattle.octet_fields.specs.Faults.{◌then◌, ◌unless◌}

@@ -1,8 +1,7 @@
-use Rattle.std.proofs.Common.{◌≡◌, List, ℕ, ◌++◌, length, sym, ap, ◌∙◌}
-use Rattle.byteorder.specs.Endian.{big_bytes}
-use Rattle.octet_fields.specs.Fields.{after, octet}
-use Rattle.eap_psk.specs.Keys.{transient_key, channel_tag, channel_text, mac_s, mac_s_text}
-use Rattle.eap_psk.specs.Messages.{Third, head, granting_text}
+use Rattle.std.proofs.Common.{◌≡◌, List, ℕ}
+use Rattle.octet_fields.specs.Fields.{after}
+use Rattle.eap_psk.specs.Keys.{transient_key, channel_tag, channel_text, mac_s}
+use Rattle.eap_psk.specs.Messages.{Third, granting_text}
 use Rattle.eap_psk.proofs.Relations.{third_read}
 use Rattle.eap_psk.proofs.peer.Peer.take_third.Goals as goal
 
