@@ -126,6 +126,7 @@ impl SendCounter {
         // It is above all that was given out before, over any takes, failed puts and new starts.
         ensures fresh { (given : List ℕ) → Gives given (Some self.old) (K.store keeper.old).records → IfOk result (λ number. AllBelow number given) }
         ensures kept { OnTrue (is_stored result) (IsKept self.new (K.store keeper.new).records) }
+        ensures either { IsKept self.old (K.store keeper.new).records ⊎ IsKept (reserved self.old 1) (K.store keeper.new).records }
         ensures elsewhere { SameOutside 2 2 (K.store keeper.old).records (K.store keeper.new).records }
     {
         if self.left() == 0 {
@@ -142,6 +143,8 @@ impl SendCounter {
         ensures same { OnErr result (self.new ≡ self.old) }
         ensures store { Stores (K.store keeper.old) (limit_write value) (is_ok result) (K.store keeper.new) }
         ensures kept { OnOk result (IsKept self.new (K.store keeper.new).records) }
+        ensures either { (limit_in (get (K.store keeper.new).records limit_slot) ≡ limit_in (get (K.store keeper.old).records limit_slot))
+            ⊎ IsKept (counting_at value) (K.store keeper.new).records }
         ensures elsewhere { SameOutside 2 2 (K.store keeper.old).records (K.store keeper.new).records }
     {
         store_limit(keeper, value)?;
@@ -159,6 +162,8 @@ impl SendCounter {
         ensures same { OnErr result (self.new ≡ self.old) }
         ensures store { Stores (K.store keeper.old) (limit_write value) (is_ok result) (K.store keeper.new) }
         ensures kept { OnOk result (IsKept self.new (K.store keeper.new).records) }
+        ensures either { (limit_in (get (K.store keeper.new).records limit_slot) ≡ limit_in (get (K.store keeper.old).records limit_slot))
+            ⊎ IsKept (counting_at value) (K.store keeper.new).records }
         ensures elsewhere { SameOutside 2 2 (K.store keeper.old).records (K.store keeper.new).records }
     {
         self.set_limit(keeper, value)

@@ -1,9 +1,9 @@
 -- A record of a ring is read back, and what is stored of it stays.
-use Rattle.std.proofs.Common.{◌≡◌, ◌⊎◌, ℕ, zero, suc, ◌<◌, Bool, true, cond, List, [], ◌∷◌, ◌++◌, length, take, drop, Option, Some, None, Result, Ok, Err, refl, ap, ◌∙◌, arith, length-append}
+use Rattle.std.proofs.Common.{◌≡◌, ◌⊎◌, ℕ, zero, suc, ◌<◌, Bool, true, cond, List, [], ◌∷◌, ◌++◌, length, take, drop, Option, Some, None, Result, Ok, Err, inl, inr, refl, ap, ◌∙◌, arith, length-append}
 use Rattle.std.specs.Prelude.{nat_lt, nat_le, ◌==◌, ◌&&◌, is_ok, OnOk}
 use Rattle.std.specs.Option.{option_map, option_map_or}
 use Rattle.std.proofs.lemmas.Bool.Decides.{nat_tests}
-use Rattle.std.specs.FinMap.{get}
+use Rattle.std.specs.FinMap.{get, insert}
 use Rattle.byteorder.specs.Endian.{big_number, big_bytes}
 use Rattle.byteorder.specs.Numbers.{big_number-reads_back}
 use Rattle.plc_base.specs.Keeper.{Records, Store, Stores, SameOutside}
@@ -74,6 +74,13 @@ pub ring_stored : {T E : Type 0} (r : Result T E) (old new : Store) (ring : Ring
 ring_stored (Ok done) old new ring reads stores =
     ap (λ m. ring_at (get m ring_slot)) stores.stored ∙ ap ring_at (get-insert_same old.records ring_slot ring_slot (ring_octets ring) refl) ∙ reads
 ring_stored (Err fault) old new ring reads stores = tt
+
+-- whatever became of a put of a ring, the old one is read or the new one
+pub ring_either : (old new : Records) (ring : Ring) → ring_in (ring_octets ring) ≡ Some ring → (new ≡ old) ⊎ (new ≡ insert old ring_slot (ring_octets ring))
+    → (ring_at (get new ring_slot) ≡ ring_at (get old ring_slot)) ⊎ (ring_at (get new ring_slot) ≡ Some ring)
+ring_either old new ring reads (inl same) = inl (ap (λ m. ring_at (get m ring_slot)) same)
+ring_either old new ring reads (inr written) =
+    inr (ap (λ m. ring_at (get m ring_slot)) written ∙ ap ring_at (get-insert_same old ring_slot ring_slot (ring_octets ring) refl) ∙ reads)
 
 -- what is stored of the ring stays where other slots are put
 pub kept_elsewhere : (ring : Ring) (old new : Records) (first last : ℕ) → IsKept ring old → SameOutside first last old new → (ring_slot < first) ⊎ (last < ring_slot) → IsKept ring new

@@ -1,6 +1,6 @@
 //! The ring of a node.
 ghost use Rattle.std.specs.FinMap.{get};
-ghost use Rattle.std.specs.Prelude.{◌≡◌, ◌≤◌, true, Some, None, Ok, is_ok, is_some, IsSome, IfOk, OnOk, OnErr, length};
+ghost use Rattle.std.specs.Prelude.{◌≡◌, ◌⊎◌, ◌≤◌, true, Some, None, Ok, is_ok, is_some, IsSome, IfOk, OnOk, OnErr, length};
 ghost use Rattle.std.specs.Bool.{OnTrue};
 ghost use Rattle.std.specs.Option.{option_map};
 ghost use Rattle.plc_base.specs.Keeper.{Stores, SameOutside};
@@ -94,6 +94,8 @@ fn ring_in(octets: &[u8]) -> Option<Option<Grant>>
 fn store_ring<K: Keeper>(keeper: &mut K, grant: &Option<Grant>) -> Result<(), Failed>
     ensures store { Stores (K.store keeper.old) (ring_write grant.now) (is_ok result) (K.store keeper.new) }
     ensures stored { OnOk result (ring_at (get (K.store keeper.new).records ring_slot) ≡ Some grant.now) }
+    ensures either { (ring_at (get (K.store keeper.new).records ring_slot) ≡ ring_at (get (K.store keeper.old).records ring_slot))
+        ⊎ (ring_at (get (K.store keeper.new).records ring_slot) ≡ Some grant.now) }
     ensures elsewhere { SameOutside 1 1 (K.store keeper.old).records (K.store keeper.new).records }
 {
     keeper.put(RING_SLOT, &ring_record(grant))
@@ -154,6 +156,9 @@ impl KeyRing {
         ensures same { OnErr result (self.new ≡ self.old) }
         ensures store { Stores (K.store keeper.old) (ring_write grant) (is_ok result) (K.store keeper.new) }
         ensures kept { OnOk result (IsKept self.new (K.store keeper.new).records) }
+        // Whatever became of the put, the slot gives the ring that it gave before or this one.
+        ensures either { (ring_at (get (K.store keeper.new).records ring_slot) ≡ ring_at (get (K.store keeper.old).records ring_slot))
+            ⊎ IsKept grant (K.store keeper.new).records }
         ensures elsewhere { SameOutside 1 1 (K.store keeper.old).records (K.store keeper.new).records }
     {
         store_ring(keeper, &grant)?;
@@ -170,6 +175,8 @@ impl KeyRing {
         ensures same { OnErr result (self.new ≡ self.old) }
         ensures store { Stores (K.store keeper.old) (ring_write (Some grant.now)) (is_ok result) (K.store keeper.new) }
         ensures kept { OnOk result (IsKept self.new (K.store keeper.new).records) }
+        ensures either { (ring_at (get (K.store keeper.new).records ring_slot) ≡ ring_at (get (K.store keeper.old).records ring_slot))
+            ⊎ IsKept (Some grant.now) (K.store keeper.new).records }
         ensures elsewhere { SameOutside 1 1 (K.store keeper.old).records (K.store keeper.new).records }
     {
         self.keep(keeper, Some(*grant))
@@ -187,6 +194,8 @@ impl KeyRing {
         ensures same { OnErr result (self.new ≡ self.old) }
         ensures store { Stores (K.store keeper.old) (ring_write (with_key self.old index key.now)) (is_ok result) (K.store keeper.new) }
         ensures kept { OnOk result (IsKept self.new (K.store keeper.new).records) }
+        ensures either { (ring_at (get (K.store keeper.new).records ring_slot) ≡ ring_at (get (K.store keeper.old).records ring_slot))
+            ⊎ IsKept (with_key self.old index key.now) (K.store keeper.new).records }
         ensures elsewhere { SameOutside 1 1 (K.store keeper.old).records (K.store keeper.new).records }
     {
         let grant = self.grant.map(|grant| grant.with_key(index, key));
@@ -203,6 +212,8 @@ impl KeyRing {
         ensures ring { self.new ≡ activate_after self.old index (is_stored result) }
         ensures store { Stores (K.store keeper.old) (activate_write self.old index) (is_stored result) (K.store keeper.new) }
         ensures kept { IsKept self.old (K.store keeper.old).records → OnTrue (is_stored result) (IsKept self.new (K.store keeper.new).records) }
+        ensures either { (ring_at (get (K.store keeper.new).records ring_slot) ≡ ring_at (get (K.store keeper.old).records ring_slot))
+            ⊎ IsKept (with_active self.old index) (K.store keeper.new).records }
         ensures elsewhere { SameOutside 1 1 (K.store keeper.old).records (K.store keeper.new).records }
     {
         if self.key(index).is_none() {
@@ -221,6 +232,8 @@ impl KeyRing {
         ensures same { OnErr result (self.new ≡ self.old) }
         ensures store { Stores (K.store keeper.old) (ring_write (with_active self.old index)) (is_ok result) (K.store keeper.new) }
         ensures kept { OnOk result (IsKept self.new (K.store keeper.new).records) }
+        ensures either { (ring_at (get (K.store keeper.new).records ring_slot) ≡ ring_at (get (K.store keeper.old).records ring_slot))
+            ⊎ IsKept (with_active self.old index) (K.store keeper.new).records }
         ensures elsewhere { SameOutside 1 1 (K.store keeper.old).records (K.store keeper.new).records }
     {
         let grant = self.grant.map(|grant| grant.with_active(index));
@@ -236,6 +249,8 @@ impl KeyRing {
         ensures same { OnErr result (self.new ≡ self.old) }
         ensures store { Stores (K.store keeper.old) (ring_write None) (is_ok result) (K.store keeper.new) }
         ensures kept { OnOk result (IsKept self.new (K.store keeper.new).records) }
+        ensures either { (ring_at (get (K.store keeper.new).records ring_slot) ≡ ring_at (get (K.store keeper.old).records ring_slot))
+            ⊎ IsKept None (K.store keeper.new).records }
         ensures elsewhere { SameOutside 1 1 (K.store keeper.old).records (K.store keeper.new).records }
     {
         self.keep(keeper, None).map_err(|_| RingFault::Store)
