@@ -17,7 +17,6 @@ fault unless right = if right then None else fault
 infixr 4 ◌then◌
 infixl 6 ◌when◌
 infixl 6 ◌unless◌
-
 -- a field that would end at this place is cut off; the fault is told where the octets end
 unfoldable pub cut_off : {F : Type 0} → (ℕ → F) → ℕ → List ℕ → Option F
 cut_off fault end octets = Some (fault (length octets)) when nat_lt (length octets) end
