@@ -112,7 +112,7 @@ const USAGE: &[u8; 58] = b"usage: line_replay replay [-q] | show | vectors | dri
 /// All that the program does, with the words after its name.
 ///
 /// `replay -q` reads a script and writes what its line did. `show` reads frames in hexadecimal and writes what each is. `vectors`
-/// writes what the ciphers make of known inputs. Other words write the usage line. These two read nothing, and take no memory.
+/// writes what the ciphers make of known inputs. Other words write the usage line. These two read nothing, and never answer Memory.
 pub fn run_tool<S: Source, K: Sink>(
     alloc: Global,
     words: &[String],
