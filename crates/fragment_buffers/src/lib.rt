@@ -6,5 +6,7 @@
 #![tactic(auto)]
 
 mod cutting;
+mod laws;
 
 pub use cutting::{cut_piece, pieces};
+pub use laws::an_overlap_begins_anew;
