@@ -1,1 +1,10 @@
 pub mod Cuts
+pub mod Expiring
+pub mod Octets
+pub mod PiecesHeld
+pub mod Keeping
+pub mod Naming
+pub mod Places
+pub mod Rule
+pub mod Settling
+pub mod Writing

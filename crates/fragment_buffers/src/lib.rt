@@ -5,8 +5,15 @@
 //! `specs/Taking.antt` how a piece is taken in.
 #![tactic(auto)]
 
+mod buffer;
 mod cutting;
 mod laws;
+mod place;
+mod reassembly;
 
+#[doc(hidden)]
+pub use buffer::Buffer;
 pub use cutting::{cut_piece, pieces};
 pub use laws::an_overlap_begins_anew;
+pub use place::Place;
+pub use reassembly::{BufferFull, Reassembly, Taken};

@@ -1,6 +1,7 @@
 use Rattle.std.proofs.Common.{[], ◌∷◌, length, ap, ◌∙◌, arith}
 use Rattle.block_pool.specs.Pool.{chain_octets}
-use Rattle.block_pool.proofs.Callers.{chain_octets-insert, chain_octets-insert_other, IsChain-insert, length-overwrite}
+use Rattle.block_pool.proofs.Callers.{chain_octets-insert, chain_octets-insert_other, IsChain-insert}
+use Rattle.block_pool.proofs.Overwrites.{length-overwrite}
 use Rattle.block_pool.proofs.tests.around.Goals as goal
 
 pub read_at-requires-clause-ours : goal.read_at-requires-clause-ours

@@ -1,0 +1,51 @@
+use Rattle.std.proofs.Common.{◌≡◌, ◌+◌, length, sym, ap, subst, ◌∙◌, arith}
+use Rattle.std.specs.List.{remove}
+use Rattle.block_pool.specs.Pool.{chain_octets}
+use Rattle.fragment_buffers.specs.Taking.{blocks}
+use Rattle.fragment_buffers.specs.Entries.{Entry, IsBounded, Keeps, Moves, told, entry_at, blocks_used}
+use Rattle.fragment_buffers.proofs.Writing.{stays-remove}
+use Rattle.fragment_buffers.proofs.Keeping.{AreSome, Ends, told_remove, keeps_remove, moves_remove, bounded_after, used_after, read_entry}
+use Rattle.fragment_buffers.proofs.reassembly.Reassembly.end.Goals as goal
+
+the_entry : (c : goal.After-give_back) → c.remove-buffer.result ≡ entry_at c.args.self.now c.args.index
+the_entry c = read_entry _ c.args.self.now c.args.index c.remove-buffer.result c.remove-buffer.ensures.value c.self.view_is c.requires.there
+
+items : (c : goal.After-give_back) → c.remove-buffer.new.self.items ≡ remove c.args.self.now c.args.index
+items c = c.remove-buffer.ensures.items ∙ ap (λ es. remove es c.args.index) c.self.view_is
+
+ends : (c : goal.After-give_back) → Ends c.args.pool.now c.give_back.new.pool c.args.self.now c.args.index
+ends c =
+    let chain = ap (λ (e : Entry). e.chain) (the_entry c) in
+    record {
+      there = c.requires.there;
+      free = c.give_back.ensures.free ∙ ap (λ n. c.args.pool.now.free + blocks n) (ap (λ (e : Entry). length (chain_octets c.args.pool.now e.chain)) (the_entry c) ∙ c.requires.keeps.lengths c.args.index c.requires.there);
+      others = λ d ne is. stays-remove c.args.pool.now c.give_back.new.pool _ d c.give_back.ensures.chains (λ e. ne (e ∙ chain)) is;
+    }
+
+some : (c : goal.After-give_back) → AreSome c.args.self.now
+some c = subst AreSome c.self.view_is c.self.invariant.bounded.some
+
+pub invariant_of-self : goal.invariant_of-self
+invariant_of-self c =
+    let used = used_after c.args.self.now _ c.args.index (items c) c.requires.there in
+    let size = ap (λ (e : Entry). blocks e.size) (the_entry c) in
+    let before = ap (λ es. blocks_used es) c.self.view_is in
+    record {
+      blocks = omega (arith, used, size, before, c.self.invariant.blocks, c.div_ceil.ensures, ap (λ n. blocks n) c.size.ensures.value);
+      bounded = bounded_after c.args.self.now _ c.args.index (items c) c.requires.there (subst IsBounded c.self.view_is c.self.invariant.bounded);
+    }
+
+pub returns-clause-told : goal.returns-clause-told
+returns-clause-told c =
+    ap (told c.give_back.new.pool) (items c) ∙ told_remove c.args.pool.now c.give_back.new.pool c.args.self.now c.args.index c.requires.keeps (some c) (ends c)
+
+pub returns-clause-keeps : goal.returns-clause-keeps
+returns-clause-keeps c =
+    subst (Keeps c.give_back.new.pool) (sym (items c)) (keeps_remove c.args.pool.now c.give_back.new.pool c.args.self.now c.args.index c.requires.keeps (some c) (ends c))
+
+pub returns-clause-moves : goal.returns-clause-moves
+returns-clause-moves c =
+    subst (Moves c.args.pool.now c.give_back.new.pool c.args.self.now) (sym (items c)) (moves_remove c.args.pool.now c.give_back.new.pool c.args.self.now c.args.index (ends c))
+
+pub returns-clause-bounded : goal.returns-clause-bounded
+returns-clause-bounded c = bounded_after c.args.self.now _ c.args.index (items c) c.requires.there (subst IsBounded c.self.view_is c.self.invariant.bounded)

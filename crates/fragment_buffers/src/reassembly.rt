@@ -1,0 +1,290 @@
+//! The reassemblies of a node.
+ghost use Rattle.std.specs.Prelude.{◌≡◌, ℕ, ◌+◌, ◌<◌, ◌≤◌, ◌↔◌, ◌⊎◌, [], ◌∷◌, ◌++◌, length, false, IsErr, OnErr, IfSome, IfNone, slice_set};
+ghost use Rattle.std.specs.List.{remove};
+ghost use Rattle.block_pool.specs.Pool.{IsChain, chain_octets};
+ghost use Rattle.mesh_header.specs.Pieces.{IsPiece};
+ghost use Rattle.fragment_buffers.specs.Reassembly.{begun, placed};
+ghost use Rattle.fragment_buffers.specs.Taking.{taken, unexpired, blocks, grown};
+ghost use Rattle.fragment_buffers.specs.Entries.{entry_at, blocks_used, reassembly_in, told, Keeps, Moves, IsBounded, IsOther};
+ghost use Rattle.fragment_buffers.specs.Answers.{answer_of, taken_of, octets_of, has_name, joined_at, settled_at, NoneIsNamed};
+
+use crate::buffer::Buffer;
+use arrayvec::ArrayVec;
+use block_pool::Pool;
+use mesh_header::Piece;
+use plc_base::{DatagramBuf, Short};
+use std::marker::Model;
+use thiserror::Error;
+
+/// The most reassemblies at a time.
+const REASSEMBLIES: usize = 8;
+
+/// The most blocks that they hold.
+const BLOCKS: u16 = 80;
+
+/// What came of a piece that was taken in.
+#[derive(Clone, Copy, Debug, PartialEq, Eq)]
+pub enum Taken {
+    /// It is held, or one of its place and length was before.
+    Held,
+    /// The datagram is whole, and was handed up.
+    Whole {
+        /// The note of the first piece of its reassembly.
+        note: u32,
+    },
+}
+
+/// There is no room for another reassembly.
+#[derive(Clone, Copy, Debug, PartialEq, Eq, Error)]
+#[error("there is no room for another reassembly")]
+pub struct BufferFull;
+
+/// The datagrams that a node gathers from pieces: at most 8 at a time, whose octets stand in chains of a pool, in at most 80
+/// blocks of it.
+///
+/// A contract sees a list of entries: each has the name (origin, size, tag), the note and the time of the first piece, the chain's
+/// number, and the places and lengths of the pieces. The octets are those that the chains hold, so the entries and their pool
+/// together tell the reassemblies (`told`).
+///
+/// Each call takes the pool that the chains are in. What it needs of the pool, and keeps, is `Keeps`: each chain is one of this
+/// pool's and as long as its datagram, their numbers differ, and the pool has the blocks that are left of 80.
+#[derive(Drop)]
+pub struct Reassembly {
+    buffers: ArrayVec<Buffer, REASSEMBLIES>,
+    blocks: u16,
+}
+
+impl Model for Reassembly {
+    ghost use Rattle.std.specs.Prelude.{List};
+    ghost use Rattle.fragment_buffers.specs.Entries.{Entry, entries_code};
+
+    ghost Value = { List Entry };
+
+    ghost coded = { entries_code };
+
+    ghost use Rattle.fragment_buffers.specs.Holding.{entries_of, IsHolding};
+
+    ghost view = { entries_of };
+
+    ghost invariant = { IsHolding };
+}
+
+impl Reassembly {
+    /// No reassemblies.
+    pub fn empty() -> Reassembly
+        ensures { result ≡ [] }
+    {
+        Reassembly {
+            buffers: ArrayVec::new(),
+            blocks: 0,
+        }
+    }
+
+    /// Takes a piece in that came from an origin, under a note, at a time in seconds (RFC 4944, 5.3).
+    ///
+    /// The piece joins the reassembly of its origin, size and tag, or begins one. A piece that is held already, by place and length,
+    /// is ignored. One that overlaps another piece discards all that was gathered: the reassembly begins anew with it, its note and
+    /// its time. Where every octet of the datagram is there, the answer is `Taken::Whole` with the note of the reassembly, `out` is
+    /// the datagram, and the reassembly ends. Else the answer is `Taken::Held`, and `out` is empty.
+    ///
+    /// BufferFull exactly where no reassembly of its name is there, and 8 are there or the blocks in use and those of the datagram,
+    /// `size / 64` rounded up, pass 80. Nothing has changed then, and `out` is empty.
+    pub fn take(
+        &mut self,
+        pool: &mut Pool,
+        origin: Short,
+        piece: &Piece,
+        note: u32,
+        now: u64,
+        out: &mut DatagramBuf,
+    ) -> Result<Taken, BufferFull>
+        requires keeps { Keeps pool.old self.old }
+        ensures answer { result ≡ answer_of (taken (told pool.old self.old) origin piece.now note now).outcome }
+        ensures datagram { out.new ≡ octets_of (taken (told pool.old self.old) origin piece.now note now).outcome }
+        ensures told { told pool.new self.new ≡ (taken (told pool.old self.old) origin piece.now note now).held }
+        ensures full { IsErr result ↔ (NoneIsNamed self.old origin piece.now × ((8 ≤ length self.old) ⊎ (80 < blocks_used self.old + blocks piece.now.size))) }
+        ensures err { OnErr result ((self.new ≡ self.old) × (pool.new ≡ pool.old)) }
+        ensures keeps { Keeps pool.new self.new }
+        ensures moves { Moves pool.old pool.new self.old self.new }
+        ensures bounded { IsBounded self.new }
+    {
+        out.clear();
+        match self.place_of(origin, piece.size(), piece.tag()) {
+            Some(index) => Ok(self.join(pool, index, piece, note, now, out)),
+            None => self.begin(pool, origin, piece, note, now, out),
+        }
+    }
+
+    /// Drops the reassemblies that began at least 60 seconds before `now`, and gives their chains back.
+    pub fn expire(&mut self, pool: &mut Pool, now: u64)
+        requires keeps { Keeps pool.old self.old }
+        ensures told { told pool.new self.new ≡ unexpired (told pool.old self.old) now }
+        ensures keeps { Keeps pool.new self.new }
+        ensures moves { Moves pool.old pool.new self.old self.new }
+        ensures bounded { IsBounded self.new }
+    {
+        let mut index = 0;
+        while index < self.buffers.len() {
+            if self.buffers[index].has_expired(now) {
+                self.end(pool, index);
+            } else {
+                index += 1;
+            }
+        }
+    }
+
+    /// Drops all reassemblies, and gives their chains back.
+    pub fn clear(&mut self, pool: &mut Pool)
+        requires keeps { Keeps pool.old self.old }
+        ensures empty { self.new ≡ [] }
+        ensures keeps { Keeps pool.new self.new }
+        ensures moves { Moves pool.old pool.new self.old self.new }
+    {
+        while !self.buffers.is_empty() {
+            self.end(pool, 0);
+        }
+    }
+
+    /// The first reassembly of this name.
+    fn place_of(&self, origin: Short, size: u16, tag: u16) -> Option<usize>
+        ensures none { IfNone result ((k : ℕ) → k < length self.now → has_name origin size tag (entry_at self.now k) ≡ false) }
+        ensures there { IfSome result (λ i. i < length self.now) }
+        ensures named { IfSome result (λ i. (origin ≡ (entry_at self.now i).origin) × (size ≡ (entry_at self.now i).size) × (tag ≡ (entry_at self.now i).tag)) }
+        ensures first { IfSome result (λ i. (k : ℕ) → k < i → has_name origin size tag (entry_at self.now k) ≡ false) }
+    {
+        for (index, buffer) in self.buffers.iter().enumerate() {
+            if buffer.is_named(origin, size, tag) {
+                return Some(index);
+            }
+        }
+        None
+    }
+
+    /// Begins a reassembly with a piece of a name that is not there.
+    fn begin(
+        &mut self,
+        pool: &mut Pool,
+        origin: Short,
+        piece: &Piece,
+        note: u32,
+        now: u64,
+        out: &mut DatagramBuf,
+    ) -> Result<Taken, BufferFull>
+        requires keeps { Keeps pool.old self.old }
+        requires rule { IsPiece piece.now }
+        requires empty { out.old ≡ [] }
+        requires none { NoneIsNamed self.old origin piece.now }
+        ensures answer { result ≡ answer_of (taken (told pool.old self.old) origin piece.now note now).outcome }
+        ensures datagram { out.new ≡ octets_of (taken (told pool.old self.old) origin piece.now note now).outcome }
+        ensures told { told pool.new self.new ≡ (taken (told pool.old self.old) origin piece.now note now).held }
+        ensures full { IsErr result ↔ ((8 ≤ length self.old) ⊎ (80 < blocks_used self.old + blocks piece.now.size)) }
+        ensures err { OnErr result ((self.new ≡ self.old) × (pool.new ≡ pool.old)) }
+        ensures keeps { Keeps pool.new self.new }
+        ensures moves { Moves pool.old pool.new self.old self.new }
+        ensures bounded { IsBounded self.new }
+    {
+        let index = self.buffers.len();
+        if index >= REASSEMBLIES || self.blocks + piece.size().div_ceil(64) > BLOCKS {
+            return Err(BufferFull);
+        }
+        self.push(pool, origin, piece, note, now);
+        Ok(self.settle(pool, index, out))
+    }
+
+    /// Begins a reassembly behind all others.
+    fn push(&mut self, pool: &mut Pool, origin: Short, piece: &Piece, note: u32, now: u64)
+        requires keeps { Keeps pool.old self.old }
+        requires rule { IsPiece piece.now }
+        requires room { (length self.old < 8) × (blocks_used self.old + blocks piece.now.size ≤ 80) }
+        ensures told { told pool.new self.new ≡ told pool.old self.old ++ begun origin piece.now note now ∷ [] }
+        ensures longer { length self.new ≡ length self.old + 1 }
+        ensures keeps { Keeps pool.new self.new }
+        ensures moves { Moves pool.old pool.new self.old self.new }
+    {
+        self.blocks += piece.size().div_ceil(64);
+        self.buffers
+            .push(Buffer::begin(pool, origin, piece, note, now));
+    }
+
+    /// Takes a piece into the reassembly of its name.
+    fn join(
+        &mut self,
+        pool: &mut Pool,
+        index: usize,
+        piece: &Piece,
+        note: u32,
+        now: u64,
+        out: &mut DatagramBuf,
+    ) -> Taken
+        requires keeps { Keeps pool.old self.old }
+        requires rule { IsPiece piece.now }
+        requires empty { out.old ≡ [] }
+        requires there { index < length self.old }
+        requires size { (entry_at self.old index).size ≡ piece.now.size }
+        requires tag { (entry_at self.old index).tag ≡ piece.now.tag }
+        ensures answer { result ≡ taken_of (joined_at (told pool.old self.old) index piece.now note now).outcome }
+        ensures datagram { out.new ≡ octets_of (joined_at (told pool.old self.old) index piece.now note now).outcome }
+        ensures told { told pool.new self.new ≡ (joined_at (told pool.old self.old) index piece.now note now).held }
+        ensures keeps { Keeps pool.new self.new }
+        ensures moves { Moves pool.old pool.new self.old self.new }
+        ensures bounded { IsBounded self.new }
+    {
+        if self.buffers[index].repeats(piece) {
+            return Taken::Held;
+        }
+        self.grow(pool, index, piece, note, now);
+        self.settle(pool, index, out)
+    }
+
+    /// Adds a piece to a reassembly, or begins it anew with the piece where that overlaps another one.
+    fn grow(&mut self, pool: &mut Pool, index: usize, piece: &Piece, note: u32, now: u64)
+        requires keeps { Keeps pool.old self.old }
+        requires rule { IsPiece piece.now }
+        requires there { index < length self.old }
+        requires size { (entry_at self.old index).size ≡ piece.now.size }
+        requires tag { (entry_at self.old index).tag ≡ piece.now.tag }
+        ensures told { told pool.new self.new ≡ slice_set (told pool.old self.old) index
+            (grown (reassembly_in pool.old (entry_at self.old index)) (begun (entry_at self.old index).origin piece.now note now) (placed piece.now)) }
+        ensures as_many { length self.new ≡ length self.old }
+        ensures keeps { Keeps pool.new self.new }
+        ensures moves { Moves pool.old pool.new self.old self.new }
+    {
+        self.buffers[index].grow(pool, piece, note, now);
+    }
+
+    /// Hands a reassembly up, if it is whole.
+    fn settle(&mut self, pool: &mut Pool, index: usize, out: &mut DatagramBuf) -> Taken
+        requires keeps { Keeps pool.old self.old }
+        requires empty { out.old ≡ [] }
+        requires there { index < length self.old }
+        ensures answer { result ≡ taken_of (settled_at (told pool.old self.old) index).outcome }
+        ensures datagram { out.new ≡ octets_of (settled_at (told pool.old self.old) index).outcome }
+        ensures told { told pool.new self.new ≡ (settled_at (told pool.old self.old) index).held }
+        ensures keeps { Keeps pool.new self.new }
+        ensures moves { Moves pool.old pool.new self.old self.new }
+        ensures bounded { IsBounded self.new }
+    {
+        if !self.buffers[index].is_whole() {
+            return Taken::Held;
+        }
+        let note = self.buffers[index].note();
+        self.buffers[index].read(pool, out);
+        self.end(pool, index);
+        Taken::Whole { note }
+    }
+
+    /// Ends a reassembly: its chain is given back.
+    fn end(&mut self, pool: &mut Pool, index: usize)
+        requires keeps { Keeps pool.old self.old }
+        requires there { index < length self.old }
+        ensures entries { self.new ≡ remove self.old index }
+        ensures told { told pool.new self.new ≡ remove (told pool.old self.old) index }
+        ensures keeps { Keeps pool.new self.new }
+        ensures moves { Moves pool.old pool.new self.old self.new }
+        ensures bounded { IsBounded self.new }
+    {
+        let buffer = self.buffers.remove(index);
+        self.blocks -= buffer.size().div_ceil(64);
+        buffer.give_back(pool);
+    }
+}
