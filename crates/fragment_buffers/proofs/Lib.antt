@@ -1,3 +1,4 @@
+pub mod Apart
 pub mod Cuts
 pub mod Expiring
 pub mod Octets
@@ -5,6 +6,7 @@ pub mod PiecesHeld
 pub mod Keeping
 pub mod Naming
 pub mod Places
+pub mod RoundTrip
 pub mod Rule
 pub mod Settling
 pub mod Writing

@@ -59,11 +59,11 @@ late_out os a n i true e h = get-past os a n (i - a) (omega (arith, ltb-false _ 
 octet_out : (os : List ℕ) (q : Place) (i : ℕ) → covers i q ≡ false → octet_of (piece_in os q) i ≡ None
 octet_out os q i h = late_out os (q.offset * 8) q.length i _ refl h
 
-first_some : (o rest : Option ℕ) (x : ℕ) → o ≡ Some x → first_of o rest ≡ Some x
+pub first_some : (o rest : Option ℕ) (x : ℕ) → o ≡ Some x → first_of o rest ≡ Some x
 first_some None rest x e = cc
 first_some (Some y) rest x e = e
 
-first_none : (o rest : Option ℕ) → o ≡ None → first_of o rest ≡ rest
+pub first_none : (o rest : Option ℕ) → o ≡ None → first_of o rest ≡ rest
 first_none None rest e = refl
 first_none (Some y) rest e = cc
 
@@ -88,7 +88,7 @@ octet_uncovered os (q ∷ qs) i h =
 
 -- # The datagram
 
-gathered_all : (os : List ℕ) (ps : List PlacedPiece) (from count : ℕ) → from + count ≤ length os → ((i : ℕ) → from ≤ i → i < from + count → octet_at ps i ≡ slice_get os i)
+pub gathered_all : (os : List ℕ) (ps : List PlacedPiece) (from count : ℕ) → from + count ≤ length os → ((i : ℕ) → from ≤ i → i < from + count → octet_at ps i ≡ slice_get os i)
     → gathered ps from count ≡ Some (take count (drop from os))
 gathered_all os ps from zero le reads = refl
 gathered_all os ps from (suc count) le reads =
@@ -100,7 +100,7 @@ before_none : (o : Option ℕ) → before_all o None ≡ None
 before_none None = refl
 before_none (Some x) = refl
 
-gathered_gap : (ps : List PlacedPiece) (from count i : ℕ) → from ≤ i → i < from + count → octet_at ps i ≡ None → gathered ps from count ≡ None
+pub gathered_gap : (ps : List PlacedPiece) (from count i : ℕ) → from ≤ i → i < from + count → octet_at ps i ≡ None → gathered ps from count ≡ None
 gathered_gap ps from zero i le lt none = absurd (omega arith)
 gathered_gap ps from (suc count) i le lt none = elim (cases_eq i from) [
   | inl same ↦ ap (λ o. before_all o (gathered ps (suc from) count)) (sym (ap (octet_at ps) same) ∙ none)

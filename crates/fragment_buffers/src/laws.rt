@@ -1,8 +1,26 @@
 //! Laws of cutting and reassembly. A function here does nothing: its contract is the law.
-ghost use Rattle.fragment_buffers.specs.Laws.{OverlapBeginsAnew};
+ghost use Rattle.fragment_buffers.specs.Laws.{OverlapBeginsAnew, WholeIsOfItsPieces, GapIsInNoPiece, PiecesStayApart, PiecesComeTogether};
 
-/// A piece that overlaps another one begins its reassembly anew, with its own note and time; a datagram of two pieces is then
-/// made of the second and the third, and ends 60 seconds after the second.
+/// A whole reassembly has, at each position, the octet that one of its pieces has there; in one that is not whole some position
+/// lies in no piece.
+pub fn a_whole_reassembly_is_of_its_pieces()
+    ensures whole { WholeIsOfItsPieces }
+    ensures gap { GapIsInNoPiece }
+{}
+
+/// No two pieces of a reassembly overlap, whatever is taken in and whatever expires.
+pub fn placed_pieces_never_overlap()
+    ensures { PiecesStayApart }
+{}
+
+/// The pieces of a datagram, taken in any order and any of them more than once, are held until the last of them comes, which
+/// completes exactly that datagram. The other reassemblies stay as they were.
+pub fn the_pieces_of_a_datagram_come_together()
+    ensures { PiecesComeTogether }
+{}
+
+/// A piece that overlaps another one begins its reassembly anew, with its own note and time: of three pieces of a datagram the
+/// second and the third make it whole, and the second alone would have ended 60 seconds after it came.
 pub fn an_overlap_begins_anew()
     ensures { OverlapBeginsAnew }
 {}

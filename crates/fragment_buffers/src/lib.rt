@@ -14,6 +14,9 @@ mod reassembly;
 #[doc(hidden)]
 pub use buffer::Buffer;
 pub use cutting::{cut_piece, pieces};
-pub use laws::an_overlap_begins_anew;
+pub use laws::{
+    a_whole_reassembly_is_of_its_pieces, an_overlap_begins_anew, placed_pieces_never_overlap,
+    the_pieces_of_a_datagram_come_together,
+};
 pub use place::Place;
 pub use reassembly::{BufferFull, Reassembly, Taken};
