@@ -10,6 +10,8 @@ mod cutting;
 mod laws;
 mod place;
 mod reassembly;
+#[cfg(test)]
+mod tests;
 
 #[doc(hidden)]
 pub use buffer::Buffer;
