@@ -11,8 +11,4 @@ mod runs;
 #[cfg(test)]
 mod tests;
 
-#[doc(hidden)]
-pub use blocks::{Block, Blocks, Place};
-#[doc(hidden)]
-pub use pool::Slot;
 pub use pool::{Chain, Pool, PoolFull};

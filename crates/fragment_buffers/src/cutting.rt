@@ -1,6 +1,6 @@
 //! The cut of a datagram into pieces.
-ghost use Rattle.std.specs.Prelude.{◌≡◌, ◌≤◌, ◌<◌, length};
-ghost use Rattle.fragment_buffers.specs.Cutting.{pieces_of, piece_of};
+ghost use Rattle.std.specs.Prelude.{◌≡◌, ◌≤◌, ◌<◌, Some, length, slice_get};
+ghost use Rattle.fragment_buffers.specs.Cutting.{pieces_of, piece_of, cut};
 
 use mesh_header::Piece;
 use plc_base::FrameBuf;
@@ -27,7 +27,8 @@ pub fn pieces(octets: u16) -> u8
 pub fn cut_piece(datagram: &[u8], tag: u16, k: u8) -> Piece
     requires long { (376 ≤ length datagram.now) × (length datagram.now ≤ 1280) }
     requires there { k < pieces_of (length datagram.now) }
-    ensures { result ≡ piece_of datagram.now tag k }
+    ensures value { result ≡ piece_of datagram.now tag k }
+    ensures kth { slice_get (cut datagram.now tag) k ≡ Some result }
 {
     let size = datagram.len() as u16;
     let left = &datagram[PIECE * k as usize..];

@@ -13,8 +13,6 @@ mod reassembly;
 #[cfg(test)]
 mod tests;
 
-#[doc(hidden)]
-pub use buffer::Buffer;
 pub use cutting::{cut_piece, pieces};
 pub use laws::{
     a_whole_reassembly_is_of_its_pieces, an_overlap_begins_anew, placed_pieces_never_overlap,
