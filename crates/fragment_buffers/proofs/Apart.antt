@@ -1,14 +1,14 @@
 -- What holds of every reassembly: the octets of a whole one, and that its pieces do not overlap.
-use Rattle.std.proofs.Common.{◌≡◌, ℕ, zero, suc, ◌+◌, ◌<◌, ◌≤◌, Bool, true, false, ◌&&◌, nat_lt, cond, List, [], ◌∷◌, ◌++◌, length, get_or, Option, Some, None, refl, sym, ap, subst, ◌∙◌, arith}
+use Rattle.std.proofs.Common.{◌≡◌, ℕ, zero, suc, ◌+◌, ◌<◌, ◌≤◌, false, nat_lt, List, [], ◌∷◌, ◌++◌, length, get_or, Option, Some, None, refl, sym, ap, ◌∙◌, arith}
 use Rattle.std.proofs.lemmas.Bool.{cond_both}
 use Rattle.std.proofs.lemmas.Bool.Decides.{nat_tests}
 use Rattle.std.proofs.lemmas.Option.{slice_get-get_or}
 use Rattle.std.proofs.lemmas.List.Elements.{All-nil, All-cons, All-head, All-tail, All-filter}
 use Rattle.std.proofs.lemmas.List.Quantifiers.{all_pairs_push}
-use Rattle.std.specs.List.{list_any, slice_get, All, AllPairs}
+use Rattle.std.specs.List.{slice_get, All}
 use Rattle.mesh_header.specs.Pieces.{Placed}
 use Rattle.fragment_buffers.specs.Reassembly.{PlacedPiece, Reassembly, placed, begun, overlap, overlaps, repeats, octet_of, octet_at, first_of, before_all, gathered, datagram_of}
-use Rattle.fragment_buffers.specs.Taking.{Taking, Held, Full, same_name, has_room, grown, settled, joined, behind, taken_in, taken, unexpired}
+use Rattle.fragment_buffers.specs.Taking.{Taking, same_name, has_room, grown, settled, joined, taken_in, taken, unexpired}
 use Rattle.fragment_buffers.specs.Laws.{no_piece, AreApart, WholeIsOfItsPieces, GapIsInNoPiece, PiecesStayApart}
 use Rattle.fragment_buffers.proofs.Places.{none_passes}
 

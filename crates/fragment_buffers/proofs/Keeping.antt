@@ -1,18 +1,16 @@
 -- What a pool owes to the entries, over the calls that change both.
-use Rattle.std.proofs.Common.{◌≡◌, ℕ, zero, suc, ◌+◌, ◌<◌, ◌≤◌, ◌⊎◌, inl, inr, List, [], ◌∷◌, ◌++◌, length, map, get_or, set, take, drop, nat_lt, if◌then◌else◌, refl, sym, ap, subst, ◌∙◌, arith, length-append, length-set}
+use Rattle.std.proofs.Common.{◌≡◌, ℕ, zero, suc, ◌+◌, ◌<◌, ◌⊎◌, inl, inr, List, [], ◌∷◌, ◌++◌, length, map, get_or, set, take, drop, nat_lt, if◌then◌else◌, refl, sym, ap, subst, ◌∙◌, arith, length-append, length-set}
 use Rattle.std.proofs.lemmas.Bool.{cases_lt, cases_eq}
-use Rattle.std.proofs.lemmas.List.{get_or_append_left, get_or_push, get_or-set_same, get_or-set_other, map-append, map-set, length-map, get_or-map, same_lists}
+use Rattle.std.proofs.lemmas.List.{get_or_append_left, get_or_push, get_or-set_same, get_or-set_other, map-append, length-map, get_or-map, same_lists}
 use Rattle.std.proofs.lemmas.List.Sums.{sum_by_push, sum_by-remove, sum_by-set, sum_by-cons}
 use Rattle.std.proofs.lemmas.List.Edits.{get_or-remove_below, get_or-remove_above, length-remove}
 use Rattle.std.proofs.lemmas.List.Elements.{All-from_get_or, All-set, All-append, All-take, All-drop}
-use Rattle.std.specs.List.{remove, sum_by, All, take-map, drop-map}
-use Rattle.std.specs.Int.{div_ceil}
+use Rattle.std.specs.List.{remove, All, take-map, drop-map}
 use Rattle.block_pool.specs.Pool.{PoolState, IsChain, chain_octets}
 use Rattle.block_pool.proofs.Callers.{is_chain_if_long}
-use Rattle.fragment_buffers.specs.declared.place.Place.{Place}
 use Rattle.fragment_buffers.specs.Reassembly.{Reassembly}
 use Rattle.fragment_buffers.specs.Taking.{blocks, blocks_held}
-use Rattle.fragment_buffers.specs.Entries.{Entry, no_entry, entry_at, blocks_used, piece_in, reassembly_in, told, Keeps, IsOther, Moves, IsBounded}
+use Rattle.fragment_buffers.specs.Entries.{Entry, no_entry, entry_at, blocks_used, piece_in, reassembly_in, told, Keeps, Moves, IsBounded}
 use Rattle.fragment_buffers.proofs.Octets.{map_same}
 use Rattle.fragment_buffers.proofs.Writing.{Stays}
 

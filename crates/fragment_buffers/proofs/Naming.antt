@@ -1,11 +1,11 @@
 -- Names of entries and of the reassemblies that they tell.
-use Rattle.std.proofs.Common.{◌≡◌, ℕ, ◌+◌, ◌<◌, ◌≤◌, ◌⊎◌, inl, inr, Bool, true, false, List, [], ◌∷◌, ◌++◌, length, get_or, sym, ap, subst, ◌∙◌, arith, eq-eqb}
+use Rattle.std.proofs.Common.{◌≡◌, ℕ, ◌+◌, ◌<◌, ◌≤◌, ◌⊎◌, inl, inr, false, List, [], ◌∷◌, ◌++◌, length, get_or, sym, ap, ◌∙◌, arith, eq-eqb}
 use Rattle.std.proofs.lemmas.Bool.{and_from}
 use Rattle.std.proofs.lemmas.List.{length-map}
 use Rattle.mesh_header.specs.Pieces.{Placed}
 use Rattle.block_pool.specs.Pool.{PoolState}
 use Rattle.fragment_buffers.specs.Reassembly.{Reassembly, begun}
-use Rattle.fragment_buffers.specs.Taking.{Taking, Full, blocks, blocks_held, same_name, taken}
+use Rattle.fragment_buffers.specs.Taking.{Full, blocks, same_name, taken}
 use Rattle.fragment_buffers.specs.Answers.{nothing, has_name, NoneIsNamed, settled_at, joined_at}
 use Rattle.fragment_buffers.specs.Entries.{Entry, entry_at, reassembly_in, told, blocks_used}
 use Rattle.fragment_buffers.proofs.Keeping.{told_at, blocks_told}

@@ -1,6 +1,6 @@
 -- The pieces that an entry has in its chain.
-use Rattle.std.proofs.Common.{◌≡◌, ℕ, zero, suc, ◌+◌, ◌-◌, ◌*◌, ◌<◌, ◌≤◌, ◌⊎◌, inl, inr, Bool, true, false, ◌&&◌, ◌||◌, ◌==◌, nat_lt, nat_le, cond, List, [], ◌∷◌, ◌++◌, length, map, get_or, take, drop, Option, Some, None, refl, sym, ap, subst, ◌∙◌, arith, drop-cons}
-use Rattle.std.proofs.lemmas.Bool.{cases_Bool, cases_eq, or_parts, and_parts, and_cases, cond-true, cond-false, leb-true, leb-false, ltb-true, ltb-false}
+use Rattle.std.proofs.Common.{◌≡◌, ℕ, zero, suc, ◌+◌, ◌-◌, ◌*◌, ◌<◌, ◌≤◌, inl, inr, Bool, true, false, ◌&&◌, ◌||◌, ◌==◌, nat_lt, nat_le, cond, List, [], ◌∷◌, ◌++◌, length, map, get_or, take, drop, Option, Some, None, refl, sym, ap, subst, ◌∙◌, arith, drop-cons}
+use Rattle.std.proofs.lemmas.Bool.{cases_Bool, cases_eq, or_parts, and_parts, cond-true, leb-true, ltb-true, ltb-false}
 use Rattle.std.proofs.lemmas.Bool.Decides.{nat_tests}
 use Rattle.std.proofs.lemmas.Option.{slice_get-get_or}
 use Rattle.std.proofs.lemmas.List.{map-append, take_all}
@@ -9,10 +9,10 @@ use Rattle.std.specs.List.{list_any, slice_get, slice_range, All}
 use Rattle.mesh_header.specs.Pieces.{Placed, IsPiece}
 use Rattle.block_pool.specs.Pool.{PoolState, chain_octets, overwrite}
 use Rattle.fragment_buffers.specs.declared.place.Place.{Place}
-use Rattle.fragment_buffers.specs.Reassembly.{PlacedPiece, Reassembly, placed, overlap, overlaps, repeats, octet_of, octet_at, first_of, before_all, gathered, datagram_of}
+use Rattle.fragment_buffers.specs.Reassembly.{PlacedPiece, placed, overlap, overlaps, repeats, octet_of, octet_at, first_of, before_all, gathered, datagram_of}
 use Rattle.fragment_buffers.specs.Entries.{Entry, IsEntry, IsPlace, IsCovered, HasGap, place_of, same_place, meet, covers, piece_in, reassembly_in}
 use Rattle.fragment_buffers.proofs.Octets.{length-slice, slice_apart, slice_written, get-slice, get-past, list_any-map, map_same}
-use Rattle.fragment_buffers.proofs.Places.{none_passes, apart_parts, piece_place}
+use Rattle.fragment_buffers.proofs.Places.{none_passes, apart_parts}
 
 -- # Tests on places are tests on pieces
 

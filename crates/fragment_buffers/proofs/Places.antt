@@ -1,20 +1,17 @@
 -- Places of pieces: how many there can be, and what writing one makes of the pieces.
-use Rattle.std.proofs.Common.{◌≡◌, ◌≢◌, ℕ, zero, suc, ◌+◌, ◌-◌, ◌*◌, ◌/◌, ◌%◌, ◌<◌, ◌≤◌, ◌⊎◌, inl, inr, Bool, true, false, ◌||◌, ◌&&◌, nat_lt, eqb, List, [], ◌∷◌, ◌++◌, length, map, get_or, refl, sym, ap, subst, ◌∙◌, arith, length-append}
-use Rattle.std.proofs.lemmas.Bool.{cases_lt, or_parts, eqb-true, ltb-true, leb-true, ltb-false, and_cases, and_parts, and_from, or_cases, or_left, or_right, lt-ltb, le-leb}
+use Rattle.std.proofs.Common.{◌≡◌, ◌≢◌, ℕ, zero, suc, ◌+◌, ◌*◌, ◌/◌, ◌%◌, ◌<◌, ◌≤◌, ◌⊎◌, inl, inr, Bool, true, false, ◌&&◌, nat_lt, eqb, List, [], ◌∷◌, ◌++◌, length, map, get_or, sym, ◌∙◌, arith, length-append}
+use Rattle.std.proofs.lemmas.Bool.{cases_lt, or_parts, eqb-true, ltb-true, leb-true, and_parts, and_from, or_cases, or_left, or_right, lt-ltb, le-leb}
 use Rattle.std.proofs.lemmas.Bool.Decides.{nat_tests, Decides-eqb}
-use Rattle.std.proofs.lemmas.List.{map-append, length-map, get_or-map}
-use Rattle.std.proofs.lemmas.List.Elements.{All-head, All-tail, All-push, All-map, All-weaker}
+use Rattle.std.proofs.lemmas.List.{length-map, get_or-map}
+use Rattle.std.proofs.lemmas.List.Elements.{All-head, All-tail, All-push}
 use Rattle.std.proofs.lemmas.List.Quantifiers.{all_pairs_push}
 use Rattle.std.proofs.lemmas.List.Folds.{Any-from_list_any}
 use Rattle.std.proofs.lemmas.Map.Steps.{length-le_from_distinct_below}
 use Rattle.std.proofs.lemmas.Map.Made.{IsDistinct-from_AllPairs}
-use Rattle.std.specs.List.{list_any, slice_range, All, AllPairs}
+use Rattle.std.specs.List.{list_any, All, AllPairs}
 use Rattle.mesh_header.specs.Pieces.{Placed, IsPiece}
-use Rattle.block_pool.specs.Pool.{overwrite}
 use Rattle.fragment_buffers.specs.declared.place.Place.{Place}
-use Rattle.fragment_buffers.specs.Reassembly.{PlacedPiece, placed, overlap, overlaps, repeats}
-use Rattle.fragment_buffers.specs.Entries.{Entry, IsEntry, IsPlace, IsCovered, place_of, same_place, meet, covers, piece_in}
-use Rattle.fragment_buffers.proofs.Octets.{length-slice, slice_apart, slice_written, list_any-map, map_same}
+use Rattle.fragment_buffers.specs.Entries.{Entry, IsEntry, IsPlace, IsCovered, place_of, meet, covers}
 
 pub piece_place : (piece : Placed) → IsPiece piece → IsPlace piece.size (place_of piece)
 piece_place piece rule = record { some = rule.some; within = rule.within; eighths = rule.eighths }

@@ -1,20 +1,17 @@
 -- The pieces of a datagram come together again.
-use Rattle.std.proofs.Common.{◌≡◌, ℕ, zero, suc, ◌+◌, ◌-◌, ◌*◌, ◌/◌, ◌<◌, ◌≤◌, ◌⊎◌, inl, inr, Bool, true, false, ◌&&◌, ◌||◌, ◌==◌, eqb, nat_lt, nat_le, cond, List, [], ◌∷◌, ◌++◌, length, map, get_or, set, take, drop, Option, Some, None, refl, sym, ap, subst, ◌∙◌, arith, append_assoc, eq-eqb, length-append, length-take, length-drop}
+use Rattle.std.proofs.Common.{◌≡◌, ℕ, ◌+◌, ◌-◌, ◌*◌, ◌/◌, ◌<◌, ◌≤◌, inl, inr, Bool, true, false, ◌&&◌, ◌||◌, ◌==◌, nat_lt, nat_le, cond, List, [], ◌∷◌, ◌++◌, length, map, get_or, set, drop, Option, Some, None, refl, sym, ap, subst, ◌∙◌, arith, eq-eqb, length-append, length-take, length-drop}
 use Rattle.std.proofs.lemmas.Bool.{cases_Bool, cases_eq, cond-true, cond-false, or_parts, or_from, and_from, lt-leb, eqb-true, eqb-false, le-leb, leb-true}
 use Rattle.std.proofs.Math.Bool.{or-false}
 use Rattle.std.proofs.lemmas.Bool.Decides.{nat_tests}
 use Rattle.std.proofs.lemmas.Option.{slice_get-get_or, slice_get_past}
 use Rattle.std.proofs.lemmas.List.{map-append, take_all, get_or_append_left, get_or_push, get_or-take, get_or-drop}
-use Rattle.std.proofs.lemmas.List.Elements.{All-head, All-tail}
-use Rattle.std.proofs.lemmas.List.Folds.{list_any_none}
 use Rattle.std.specs.Int.{div_ceil}
-use Rattle.std.specs.List.{list_any, slice_get, remove, All}
-use Rattle.mesh_header.specs.Pieces.{Placed}
+use Rattle.std.specs.List.{list_any, slice_get, remove}
 use Rattle.fragment_buffers.specs.Cutting.{pieces_of, piece_of}
-use Rattle.fragment_buffers.specs.Reassembly.{PlacedPiece, Reassembly, placed, begun, overlap, overlaps, repeats, octet_of, octet_at, first_of, datagram_of}
-use Rattle.fragment_buffers.specs.Taking.{Taking, Outcome, Held, Whole, blocks, blocks_held, same_name, grown, taken}
+use Rattle.fragment_buffers.specs.Reassembly.{PlacedPiece, Reassembly, placed, begun, overlap, overlaps, repeats, octet_of, octet_at, datagram_of}
+use Rattle.fragment_buffers.specs.Taking.{Taking, Held, Whole, same_name, grown, taken}
 use Rattle.fragment_buffers.specs.Answers.{nothing, settled_by, settled_at, joined_at}
-use Rattle.fragment_buffers.specs.Laws.{Coming, after, has_come, note_of_first, Awaits, PiecesComeTogether}
+use Rattle.fragment_buffers.specs.Laws.{Coming, after, has_come, Awaits, PiecesComeTogether}
 use Rattle.fragment_buffers.proofs.Octets.{list_any-map}
 use Rattle.fragment_buffers.proofs.Places.{none_passes}
 use Rattle.fragment_buffers.proofs.PiecesHeld.{first_some, first_none, gathered_all, gathered_gap}

@@ -1,13 +1,13 @@
 -- The rule of taking a piece, at the place of the reassembly that it joins.
-use Rattle.std.proofs.Common.{◌≡◌, ℕ, zero, suc, ◌+◌, ◌<◌, ◌≤◌, ◌⊎◌, inl, inr, Bool, true, false, ◌&&◌, ◌||◌, nat_lt, nat_le, cond, List, [], ◌∷◌, ◌++◌, length, get_or, set, Option, Some, None, Ok, refl, sym, ap, subst, ◌∙◌, arith}
-use Rattle.std.proofs.lemmas.Bool.{cond-true, cond-false, or_left, or_right, or_from, and_left, and_right, and_from, lt-ltb, le-ltb, le-leb, lt-leb, cases_Bool}
+use Rattle.std.proofs.Common.{◌≡◌, ℕ, zero, suc, ◌+◌, ◌<◌, ◌≤◌, ◌⊎◌, inl, inr, Bool, true, false, ◌&&◌, nat_lt, nat_le, cond, List, [], ◌∷◌, ◌++◌, length, get_or, set, Option, Some, None, Ok, refl, sym, ap, ◌∙◌, arith}
+use Rattle.std.proofs.lemmas.Bool.{cond-true, cond-false, or_left, or_right, or_from, and_left, and_right, and_from, lt-ltb, le-ltb, le-leb, lt-leb}
 use Rattle.std.proofs.lemmas.List.{get_or_push}
 use Rattle.std.proofs.lemmas.List.Folds.{list_any_at, list_any_none}
 use Rattle.std.proofs.lemmas.List.Elements.{All-from_get_or}
-use Rattle.std.specs.List.{list_any, remove}
+use Rattle.std.specs.List.{list_any}
 use Rattle.mesh_header.specs.Pieces.{Placed}
 use Rattle.fragment_buffers.specs.Reassembly.{PlacedPiece, Reassembly, begun, placed, datagram_of, repeats}
-use Rattle.fragment_buffers.specs.Taking.{Taking, Outcome, Full, Held, Whole, blocks, blocks_held, same_name, has_room, grown, settled, joined, behind, taken_in, taken}
+use Rattle.fragment_buffers.specs.Taking.{Taking, Full, Held, blocks, blocks_held, same_name, grown, settled, behind, taken_in, taken}
 use Rattle.fragment_buffers.specs.Answers.{answer_of, taken_of, nothing, settled_by, settled_at, joined_at}
 
 -- # Behind others

@@ -1,11 +1,11 @@
 -- The rule at a place, for the entries there.
-use Rattle.std.proofs.Common.{◌≡◌, ℕ, ◌+◌, ◌<◌, ◌≤◌, Bool, true, false, cond, List, [], ◌∷◌, ◌++◌, length, get_or, set, Option, Some, None, refl, sym, ap, subst, ◌∙◌, arith}
+use Rattle.std.proofs.Common.{◌≡◌, ℕ, ◌<◌, true, false, List, length, get_or, set, sym, ap, subst, ◌∙◌}
 use Rattle.std.proofs.lemmas.Bool.{cond-true, cond-false}
 use Rattle.std.specs.List.{list_any, remove, All}
-use Rattle.mesh_header.specs.Pieces.{Placed, IsPiece}
+use Rattle.mesh_header.specs.Pieces.{Placed}
 use Rattle.block_pool.specs.Pool.{PoolState, chain_octets}
 use Rattle.fragment_buffers.specs.Reassembly.{Reassembly, begun, placed, datagram_of, repeats}
-use Rattle.fragment_buffers.specs.Taking.{Taking, Outcome, Held, Whole, grown}
+use Rattle.fragment_buffers.specs.Taking.{Held, Whole, grown}
 use Rattle.fragment_buffers.specs.Answers.{nothing, settled_by, settled_at, joined_at}
 use Rattle.fragment_buffers.specs.Entries.{Entry, entry_at, reassembly_in, told, IsEntry, IsPlace, IsCovered, HasGap, place_of, same_place}
 use Rattle.fragment_buffers.proofs.PiecesHeld.{datagram_covered, datagram_gap, repeats_in}

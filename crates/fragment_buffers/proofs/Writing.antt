@@ -1,14 +1,13 @@
 -- What writing a piece into a chain makes of an entry.
-use Rattle.std.proofs.Common.{◌≡◌, ℕ, ◌+◌, ◌*◌, ◌<◌, ◌≤◌, ◌⊎◌, inl, inr, Bool, true, false, List, [], ◌∷◌, ◌++◌, length, map, is_some, refl, sym, ap, subst, ◌∙◌, arith}
+use Rattle.std.proofs.Common.{◌≡◌, ℕ, ◌*◌, ◌<◌, true, false, List, [], ◌∷◌, ◌++◌, length, map, is_some, refl, sym, ap, subst, ◌∙◌, arith}
 use Rattle.std.proofs.lemmas.List.Elements.{All-nil, All-push}
 use Rattle.std.proofs.lemmas.Bool.{cond-true, cond-false}
-use Rattle.std.specs.List.{list_any, All, AllPairs}
+use Rattle.std.specs.List.{list_any, All}
 use Rattle.std.specs.FinMap.{insert, remove, get}
-use Rattle.std.specs.Bool.{IsTrue}
 use Rattle.mesh_header.specs.Pieces.{Placed, IsPiece}
 use Rattle.block_pool.specs.Pool.{PoolState, IsChain, chain_octets, overwrite}
 use Rattle.block_pool.proofs.Chains.{get-insert_other, get-remove_other}
-use Rattle.block_pool.proofs.Callers.{chain_octets-insert, chain_octets-insert_other, chain_octets-remove_other, IsChain-insert, is_chain_if_long}
+use Rattle.block_pool.proofs.Callers.{chain_octets-insert, chain_octets-insert_other, chain_octets-remove_other}
 use Rattle.block_pool.proofs.Overwrites.{length-overwrite}
 use Rattle.fragment_buffers.specs.declared.place.Place.{Place}
 use Rattle.fragment_buffers.specs.Reassembly.{PlacedPiece, Reassembly, begun, placed, overlaps}

@@ -1,5 +1,5 @@
 -- The cut of a datagram into pieces.
-use Rattle.std.specs.Prelude.{ℕ, ◌+◌, ◌*◌, nat_lt, nat_le, if◌then◌else◌, List, [], length, map, take, drop}
+use Rattle.std.specs.Prelude.{ℕ, ◌*◌, nat_le, if◌then◌else◌, List, [], length, map, take, drop}
 use Rattle.std.specs.Int.{div_ceil}
 use Rattle.std.specs.List.{range_with_len}
 use Rattle.mesh_header.specs.Pieces.{Placed}

@@ -1,10 +1,10 @@
 -- Laws of cutting and reassembly.
-use Rattle.std.specs.Prelude.{◌≡◌, ℕ, ◌+◌, ◌<◌, ◌≤◌, Bool, true, false, ◌==◌, List, [], ◌∷◌, ◌++◌, length, get_or, replicate, Option, Some, None, slice_get}
+use Rattle.std.specs.Prelude.{◌≡◌, ℕ, ◌+◌, ◌<◌, ◌≤◌, Bool, true, false, ◌==◌, List, [], ◌∷◌, ◌++◌, length, get_or, replicate, Some, None, slice_get}
 use Rattle.std.specs.List.{list_any, All, AllPairs}
 use Rattle.mesh_header.specs.Pieces.{Placed}
 use Rattle.fragment_buffers.specs.Cutting.{pieces_of, piece_of}
 use Rattle.fragment_buffers.specs.Reassembly.{Reassembly, PlacedPiece, datagram_of, octet_of, overlap, begun}
-use Rattle.fragment_buffers.specs.Taking.{Taking, Outcome, Full, Held, Whole, blocks, blocks_held, same_name, taken, unexpired}
+use Rattle.fragment_buffers.specs.Taking.{Held, Whole, blocks, blocks_held, same_name, taken, unexpired}
 
 -- # Worked: a datagram of 736 octets
 

@@ -1,7 +1,7 @@
-use Rattle.std.proofs.Common.{◌≡◌, [], arith, sym, ap, ◌∙◌}
+use Rattle.std.proofs.Common.{[], sym, ap, ◌∙◌}
 use Rattle.fragment_buffers.specs.Buffer.{entry_of}
 use Rattle.fragment_buffers.specs.Entries.{Entry}
-use Rattle.fragment_buffers.proofs.Writing.{Before, anew, same, Writes, Fits, Stays, told_grown, long_written, before_fits, before_chain, before_size, stays-insert}
+use Rattle.fragment_buffers.proofs.Writing.{Before, anew, same, Writes, Fits, told_grown, long_written, before_fits, before_chain, before_size, stays-insert}
 use Rattle.fragment_buffers.proofs.buffer.Buffer.grow.Goals as goal
 use Rattle.fragment_buffers.proofs.buffer.Buffer.grow.Goals.{then-overlaps, else-overlaps}
 

@@ -1,4 +1,4 @@
-use Rattle.std.proofs.Common.{sym, ap, subst, arith}
+use Rattle.std.proofs.Common.{ap, subst, arith}
 use Rattle.fragment_buffers.specs.Entries.{IsEntry}
 use Rattle.fragment_buffers.proofs.Places.{covered_by_units}
 use Rattle.fragment_buffers.proofs.buffer.Buffer.is_whole.Goals as goal

@@ -1,6 +1,6 @@
 use Rattle.std.proofs.Common.{[], ◌∷◌, ◌++◌, sym, subst, ap, ◌∙◌, ◌≡◌, false, arith}
 use Rattle.std.specs.List.{list_any}
-use Rattle.fragment_buffers.specs.Entries.{place_of, meet, IsEntry, IsPlace}
+use Rattle.fragment_buffers.specs.Entries.{place_of, meet, IsEntry}
 use Rattle.fragment_buffers.specs.Buffer.{entry_of}
 use Rattle.fragment_buffers.proofs.Writing.{room_for_write, entry_written}
 use Rattle.fragment_buffers.proofs.buffer.Buffer.write.Goals as goal

@@ -1,6 +1,6 @@
-use Rattle.std.proofs.Common.{◌≡◌, Ok, inl, inr, length, sym, ap, subst, ◌∙◌, arith}
+use Rattle.std.proofs.Common.{◌≡◌, Ok, inl, inr, length, sym, ap, ◌∙◌, arith}
 use Rattle.fragment_buffers.specs.Taking.{Taking, Full, taken, blocks}
-use Rattle.fragment_buffers.specs.Answers.{answer_of, taken_of, octets_of, settled_at}
+use Rattle.fragment_buffers.specs.Answers.{answer_of, octets_of, settled_at}
 use Rattle.fragment_buffers.specs.Entries.{told, blocks_used}
 use Rattle.fragment_buffers.proofs.Naming.{full_told, new_told}
 use Rattle.fragment_buffers.proofs.Rule.{settled_answer}

@@ -1,10 +1,9 @@
-use Rattle.std.proofs.Common.{◌≡◌, ◌+◌, ◌<◌, ◌≤◌, inl, inr, length, sym, ap, subst, ◌∙◌, arith}
+use Rattle.std.proofs.Common.{◌+◌, ◌<◌, inl, inr, length, sym, ap, ◌∙◌, arith}
 use Rattle.std.proofs.lemmas.Bool.{cases_lt, false≢true}
 use Rattle.std.proofs.lemmas.List.Edits.{length-remove}
 use Rattle.fragment_buffers.specs.Reassembly.{Reassembly}
-use Rattle.fragment_buffers.specs.Taking.{unexpired}
 use Rattle.fragment_buffers.specs.Answers.{nothing}
-use Rattle.fragment_buffers.specs.Entries.{Entry, told, entry_at}
+use Rattle.fragment_buffers.specs.Entries.{Entry, told}
 use Rattle.fragment_buffers.proofs.Naming.{length-told}
 use Rattle.fragment_buffers.proofs.Keeping.{read_entry, told_at, moves_both}
 use Rattle.fragment_buffers.proofs.Expiring.{kept_so_far, expired_at, unexpired_at, all_kept}

@@ -1,8 +1,7 @@
 use Rattle.std.proofs.Common.{◌≡◌, set, get_or, length, sym, ap, subst, ◌∙◌, arith}
 use Rattle.std.specs.List.{refill}
 use Rattle.plc_base.proofs.SlotTables.{refill-set}
-use Rattle.block_pool.specs.Pool.{IsChain, chain_octets}
-use Rattle.fragment_buffers.specs.Reassembly.{Reassembly, begun, placed}
+use Rattle.fragment_buffers.specs.Reassembly.{begun, placed}
 use Rattle.fragment_buffers.specs.Taking.{grown}
 use Rattle.fragment_buffers.specs.Entries.{Entry, Keeps, Moves, IsBounded, told, entry_at, reassembly_in, blocks_used, no_entry}
 use Rattle.fragment_buffers.proofs.Keeping.{AreSome, Changes, read_entry, told_set, keeps_set, moves_set, bounded_set, used_set}

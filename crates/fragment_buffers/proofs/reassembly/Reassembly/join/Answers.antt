@@ -1,9 +1,8 @@
-use Rattle.std.proofs.Common.{◌≡◌, false, set, length, sym, ap, subst, ◌∙◌, arith}
+use Rattle.std.proofs.Common.{◌≡◌, sym, ap, subst, ◌∙◌}
 use Rattle.std.specs.List.{list_any}
-use Rattle.block_pool.specs.Pool.{chain_octets}
 use Rattle.fragment_buffers.specs.Taking.{Taking, Held}
 use Rattle.fragment_buffers.specs.Answers.{taken_of, octets_of, settled_at, joined_at}
-use Rattle.fragment_buffers.specs.Entries.{Entry, IsEntry, told, entry_at, same_place, place_of}
+use Rattle.fragment_buffers.specs.Entries.{Entry, IsEntry, told, same_place, place_of}
 use Rattle.fragment_buffers.proofs.Keeping.{read_entry, moves_both}
 use Rattle.fragment_buffers.proofs.Settling.{joined_repeat, joined_grown}
 use Rattle.fragment_buffers.proofs.reassembly.Reassembly.join.Goals as goal

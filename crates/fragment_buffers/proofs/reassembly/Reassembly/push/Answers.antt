@@ -1,7 +1,7 @@
 use Rattle.std.proofs.Common.{◌≡◌, [], ◌∷◌, ◌++◌, sym, ap, subst, ◌∙◌, arith}
-use Rattle.fragment_buffers.specs.Entries.{Entry, IsBounded, Keeps, told}
+use Rattle.fragment_buffers.specs.Entries.{Keeps, told}
 use Rattle.fragment_buffers.specs.Reassembly.{Reassembly}
-use Rattle.fragment_buffers.proofs.Keeping.{AreSome, Begins, told_push, keeps_push, moves_push}
+use Rattle.fragment_buffers.proofs.Keeping.{AreSome, Begins, told_push, keeps_push}
 use Rattle.fragment_buffers.proofs.reassembly.Reassembly.push.Goals as goal
 
 begins : (c : goal.After-push) → Begins c.args.pool.now c.begin.new.pool c.begin.result

@@ -1,4 +1,4 @@
-use Rattle.std.proofs.Common.{◌≡◌, length, sym, ap, subst, ◌∙◌, arith}
+use Rattle.std.proofs.Common.{◌≡◌, sym, ap, subst, ◌∙◌}
 use Rattle.std.specs.List.{remove}
 use Rattle.block_pool.specs.Pool.{chain_octets}
 use Rattle.fragment_buffers.specs.declared.reassembly.Taken.TheVariants as answer

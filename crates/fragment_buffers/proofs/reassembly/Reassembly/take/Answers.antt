@@ -1,6 +1,6 @@
-use Rattle.std.proofs.Common.{◌≡◌, ℕ, ◌<◌, false, Ok, sym, ap, subst, ◌∙◌, arith}
+use Rattle.std.proofs.Common.{◌≡◌, ℕ, ◌<◌, false, Ok, sym, ap, subst, ◌∙◌}
 use Rattle.fragment_buffers.specs.Taking.{Taking, taken}
-use Rattle.fragment_buffers.specs.Answers.{answer_of, taken_of, octets_of, has_name, joined_at}
+use Rattle.fragment_buffers.specs.Answers.{answer_of, octets_of, has_name, joined_at}
 use Rattle.fragment_buffers.specs.Entries.{told, entry_at}
 use Rattle.fragment_buffers.proofs.Naming.{found_told}
 use Rattle.fragment_buffers.proofs.Rule.{joined_answer}
