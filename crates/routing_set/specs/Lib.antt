@@ -1,0 +1,3 @@
+pub mod Ranks
+pub mod OwnNumber
+pub mod RoutingSet
