@@ -1,3 +1,4 @@
 pub mod Ranks
 pub mod OwnNumber
 pub mod RoutingSet
+pub mod Endings

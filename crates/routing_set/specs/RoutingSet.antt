@@ -1,6 +1,7 @@
 -- The ranks that a node keeps, the floors of those that it forgot, and its valid routes.
-use Rattle.std.specs.Prelude.{◌≡◌, ◌⊎◌, ◌≢◌, ℕ, zero, suc, ◌+◌, ◌*◌, ◌%◌, ◌<◌, ◌≤◌, max, Bool, true, false, ◌&&◌, ◌||◌, ◌==◌, nat_lt, nat_le, if◌then◌else◌, List, [], ◌∷◌, ◌++◌, length, map, set, drop, fold, slice_index, is_some, Option, Some, None, unwrap_or, Result, Ok, Err, refl}
+use Rattle.std.specs.Prelude.{◌≡◌, ◌⊎◌, ◌≢◌, ℕ, zero, suc, ◌+◌, ◌*◌, ◌%◌, ◌<◌, ◌≤◌, max, Bool, true, false, ◌&&◌, ◌||◌, ◌==◌, nat_lt, nat_le, if◌then◌else◌, List, [], ◌∷◌, ◌++◌, length, map, set, drop, fold, slice_index, replicate, is_some, Option, Some, None, unwrap_or, Result, Ok, Err, refl}
 use Rattle.std.specs.List.{range_with_len, list_all, flat_map}
+use Rattle.std.specs.Bool.{OnTrue}
 use Rattle.std.specs.Option.{option_map, option_map_or, option_and_then}
 use Rattle.std.specs.Coded.{Coded, code_by, coded×, coded_ℕ, coded_list, coded_option}
 use Rattle.std.specs.FinMap.{get}
@@ -74,14 +75,22 @@ ranks = record {
 abbrev pub floor_slot : ℕ
 floor_slot = 5
 
--- the floors that the record of the slot gives: 16 zeros where none is there, and no reading where it has not 32 octets
-abbrev pub floors_in : Option (List ℕ) → Option (List ℕ)
-floors_in None = Some (map (λ _. 0) (range_with_len 0 16))
-floors_in (Some octets) = if length octets == 32 then Some (map (λ class. big_number 2 (drop (2 * class) octets)) (range_with_len 0 16)) else None
+-- the floors that 32 octets give, each in 2 of them
+unfoldable pub floors_of : List ℕ → List ℕ
+floors_of octets = map (λ class. big_number 2 (drop (2 * class) octets)) (range_with_len 0 16)
 
--- the put of the floors, each in 2 octets
+-- the floors that the record of the slot gives: 16 zeros where none is there, and no reading where it has not 32 octets
+unfoldable pub floors_in : Option (List ℕ) → Option (List ℕ)
+floors_in None = Some (replicate 16 0)
+floors_in (Some octets) = if length octets == 32 then Some (floors_of octets) else None
+
+-- the record of the floors
+abbrev pub floors_octets : List ℕ → List ℕ
+floors_octets floors = flat_map (big_bytes 2) floors
+
+-- the put of the floors
 abbrev pub floors_write : List ℕ → Write
-floors_write floors = record { slot = floor_slot; octets = flat_map (big_bytes 2) floors }
+floors_write floors = record { slot = floor_slot; octets = floors_octets floors }
 
 -- What is held as stored is what the records give, and no record of a rank stands behind them.
 pub record IsKept (routing : Routing) (records : Records) : Type 0 where
@@ -130,6 +139,10 @@ rank_of routing dest = option_map (λ e. e.rank) (entry_of routing.entries dest)
 -- the valid route to an address
 unfoldable pub route_of : Routing → ℕ → Option Route
 route_of routing dest = option_and_then (λ e. e.route) (entry_of routing.entries dest)
+
+-- the next hop of the valid route to an address
+abbrev pub next_of : Routing → ℕ → Option ℕ
+next_of routing dest = option_map (λ route. route.next) (route_of routing dest)
 
 -- the rank of an address: the kept one, or its class's floor at cost 0 where none is kept
 unfoldable pub held : Routing → ℕ → Rank
@@ -182,13 +195,13 @@ forgotten routing dest now =
     if is_some (place_of routing.entries dest) then None
     else (if length routing.entries == 64 then first_to_go now routing.entries else None)
 
--- the floors with that of an entry's class raised to its number
-abbrev pub raised : List ℕ → RoutingEntry → List ℕ
-raised floors e = set floors (class_of e.address) (max (slice_index floors (class_of e.address)) e.rank.number)
-
--- whether forgetting an entry raises a floor
+-- whether forgetting an entry raises the floor of its class
 abbrev pub raises : List ℕ → RoutingEntry → Bool
 raises floors e = nat_lt (slice_index floors (class_of e.address)) e.rank.number
+
+-- the floors after an entry was forgotten: that of its class is its number, where that is greater
+abbrev pub raised : List ℕ → RoutingEntry → List ℕ
+raised floors e = if raises floors e then set floors (class_of e.address) e.rank.number else floors
 
 -- # An offer that is taken
 
@@ -214,25 +227,33 @@ floors_due floors gone = option_map_or (λ e. if raises floors e then Some (floo
 abbrev pub rank_write : List RoutingEntry → Option RoutingEntry → RoutingEntry → Write
 rank_write entries gone e = slots.entry_write ranks (unwrap_or (place_after entries e.address gone) (length entries)) e
 
--- the puts of an offer that is taken: the floors where one rises, then the rank
+-- the puts of an entry in a place, that of one that is forgotten if there is one: the floors where one rises, then the rank
+abbrev pub writes_of : Routing → Option RoutingEntry → RoutingEntry → List Write
+writes_of routing gone e = puts_of (floors_due routing.floors gone) ++ rank_write routing.entries gone e ∷ []
+
+-- what is kept between the two, and after them
+abbrev pub half_of : Routing → Option RoutingEntry → Routing
+half_of routing gone = record routing { floors = floors_after routing.floors gone }
+
+abbrev pub after_of : Routing → Option RoutingEntry → RoutingEntry → Routing
+after_of routing gone e = record { entries = entries_after routing.entries gone e; floors = floors_after routing.floors gone }
+
+-- the same for an offer
 unfoldable pub offer_writes : Routing → ℕ → Rank → ℕ → ℕ → List Write
-offer_writes routing dest rank next now =
-    puts_of (floors_due routing.floors (forgotten routing dest now))
-    ++ rank_write routing.entries (forgotten routing dest now) (offered_entry dest rank next now) ∷ []
+offer_writes routing dest rank next now = writes_of routing (forgotten routing dest now) (offered_entry dest rank next now)
 
--- what is kept after it
-unfoldable pub offered : Routing → ℕ → Rank → ℕ → ℕ → Routing
-offered routing dest rank next now = record {
-  entries = entries_after routing.entries (forgotten routing dest now) (offered_entry dest rank next now);
-  floors = floors_after routing.floors (forgotten routing dest now);
-}
-
--- what is kept between its two puts
 unfoldable pub half_offered : Routing → ℕ → ℕ → Routing
-half_offered routing dest now = record {
-  entries = routing.entries;
-  floors = floors_after routing.floors (forgotten routing dest now);
-}
+half_offered routing dest now = half_of routing (forgotten routing dest now)
+
+unfoldable pub offered : Routing → ℕ → Rank → ℕ → ℕ → Routing
+offered routing dest rank next now = after_of routing (forgotten routing dest now) (offered_entry dest rank next now)
+
+-- What becomes of the records in an offer that is taken, whatever becomes of its puts; done says that none failed.
+pub record Keeps (old half after : Routing) (done : Bool) (before records : Records) : Type 0 where
+  pub kept : OnTrue done (IsKept after records)
+  -- they are those of what was kept before, between the puts, or after
+  pub either : IsKept old records ⊎ IsKept half records ⊎ IsKept after records
+  pub elsewhere : SameElsewhere before records
 
 -- # Routes that end
 
@@ -288,6 +309,12 @@ abbrev pub is_stored : Result Offered OfferFault → Bool
 is_stored (Ok answer) = true
 is_stored (Err RoutesFull) = true
 is_stored (Err Store) = false
+
+-- whether it was taken
+abbrev pub is_taken : Result Offered OfferFault → Bool
+is_taken (Ok Better) = true
+is_taken (Ok NotBetter) = false
+is_taken (Err fault) = false
 
 -- what a record gives has no valid route
 pub entry_in-rests : (octets : List ℕ) (e : RoutingEntry) → entry_in octets ≡ Some e → without_route e ≡ e

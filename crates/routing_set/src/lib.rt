@@ -2,12 +2,16 @@
 //! the route messages that it begins.
 #![tactic(auto)]
 
+mod ending;
 mod entry;
 mod fault;
+mod floors;
 mod own_number;
 mod rank;
+mod routing_set;
 
 pub use entry::{Route, RoutingEntry};
 pub use fault::{NumberFault, OfferFault, Offered};
 pub use own_number::OwnNumber;
 pub use rank::Rank;
+pub use routing_set::RoutingSet;
