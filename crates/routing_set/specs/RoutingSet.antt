@@ -238,17 +238,27 @@ half_of routing gone = record routing { floors = floors_after routing.floors gon
 abbrev pub after_of : Routing → Option RoutingEntry → RoutingEntry → Routing
 after_of routing gone e = record { entries = entries_after routing.entries gone e; floors = floors_after routing.floors gone }
 
--- the same for an offer
-unfoldable pub offer_writes : Routing → ℕ → Rank → ℕ → ℕ → List Write
-offer_writes routing dest rank next now = writes_of routing (forgotten routing dest now) (offered_entry dest rank next now)
+-- the same for an entry that comes at a time
+unfoldable pub entry_writes : Routing → RoutingEntry → ℕ → List Write
+entry_writes routing e now = writes_of routing (forgotten routing e.address now) e
 
-unfoldable pub half_offered : Routing → ℕ → ℕ → Routing
-half_offered routing dest now = half_of routing (forgotten routing dest now)
+unfoldable pub half_entered : Routing → ℕ → ℕ → Routing
+half_entered routing dest now = half_of routing (forgotten routing dest now)
 
-unfoldable pub offered : Routing → ℕ → Rank → ℕ → ℕ → Routing
-offered routing dest rank next now = after_of routing (forgotten routing dest now) (offered_entry dest rank next now)
+unfoldable pub entered : Routing → RoutingEntry → ℕ → Routing
+entered routing e now = after_of routing (forgotten routing e.address now) e
 
--- What becomes of the records in an offer that is taken, whatever becomes of its puts; done says that none failed.
+-- and for an offer: its puts, and what is kept between them and after them
+abbrev pub offer_writes : Routing → ℕ → Rank → ℕ → ℕ → List Write
+offer_writes routing dest rank next now = entry_writes routing (offered_entry dest rank next now) now
+
+abbrev pub half_offered : Routing → ℕ → ℕ → Routing
+half_offered routing dest now = half_entered routing dest now
+
+abbrev pub offered : Routing → ℕ → Rank → ℕ → ℕ → Routing
+offered routing dest rank next now = entered routing (offered_entry dest rank next now) now
+
+-- What becomes of the records where an entry comes, whatever becomes of its puts; done says that none failed.
 pub record Keeps (old half after : Routing) (done : Bool) (before records : Records) : Type 0 where
   pub kept : OnTrue done (IsKept after records)
   -- they are those of what was kept before, between the puts, or after
@@ -309,12 +319,6 @@ abbrev pub is_stored : Result Offered OfferFault → Bool
 is_stored (Ok answer) = true
 is_stored (Err RoutesFull) = true
 is_stored (Err Store) = false
-
--- whether it was taken
-abbrev pub is_taken : Result Offered OfferFault → Bool
-is_taken (Ok Better) = true
-is_taken (Ok NotBetter) = false
-is_taken (Err fault) = false
 
 -- what a record gives has no valid route
 pub entry_in-rests : (octets : List ℕ) (e : RoutingEntry) → entry_in octets ≡ Some e → without_route e ≡ e

@@ -20,10 +20,10 @@ pub(crate) enum Ending {
 }
 
 impl Ending {
-    fn takes(self, entry: &RoutingEntry) -> bool
-        ensures { result ≡ takes self entry.now }
+    fn takes(&self, entry: &RoutingEntry) -> bool
+        ensures { result ≡ takes self.now entry.now }
     {
-        match self {
+        match *self {
             Ending::By(next) => entry.goes_by(next),
             Ending::To(dest, next) => {
                 entry.address.number() == dest.number() && entry.goes_by(next)
@@ -34,8 +34,8 @@ impl Ending {
     }
 
     // The entry with no route, if its route is one of those that end. Its rank stays.
-    pub(crate) fn applied(self, entry: RoutingEntry) -> RoutingEntry
-        ensures entry { result ≡ after_ending self entry }
+    pub(crate) fn applied(&self, entry: RoutingEntry) -> RoutingEntry
+        ensures entry { result ≡ after_ending self.now entry }
         ensures rest { without_route result ≡ without_route entry }
     {
         if !self.takes(&entry) {

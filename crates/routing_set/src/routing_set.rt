@@ -9,7 +9,7 @@ ghost use Rattle.plc_base.specs.Writes.{Wrote};
 ghost use Rattle.plc_base.specs.SlotTables.{IsTable, IsGapless, IsReading};
 ghost use Rattle.routing_set.specs.Ranks.{beats};
 ghost use Rattle.routing_set.specs.Endings.{takes};
-ghost use Rattle.routing_set.specs.RoutingSet.{Routing, ranks, IsKept, IsBad, opened, at_rest, place_of, rank_of, route_of, next_of, held, floor_of, is_better, is_full, is_fresh, first_to_go, offered_entry, offered, half_offered, offer_writes, Keeps, writes_of, half_of, after_of, offer_result, offer_puts, offer_after, is_stored, is_taken, ended, without_next, without_next_to, expired};
+ghost use Rattle.routing_set.specs.RoutingSet.{Routing, ranks, IsKept, IsBad, SameElsewhere, opened, at_rest, place_of, rank_of, route_of, next_of, held, floor_of, is_better, is_full, is_fresh, first_to_go, offered, half_offered, offer_writes, entered, half_entered, entry_writes, Keeps, writes_of, half_of, after_of, offer_result, offer_puts, offer_after, is_stored, ended, without_next, without_next_to, expired};
 
 use crate::ending::Ending;
 use crate::entry::first_of;
@@ -112,7 +112,8 @@ impl RoutingSet {
     pub fn rank(&self, dest: Short) -> Option<Rank>
         ensures { result ≡ rank_of self.now dest }
     {
-        self.table.find(key_of(dest)).map(|entry| entry.rank)
+        let place = self.table.place_of(key_of(dest))?;
+        Some(self.table.get(place).rank)
     }
 
     /// The next hop of the valid route to an address, None exactly where there is no valid route.
@@ -207,6 +208,28 @@ impl RoutingSet {
         Ok(())
     }
 
+    // Stores an entry in the place of its address, behind the others, or in the place of one that is forgotten.
+    fn enter<K: Keeper>(
+        &mut self,
+        keeper: &mut K,
+        entry: RoutingEntry,
+        now: u64,
+    ) -> Result<(), Failed>
+        requires room { is_full self.old entry.address now ≡ false }
+        requires valid { 1 ≤ entry.rank.number }
+        requires kept { IsKept self.old (K.store keeper.old).records }
+        ensures routing { OnOk result (self.new ≡ entered self.old entry now) }
+        ensures same { OnErr result (self.new ≡ self.old) }
+        ensures store { Wrote (K.store keeper.old) (entry_writes self.old entry now) (is_ok result) (K.store keeper.new) }
+        ensures keeps { Keeps self.old (half_entered self.old entry.address now) (entered self.old entry now) (is_ok result) (K.store keeper.old).records (K.store keeper.new).records }
+    {
+        match self.table.place_of(key_of(entry.address)) {
+            Some(place) => self.table.set_stored(keeper, place, entry),
+            None if self.table.is_full() => self.replace(keeper, entry, now),
+            None => self.table.push_stored(keeper, entry),
+        }
+    }
+
     /// Keeps a better rank of an address, with a valid route by `next`, offered at `now`, in seconds. Where no rank is kept for
     /// the address and 64 are kept, the one that goes first is forgotten: of those with no valid route the one of the least
     /// number, else of those offered at `now` - 60 or before the earliest; of equal ones that of the least address. The floors
@@ -221,24 +244,25 @@ impl RoutingSet {
         next: Short,
         now: u64,
     ) -> Result<(), Failed>
+        requires better { is_better self.old dest rank ≡ true }
         requires room { is_full self.old dest now ≡ false }
         requires valid { 1 ≤ rank.number }
         requires kept { IsKept self.old (K.store keeper.old).records }
         ensures routing { OnOk result (self.new ≡ offered self.old dest rank next now) }
         ensures same { OnErr result (self.new ≡ self.old) }
         ensures store { Wrote (K.store keeper.old) (offer_writes self.old dest rank next now) (is_ok result) (K.store keeper.new) }
-        ensures keeps { Keeps self.old (half_offered self.old dest now) (offered self.old dest rank next now) (is_ok result) (K.store keeper.old).records (K.store keeper.new).records }
+        ensures kept { OnOk result (IsKept self.new (K.store keeper.new).records) }
+        // Whatever became of the puts, the records are those of what was kept before, between the puts, or after.
+        ensures either { IsKept self.old (K.store keeper.new).records ⊎ IsKept (half_offered self.old dest now) (K.store keeper.new).records
+            ⊎ IsKept (offered self.old dest rank next now) (K.store keeper.new).records }
+        ensures elsewhere { SameElsewhere (K.store keeper.old).records (K.store keeper.new).records }
     {
         let entry = RoutingEntry {
             address: dest,
             rank,
             route: Some(Route { next, offered: now }),
         };
-        match self.table.place_of(key_of(dest)) {
-            Some(place) => self.table.set_stored(keeper, place, entry),
-            None if self.table.is_full() => self.replace(keeper, entry, now),
-            None => self.table.push_stored(keeper, entry),
-        }
+        self.enter(keeper, entry, now)
     }
 
     /// Takes an offer of a rank of an address by a next hop, at a time in seconds: where it beats the rank of the address it is
@@ -261,8 +285,10 @@ impl RoutingSet {
         ensures answer { result ≡ offer_result self.old dest (record { number = number; cost = cost }) now (is_stored result) }
         ensures routing { self.new ≡ offer_after self.old dest (record { number = number; cost = cost }) next now (is_stored result) }
         ensures store { Wrote (K.store keeper.old) (offer_puts self.old dest (record { number = number; cost = cost }) next now) (is_stored result) (K.store keeper.new) }
-        ensures keeps { Keeps self.old (half_offered self.old dest now) (offered self.old dest (record { number = number; cost = cost }) next now) (is_taken result) (K.store keeper.old).records (K.store keeper.new).records }
         ensures kept { OnTrue (is_stored result) (IsKept self.new (K.store keeper.new).records) }
+        ensures either { IsKept self.old (K.store keeper.new).records ⊎ IsKept (half_offered self.old dest now) (K.store keeper.new).records
+            ⊎ IsKept (offered self.old dest (record { number = number; cost = cost }) next now) (K.store keeper.new).records }
+        ensures elsewhere { SameElsewhere (K.store keeper.old).records (K.store keeper.new).records }
     {
         if !self.is_better(dest, number, u32::from(cost)) {
             return Ok(Offered::NotBetter);
@@ -277,8 +303,8 @@ impl RoutingSet {
     }
 
     // Ends routes. Every rank and floor stays.
-    fn end_routes(&mut self, ending: Ending)
-        ensures routing { self.new ≡ ended (takes ending) self.old }
+    fn end_routes(&mut self, ending: &Ending)
+        ensures routing { self.new ≡ ended (takes ending.now) self.old }
         ensures kept { (records : Records) → IsKept self.old records → IsKept self.new records }
     {
         for place in 0..self.table.len() {
@@ -292,7 +318,7 @@ impl RoutingSet {
         ensures routing { self.new ≡ without_next self.old next }
         ensures kept { (records : Records) → IsKept self.old records → IsKept self.new records }
     {
-        self.end_routes(Ending::By(next));
+        self.end_routes(&Ending::By(next));
     }
 
     /// Ends the route to an address, if it goes by a next hop. Every rank and floor stays.
@@ -300,7 +326,7 @@ impl RoutingSet {
         ensures routing { self.new ≡ without_next_to self.old dest next }
         ensures kept { (records : Records) → IsKept self.old records → IsKept self.new records }
     {
-        self.end_routes(Ending::To(dest, next));
+        self.end_routes(&Ending::To(dest, next));
     }
 
     /// Ends every route. Every rank and floor stays.
@@ -308,7 +334,7 @@ impl RoutingSet {
         ensures routing { self.new ≡ at_rest self.old }
         ensures kept { (records : Records) → IsKept self.old records → IsKept self.new records }
     {
-        self.end_routes(Ending::Every);
+        self.end_routes(&Ending::Every);
     }
 
     /// Ends each route that was offered at `now` - 21,600 or before, in seconds. Every rank and floor stays.
@@ -316,6 +342,6 @@ impl RoutingSet {
         ensures routing { self.new ≡ expired self.old now }
         ensures kept { (records : Records) → IsKept self.old records → IsKept self.new records }
     {
-        self.end_routes(Ending::Old(now));
+        self.end_routes(&Ending::Old(now));
     }
 }
