@@ -3,3 +3,9 @@ pub mod Entries
 pub mod FloorRecords
 pub mod Endings
 pub mod Offers
+pub mod Gapless
+pub mod RankOrder
+pub mod LookUps
+pub mod Rising
+pub mod Histories
+pub mod Forgetting

@@ -14,6 +14,7 @@ use Rattle.plc_base.proofs.WritesLemmas.{wrote_none, wrote_then, wrote_stop}
 use Rattle.plc_base.specs.SlotTables as slots
 use Rattle.plc_base.proofs.SlotTables.{apart, stored_elsewhere}
 use Rattle.routing_set.specs.declared.entry.RoutingEntry.{RoutingEntry}
+use Rattle.routing_set.specs.Laws.{Among}
 use Rattle.routing_set.specs.RoutingSet.{Routing, ranks, place_of, IsKept, SameElsewhere, Keeps, floor_slot, floors_in, is_fresh, goes_before, first_of, first_to_go, is_full, forgotten, raised, floors_due, writes_of, half_of, after_of, half_entered, entered, entry_writes}
 
 -- # Which entry is forgotten
@@ -43,11 +44,6 @@ one_goes now (e ∷ entries) h = by_test (is_fresh now e) refl (one_goes now ent
     by_test true is more =
         ap (λ (b : Bool). is_some (fold (first_of now) (cond b None (Some e)) entries)) is ∙ more (behind_fresh (is_fresh now e) (list_all (is_fresh now) entries) is h)
     by_test false is more = ap (λ (b : Bool). is_some (fold (first_of now) (cond b None (Some e)) entries)) is ∙ some_stays now e entries
-
--- an entry stands in the table
-pub record Among (entries : List RoutingEntry) (e : RoutingEntry) : Type 0 where
-  pub place : ℕ
-  pub there : slice_get entries place ≡ Some e
 
 pub behind : (x : RoutingEntry) (entries : List RoutingEntry) (e : RoutingEntry) → Among entries e → Among (x ∷ entries) e
 behind x entries e h = record { place = suc h.place; there = h.there }
@@ -268,7 +264,7 @@ half_first r dest now e whole = ap (half_of r) (forgets_first r dest now e whole
 
 -- # An entry in the place of one that is forgotten
 
-after_gone : (r : Routing) (gone e : RoutingEntry) (place : ℕ) → place_of r.entries gone.address ≡ Some place
+pub after_gone : (r : Routing) (gone e : RoutingEntry) (place : ℕ) → place_of r.entries gone.address ≡ Some place
     → after_of r (Some gone) e ≡ record { entries = set r.entries place e; floors = raised r.floors gone }
 after_gone r gone e place at =
     ap (λ (o : Option ℕ). let k : Routing = record { entries = option_map_or (λ p. set r.entries p e) o (r.entries ++ e ∷ []); floors = raised r.floors gone } in k) at

@@ -166,15 +166,16 @@ is_fresh now e = option_map_or (λ route. if has_passed 60 route.offered now the
 abbrev pub comes_first : ℕ → ℕ → ℕ → ℕ → Bool
 comes_first m a n b = nat_lt m n || (m == n && nat_lt a b)
 
--- which of two entries is forgotten first: one with no valid route, then by number, and else by the time of the offer
+-- whether the first of two entries with these routes is forgotten before the second: one with no valid route is, then the
+-- lower number, and else the earlier offer; of equal ones the lower address
+abbrev pub before_by : RoutingEntry → RoutingEntry → Option Route → Option Route → Bool
+before_by a b None None = comes_first a.rank.number a.address b.rank.number b.address
+before_by a b None (Some t) = true
+before_by a b (Some s) None = false
+before_by a b (Some s) (Some t) = comes_first s.offered a.address t.offered b.address
+
 abbrev pub goes_before : RoutingEntry → RoutingEntry → Bool
-goes_before a b = by_routes a.route b.route
-  where
-    by_routes : Option Route → Option Route → Bool
-    by_routes None None = comes_first a.rank.number a.address b.rank.number b.address
-    by_routes None (Some t) = true
-    by_routes (Some s) None = false
-    by_routes (Some s) (Some t) = comes_first s.offered a.address t.offered b.address
+goes_before a b = before_by a b a.route b.route
 
 -- the one so far or another one, whichever can be forgotten and goes before
 abbrev pub first_of : ℕ → Option RoutingEntry → RoutingEntry → Option RoutingEntry

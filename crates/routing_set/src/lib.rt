@@ -6,9 +6,12 @@ mod ending;
 mod entry;
 mod fault;
 mod floors;
+pub mod laws;
 mod own_number;
 mod rank;
 mod routing_set;
+#[cfg(test)]
+mod tests;
 
 pub use entry::{Route, RoutingEntry};
 pub use fault::{NumberFault, OfferFault, Offered};

@@ -6,8 +6,9 @@ use Rattle.plc_base.specs.Writes.{Wrote}
 use Rattle.plc_base.specs.SlotTables.{IsFree, IsStored, entry_write}
 use Rattle.plc_base.proofs.SlotTables.{free_new, stored_elsewhere}
 use Rattle.routing_set.specs.declared.entry.RoutingEntry.{RoutingEntry}
+use Rattle.routing_set.specs.Laws.{Among}
 use Rattle.routing_set.specs.RoutingSet.{Routing, ranks, place_of, first_to_go, writes_of, half_of, after_of, Keeps}
-use Rattle.routing_set.proofs.Offers.{Among, one_goes, gone_among, place_there, gone_stops, gone_goes_on, err_not_ok}
+use Rattle.routing_set.proofs.Offers.{one_goes, gone_among, place_there, gone_stops, gone_goes_on, err_not_ok}
 use Rattle.routing_set.proofs.routing_set.RoutingSet.replace.Goals as goal
 
 pub unwrap-gone-requires : goal.unwrap-gone-requires
