@@ -1,13 +1,11 @@
 -- Routes that end, one entry after the other.
-use Rattle.std.proofs.Common.{◌≡◌, ℕ, zero, suc, ◌+◌, ◌<◌, ◌≤◌, Bool, true, false, cond, List, [], ◌∷◌, ◌++◌, Option, Some, None, length, map, take, drop, set, refl, ap, ◌∙◌, arith, length-append}
+use Rattle.std.proofs.Common.{◌≡◌, ℕ, zero, suc, ◌≤◌, Bool, true, false, cond, List, [], ◌∷◌, ◌++◌, Some, length, map, take, drop, set, refl, ap}
 use Rattle.std.specs.Prelude.{slice_get}
 use Rattle.std.proofs.lemmas.List.{drop_all, take_all, append-nil}
 use Rattle.plc_base.specs.Keeper.{Records}
 use Rattle.plc_base.proofs.SlotTables.{stored_map}
-use Rattle.routing_set.specs.declared.ending.Ending.{Ending}
 use Rattle.routing_set.specs.declared.entry.RoutingEntry.{RoutingEntry}
 use Rattle.routing_set.specs.RoutingSet.{Routing, ranks, IsKept, without_route, ended}
-use Rattle.routing_set.specs.Endings.{takes, after_ending}
 
 -- an ending changes no rank
 pub rest_same : (test : Bool) (e : RoutingEntry) → without_route (cond test (without_route e) e) ≡ without_route e

@@ -1,11 +1,11 @@
 -- The record of the floors is read back.
-use Rattle.std.proofs.Common.{◌≡◌, ◌⊎◌, ℕ, zero, suc, ◌+◌, ◌*◌, ◌^◌, ◌<◌, ◌≤◌, Bool, true, false, cond, List, [], ◌∷◌, ◌++◌, Option, Some, None, Result, Ok, Err, length, map, drop, get_or, refl, sym, inl, inr, ap, ◌∙◌, arith, length-append}
-use Rattle.std.specs.Prelude.{◌==◌, OnOk, is_ok, All}
-use Rattle.std.specs.List.{range_with_len, flat_map}
+use Rattle.std.proofs.Common.{◌≡◌, ◌⊎◌, ℕ, zero, suc, ◌*◌, ◌^◌, ◌<◌, Bool, true, cond, List, [], ◌∷◌, Some, None, Result, Ok, Err, length, map, drop, get_or, refl, sym, inl, inr, ap, ◌∙◌, arith}
+use Rattle.std.specs.Prelude.{◌==◌, OnOk, is_ok}
+use Rattle.std.specs.List.{range_with_len}
 use Rattle.std.proofs.lemmas.Bool.Decides.{nat_tests}
 use Rattle.std.proofs.lemmas.List.FromFn.{fill_by_all}
 use Rattle.std.specs.FinMap.{get, insert}
-use Rattle.byteorder.specs.Endian.{big_number, big_bytes, IsRead}
+use Rattle.byteorder.specs.Endian.{big_number, IsRead}
 use Rattle.byteorder.specs.Numbers.{big_number-reads_back}
 use Rattle.plc_base.specs.Keeper.{Records, Store, Stores}
 use Rattle.plc_base.proofs.StoreLemmas.{get-insert_same}

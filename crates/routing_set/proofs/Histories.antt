@@ -1,7 +1,6 @@
 -- Over any history the rank of an address only rises.
-use Rattle.std.proofs.Common.{◌≡◌, ◌⊎◌, inl, inr, ℕ, ◌+◌, ◌<◌, ◌≤◌, Bool, true, false, cond, List, Option, Some, None, Result, Ok, Err, length, map, get_or, refl, sym, ap, subst, ◌∙◌, arith}
+use Rattle.std.proofs.Common.{◌≡◌, ◌⊎◌, inl, inr, ℕ, ◌<◌, Bool, true, false, cond, Option, Some, None, Ok, length, get_or, refl, sym, ap, subst, ◌∙◌, arith}
 use Rattle.std.specs.Prelude.{IfSome}
-use Rattle.std.specs.FinMap.{get}
 use Rattle.std.specs.Option.{option_map}
 use Rattle.std.proofs.lemmas.List.{length-map, get_or-map}
 use Rattle.plc_base.specs.Keeper.{Records}
@@ -10,10 +9,10 @@ use Rattle.plc_base.proofs.Opening.{reopened}
 use Rattle.routing_set.specs.declared.rank.Rank.{Rank}
 use Rattle.routing_set.specs.declared.entry.RoutingEntry.{RoutingEntry}
 use Rattle.routing_set.specs.Ranks.{IsAtLeast}
-use Rattle.routing_set.specs.RoutingSet.{Routing, ranks, IsKept, floor_slot, floors_in, routing_of, opened, at_rest, held, is_better, is_full, offered, half_offered, offered_entry, ended, without_route}
+use Rattle.routing_set.specs.RoutingSet.{Routing, ranks, IsKept, floors_in, routing_of, opened, at_rest, held, is_better, is_full, offered, half_offered, offered_entry, ended, without_route}
 use Rattle.routing_set.specs.Histories.{IsRouting, Leads, begins, offers, fails, ends, restarts, elsewhere}
 use Rattle.routing_set.proofs.RankOrder.{at_least_trans}
-use Rattle.routing_set.proofs.Endings.{rest_same, kept_ended}
+use Rattle.routing_set.proofs.Endings.{kept_ended}
 use Rattle.routing_set.proofs.Rising.{entered_sound, half_sound, entered_rises, half_rises, ended_held}
 
 -- where routes end, the addresses stay apart

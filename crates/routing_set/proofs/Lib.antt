@@ -9,3 +9,5 @@ pub mod LookUps
 pub mod Rising
 pub mod Histories
 pub mod Forgetting
+pub mod Beside
+pub mod Resting

@@ -1,5 +1,5 @@
 -- What is stored stays what the number holds.
-use Rattle.std.proofs.Common.{◌≡◌, ◌⊎◌, ℕ, ◌+◌, ◌^◌, ◌<◌, ◌≤◌, Bool, true, false, cond, [], Option, Some, None, Result, Ok, Err, refl, inl, inr, ap, ◌∙◌, arith}
+use Rattle.std.proofs.Common.{◌≡◌, ◌⊎◌, ℕ, ◌^◌, ◌<◌, ◌≤◌, Bool, false, cond, [], Some, None, Result, Ok, Err, refl, inl, inr, ap, ◌∙◌, arith}
 use Rattle.std.specs.Prelude.{◌==◌, OnOk, is_ok}
 use Rattle.std.proofs.lemmas.Bool.Decides.{nat_tests}
 use Rattle.std.specs.FinMap.{get, insert}

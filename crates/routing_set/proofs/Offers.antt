@@ -1,21 +1,20 @@
 -- What an offer that is taken puts, and what is kept then.
-use Rattle.std.proofs.Common.{◌≡◌, ◌≢◌, ◌⊎◌, inl, inr, ℕ, zero, suc, ◌+◌, ◌^◌, ◌<◌, ◌≤◌, Bool, true, false, cond, List, [], ◌∷◌, ◌++◌, Option, Some, None, length, set, get_or, Result, Ok, Err, refl, sym, ap, subst, ◌∙◌, arith}
-use Rattle.std.specs.Prelude.{◌==◌, ◌&&◌, is_some, is_ok, is_err, OnOk, IsSome, slice_get, fold, unwrap_or}
+use Rattle.std.proofs.Common.{◌≡◌, ◌≢◌, ◌⊎◌, inl, inr, ℕ, zero, suc, ◌<◌, ◌≤◌, Bool, true, false, cond, List, [], ◌∷◌, ◌++◌, Option, Some, None, length, set, get_or, Result, Ok, Err, refl, sym, ap, subst, ◌∙◌, arith}
+use Rattle.std.specs.Prelude.{◌==◌, ◌&&◌, is_some, is_ok, is_err, OnOk, fold, unwrap_or}
 use Rattle.std.specs.Bool.{OnTrue}
 use Rattle.std.specs.Option.{option_map_or}
 use Rattle.std.proofs.lemmas.Bool.{cases_lt}
 use Rattle.std.specs.List.{list_all}
 use Rattle.std.specs.FinMap.{get}
-use Rattle.std.proofs.lemmas.Bool.Decides.{nat_tests}
 use Rattle.std.proofs.lemmas.Option.{slice_get_within, slice_get-get_or}
-use Rattle.plc_base.specs.Keeper.{Records, Store, Write, Puts, Stores, SameOutside}
+use Rattle.plc_base.specs.Keeper.{Records, Store, Write, Stores, SameOutside}
 use Rattle.plc_base.specs.Writes.{Wrote, puts_of}
 use Rattle.plc_base.proofs.WritesLemmas.{wrote_none, wrote_then, wrote_stop}
 use Rattle.plc_base.specs.SlotTables as slots
 use Rattle.plc_base.proofs.SlotTables.{apart, stored_elsewhere}
 use Rattle.routing_set.specs.declared.entry.RoutingEntry.{RoutingEntry}
 use Rattle.routing_set.specs.Laws.{Among}
-use Rattle.routing_set.specs.RoutingSet.{Routing, ranks, place_of, IsKept, SameElsewhere, Keeps, floor_slot, floors_in, is_fresh, goes_before, first_of, first_to_go, is_full, forgotten, raised, floors_due, writes_of, half_of, after_of, half_entered, entered, entry_writes}
+use Rattle.routing_set.specs.RoutingSet.{Routing, ranks, place_of, IsKept, Keeps, floor_slot, floors_in, is_fresh, goes_before, first_of, first_to_go, is_full, forgotten, raised, floors_due, writes_of, half_of, after_of, half_entered, entered, entry_writes}
 
 -- # Which entry is forgotten
 

@@ -1,17 +1,16 @@
 -- The rank of an address only rises, also where it is forgotten; only an offer begins a route.
-use Rattle.std.proofs.Common.{◌≡◌, ◌≢◌, ◌⊎◌, inl, inr, ℕ, zero, suc, ◌+◌, ◌%◌, ◌<◌, ◌≤◌, Bool, true, false, cond, List, [], ◌∷◌, ◌++◌, Option, Some, None, length, map, set, get_or, refl, sym, ap, subst, ◌∙◌, arith}
-use Rattle.std.specs.Prelude.{◌==◌, nat_lt, is_some, IfSome, unwrap_or, slice_index}
+use Rattle.std.proofs.Common.{◌≡◌, ◌≢◌, ◌⊎◌, inl, inr, ℕ, ◌<◌, ◌≤◌, Bool, true, false, cond, List, [], ◌∷◌, Option, Some, None, length, map, set, refl, sym, ap, subst, ◌∙◌, arith}
+use Rattle.std.specs.Prelude.{◌==◌, is_some, unwrap_or, slice_index}
 use Rattle.std.specs.List.{find}
 use Rattle.std.specs.Option.{option_map, option_and_then}
 use Rattle.std.proofs.lemmas.Bool.{cases_eq}
 use Rattle.std.proofs.lemmas.Bool.Decides.{nat_tests}
 use Rattle.std.proofs.lemmas.List.{get_or-set_same, get_or-set_other, length-set}
-use Rattle.plc_base.specs.SlotTables.{IsTable}
 use Rattle.routing_set.specs.declared.rank.Rank.{Rank}
 use Rattle.routing_set.specs.declared.entry.Route.{Route}
 use Rattle.routing_set.specs.declared.entry.RoutingEntry.{RoutingEntry}
 use Rattle.routing_set.specs.Ranks.{beats, IsAtLeast}
-use Rattle.routing_set.specs.RoutingSet.{Routing, ranks, class_of, floor_of, place_of, rank_of, route_of, held, is_full, is_fresh, first_to_go, forgotten, raises, raised, floors_after, half_of, after_of, entered, half_entered, without_route, ended}
+use Rattle.routing_set.specs.RoutingSet.{Routing, class_of, floor_of, place_of, rank_of, route_of, held, is_full, first_to_go, forgotten, raises, raised, floors_after, half_of, after_of, entered, half_entered, without_route, ended}
 use Rattle.routing_set.specs.Histories.{IsRouting}
 use Rattle.routing_set.proofs.RankOrder.{beats-true, floor_at_least}
 use Rattle.routing_set.proofs.Offers.{one_goes, gone_among, place_there, room_old, entered_held, entered_new, entered_first, after_gone}
@@ -30,7 +29,7 @@ rank-by : (r : Routing) (dest : ℕ) → rank_of r dest ≡ option_map (λ e. e.
 unfolding rank_of
 rank-by r dest = ap (option_map (λ e. e.rank)) (entry_of-find r.entries dest)
 
-route-by : (r : Routing) (dest : ℕ) → route_of r dest ≡ option_and_then (λ e. e.route) (find (is_at dest) r.entries)
+pub route-by : (r : Routing) (dest : ℕ) → route_of r dest ≡ option_and_then (λ e. e.route) (find (is_at dest) r.entries)
 unfolding route_of
 route-by r dest = ap (option_and_then (λ e. e.route)) (entry_of-find r.entries dest)
 

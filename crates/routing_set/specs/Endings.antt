@@ -1,5 +1,5 @@
 -- Which routes end.
-use Rattle.std.specs.Prelude.{ℕ, ◌==◌, ◌&&◌, Bool, true, if◌then◌else◌}
+use Rattle.std.specs.Prelude.{◌==◌, ◌&&◌, Bool, true, if◌then◌else◌}
 use Rattle.routing_set.specs.declared.ending.Ending.{Ending}
 use Rattle.routing_set.specs.declared.ending.Ending.TheVariants.{By, To, Every, Old}
 use Rattle.routing_set.specs.declared.entry.RoutingEntry.{RoutingEntry}

@@ -1,5 +1,5 @@
 -- What holds of ranks, routes and floors, whatever is offered.
-use Rattle.std.specs.Prelude.{◌≡◌, ◌⊎◌, ℕ, Bool, true, false, List, slice_get, Option, Some, None, MatchOption}
+use Rattle.std.specs.Prelude.{◌≡◌, ◌⊎◌, ℕ, Bool, true, false, List, slice_get, Some, None, MatchOption}
 use Rattle.std.specs.List.{list_all}
 use Rattle.plc_base.specs.Keeper.{Records}
 use Rattle.routing_set.specs.declared.rank.Rank.{Rank}

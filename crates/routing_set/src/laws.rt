@@ -5,24 +5,20 @@ ghost use Rattle.routing_set.specs.Laws.{RanksOnlyRise, OffersBeginTheirRoute, E
 /// starts.
 pub fn ranks_only_rise()
     ensures { RanksOnlyRise }
-{
-}
+{}
 
 /// An offer that is taken begins the route that it offers, and no other one.
 pub fn offers_begin_their_route()
     ensures { OffersBeginTheirRoute }
-{
-}
+{}
 
 /// Where routes end, by whatever test, no route begins, and every rank and floor stays.
 pub fn endings_keep_ranks()
     ensures { EndingsKeepRanks }
-{
-}
+{}
 
 /// The rank that is forgotten is the first in order of those that may be, and there is one exactly where not every entry has a
 /// valid route that was offered less than 60 seconds ago.
 pub fn the_first_is_forgotten()
     ensures { TheFirstIsForgotten }
-{
-}
+{}

@@ -6,6 +6,8 @@ mod holder;
 use crate::{NumberFault, OfferFault, Offered, OwnNumber, Rank, RoutingSet};
 use holder::{Holder, Refusal};
 use plc_base::{Keeper, MemKeeper, Record, Short};
+use std::alloc::Global;
+use std::process::Abort;
 use std::test::Fail;
 
 // A record at the slot of the own number's limit, and the last number that it gives, if it has a reading.
@@ -45,23 +47,27 @@ const RANKS: [(&[u8], &[u8], Option<u32>); 7] = [
     (&[0, 1, 0, 9, 0, 4], &[0, 2, 0, 9, 0, 4, 0], Some(0x0201)),
 ];
 
+// The slot of the record that has no reading.
+fn bad_slot(rt: &impl Abort, keeper: &MemKeeper) -> Result<Option<u32>, Fail> {
+    match RoutingSet::open(keeper) {
+        Ok(routes) => {
+            let two = Short::new(2).ok_or("no address")?;
+            assert_eq!(rt; routes.kept().len(), 2);
+            assert_eq!(rt; routes.held(two).number, 9);
+            assert_eq!(rt; routes.route(two), None);
+            Ok(None)
+        }
+        Err(bad) => Ok(Some(bad.slot)),
+    }
+}
+
 #[test]
 fn a_rank_has_an_address_and_a_number(rt: HostRuntime) -> Result<(), Fail> {
     for (first, second, want) in RANKS {
         let mut keeper = MemKeeper::new(rt.alloc())?;
         assert!(rt; keeper.put(0x0200, &Record::from_octets(first)).is_ok());
         assert!(rt; keeper.put(0x0201, &Record::from_octets(second)).is_ok());
-        let bad = match RoutingSet::open(&keeper) {
-            Ok(routes) => {
-                let two = Short::new(2).ok_or("no address")?;
-                assert_eq!(rt; routes.kept().len(), 2);
-                assert_eq!(rt; routes.held(two).number, 9);
-                assert_eq!(rt; routes.route(two), None);
-                None
-            }
-            Err(bad) => Some(bad.slot),
-        };
-        assert_eq!(rt; bad, want, "{first:?} {second:?}");
+        assert_eq!(rt; bad_slot(&rt, &keeper)?, want, "{first:?} {second:?}");
     }
     Ok(())
 }
@@ -106,8 +112,8 @@ fn numbers_begin_at_two_and_end(rt: HostRuntime) -> Result<(), Fail> {
 }
 
 // A node that was offered number 5 and cost k for each address k from 1 to 64, at time 0.
-fn crowded(rt: &HostRuntime) -> Result<Holder<MemKeeper>, Fail> {
-    let mut node = Holder::fresh(rt.alloc())?;
+fn crowded(alloc: Global) -> Result<Holder<MemKeeper>, Fail> {
+    let mut node = Holder::fresh(alloc)?;
     for number in 1..65u16 {
         let dest = Short::new(number).ok_or("no address")?;
         if node.offer(dest, 5, number, 0) != Ok(Offered::Better) {
@@ -186,26 +192,34 @@ const OFFERS: [Row; 6] = [
     },
 ];
 
+fn offer_row(rt: &impl Abort, node: &mut Holder<MemKeeper>, row: &Row) -> Result<(), Fail> {
+    let dest = Short::new(row.address).ok_or("no address")?;
+    let full = node.full(dest, row.now);
+    assert_eq!(rt;
+        full,
+        row.answer == Err(Refusal::Offer(OfferFault::RoutesFull))
+    );
+    assert!(rt; row.number > 0);
+    assert_eq!(rt; node.offer(dest, row.number, row.cost, row.now), row.answer);
+    assert_eq!(rt; node.kept_count(), 64);
+    if let Some(address) = row.gone {
+        let lost = Short::new(address).ok_or("no address")?;
+        let floor = Rank {
+            number: row.floor,
+            cost: 0,
+        };
+        assert_eq!(rt; node.rank(lost), None);
+        assert_eq!(rt; node.route(lost), None);
+        assert_eq!(rt; node.held(lost), floor);
+    }
+    Ok(())
+}
+
 #[test]
 fn a_full_table_forgets_under_a_floor(rt: HostRuntime) -> Result<(), Fail> {
-    let mut node = crowded(&rt)?;
+    let mut node = crowded(rt.alloc())?;
     for row in &OFFERS {
-        let dest = Short::new(row.address).ok_or("no address")?;
-        let full = node.full(dest, row.now);
-        assert_eq!(rt; full, row.answer == Err(Refusal::Offer(OfferFault::RoutesFull)));
-        assert!(rt; row.number > 0);
-        assert_eq!(rt; node.offer(dest, row.number, row.cost, row.now), row.answer);
-        assert_eq!(rt; node.kept_count(), 64);
-        if let Some(address) = row.gone {
-            let lost = Short::new(address).ok_or("no address")?;
-            let floor = Rank {
-                number: row.floor,
-                cost: 0,
-            };
-            assert_eq!(rt; node.rank(lost), None);
-            assert_eq!(rt; node.route(lost), None);
-            assert_eq!(rt; node.held(lost), floor);
-        }
+        offer_row(&rt, &mut node, row)?;
     }
     Ok(())
 }
@@ -213,17 +227,22 @@ fn a_full_table_forgets_under_a_floor(rt: HostRuntime) -> Result<(), Fail> {
 // Which of the addresses of a crowded node goes next, where the routes by these next hops have ended.
 const ORDERS: [(&[u16], u16); 3] = [(&[], 1), (&[40, 23], 23), (&[64, 50, 63], 50)];
 
+fn order_row(rt: &impl Abort, alloc: Global, ended: &[u16], want: u16) -> Result<(), Fail> {
+    let mut node = crowded(alloc)?;
+    for next in ended {
+        node.invalidate_next(Short::new(*next).ok_or("no address")?);
+    }
+    let other = Short::new(65).ok_or("no address")?;
+    assert_eq!(rt; node.offer(other, 9, 1, 60), Ok(Offered::Better));
+    let gone = Short::new(want).ok_or("no address")?;
+    assert_eq!(rt; node.rank(gone), None);
+    Ok(())
+}
+
 #[test]
 fn a_rank_with_no_route_goes_first(rt: HostRuntime) -> Result<(), Fail> {
     for (ended, want) in ORDERS {
-        let mut node = crowded(&rt)?;
-        for next in ended {
-            node.invalidate_next(Short::new(*next).ok_or("no address")?);
-        }
-        let other = Short::new(65).ok_or("no address")?;
-        assert_eq!(rt; node.offer(other, 9, 1, 60), Ok(Offered::Better));
-        let gone = Short::new(want).ok_or("no address")?;
-        assert_eq!(rt; node.rank(gone), None, "{ended:?}");
+        order_row(&rt, rt.alloc(), ended, want)?;
     }
     Ok(())
 }
@@ -260,38 +279,73 @@ fn routes_end_and_ranks_stay(rt: HostRuntime) -> Result<(), Fail> {
 
 // Which put of an offer for address 65 to a crowded node is cut, and whether it keeps the new record; then the floor of class
 // 1, and whether address 1 and address 65 are kept after a restart.
-const CUTS: [(u16, bool, u16, bool, bool); 4] = [
-    (1, false, 0, true, false),
-    (1, true, 5, true, false),
-    (2, false, 5, true, false),
-    (2, true, 5, false, true),
+struct CutRow {
+    nth: u16,
+    keeps_new: bool,
+    floor: u16,
+    old: bool,
+    new: bool,
+}
+
+const CUTS: [CutRow; 4] = [
+    CutRow {
+        nth: 1,
+        keeps_new: false,
+        floor: 0,
+        old: true,
+        new: false,
+    },
+    CutRow {
+        nth: 1,
+        keeps_new: true,
+        floor: 5,
+        old: true,
+        new: false,
+    },
+    CutRow {
+        nth: 2,
+        keeps_new: false,
+        floor: 5,
+        old: true,
+        new: false,
+    },
+    CutRow {
+        nth: 2,
+        keeps_new: true,
+        floor: 5,
+        old: false,
+        new: true,
+    },
 ];
+
+fn cut_row(rt: &impl Abort, alloc: Global, row: &CutRow) -> Result<(), Fail> {
+    let one = Short::new(1).ok_or("no address")?;
+    let other = Short::new(65).ok_or("no address")?;
+    let mut node = crowded(alloc)?;
+    assert!(rt; row.nth > 0);
+    node.cut(row.nth, row.keeps_new);
+    let fault = Err(Refusal::Offer(OfferFault::Store));
+    assert_eq!(rt; node.offer(other, 9, 1, 60), fault);
+    assert_eq!(rt; node.offer(other, 9, 1, 60), Err(Refusal::Halted));
+    node.restart();
+    assert_eq!(rt; node.floor(1), row.floor);
+    assert_eq!(rt; node.rank(one).is_some(), row.old);
+    assert_eq!(rt; node.rank(other).is_some(), row.new);
+    assert_eq!(rt; node.kept_count(), 64);
+    Ok(())
+}
 
 #[test]
 fn each_put_of_an_offer_is_cut(rt: HostRuntime) -> Result<(), Fail> {
-    let one = Short::new(1).ok_or("no address")?;
-    let other = Short::new(65).ok_or("no address")?;
-    for (nth, keeps_new, floor, old, new) in CUTS {
-        let mut node = crowded(&rt)?;
-        assert!(rt; nth > 0);
-        node.cut(nth, keeps_new);
-        assert_eq!(rt;
-            node.offer(other, 9, 1, 60),
-            Err(Refusal::Offer(OfferFault::Store))
-        );
-        assert_eq!(rt; node.offer(other, 9, 1, 60), Err(Refusal::Halted));
-        node.restart();
-        assert_eq!(rt; node.floor(1), floor, "{nth} {keeps_new}");
-        assert_eq!(rt; node.rank(one).is_some(), old, "{nth} {keeps_new}");
-        assert_eq!(rt; node.rank(other).is_some(), new, "{nth} {keeps_new}");
-        assert_eq!(rt; node.kept_count(), 64);
+    for row in &CUTS {
+        cut_row(&rt, rt.alloc(), row)?;
     }
     Ok(())
 }
 
 #[test]
 fn a_floor_that_is_high_enough_is_not_put(rt: HostRuntime) -> Result<(), Fail> {
-    let mut node = crowded(&rt)?;
+    let mut node = crowded(rt.alloc())?;
     let others = [
         Short::new(65).ok_or("no address")?,
         Short::new(66).ok_or("no address")?,

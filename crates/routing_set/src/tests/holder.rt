@@ -162,7 +162,6 @@ impl<K: Keeper + Drop> Holder<K> {
     pub fn kept_count(&self) -> usize {
         self.routes.kept().len()
     }
-
 }
 
 impl Holder<MemKeeper> {

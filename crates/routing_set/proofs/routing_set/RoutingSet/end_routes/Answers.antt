@@ -1,4 +1,4 @@
-use Rattle.std.proofs.Common.{◌≡◌, ℕ, suc, ◌+◌, ◌++◌, List, Some, length, map, take, drop, set, sym, ap, subst, ◌∙◌, arith}
+use Rattle.std.proofs.Common.{◌≡◌, ℕ, suc, ◌+◌, ◌++◌, List, Some, map, take, drop, set, sym, ap, subst, ◌∙◌, arith}
 use Rattle.std.specs.Prelude.{slice_get}
 use Rattle.routing_set.specs.declared.entry.RoutingEntry.{RoutingEntry}
 use Rattle.routing_set.specs.RoutingSet.{Routing, IsKept, ended}
@@ -17,7 +17,7 @@ loop-place-preserved c =
     let next : suc p ≡ p + 1 = omega arith in
     record {
       entries = c.set_unstored.ensures.table ∙ ap (set c.loop-place.self-inside.table p) c.applied.ensures.entry
-      ∙ ap (λ (ys : List RoutingEntry). set ys p (f e)) so_far ∙ map_step f xs p e got ∙ ap (λ (n : ℕ). map f (take n xs) ++ drop n xs) next;
+          ∙ ap (λ (ys : List RoutingEntry). set ys p (f e)) so_far ∙ map_step f xs p e got ∙ ap (λ (n : ℕ). map f (take n xs) ++ drop n xs) next;
       floors = c.loop-place.invariant.floors;
       end = c.loop-place.invariant.end;
     }

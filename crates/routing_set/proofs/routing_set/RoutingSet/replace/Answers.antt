@@ -1,13 +1,12 @@
-use Rattle.std.proofs.Common.{◌≡◌, ◌≢◌, ◌<◌, ◌∷◌, ◌++◌, [], ℕ, List, Bool, Option, Some, None, true, false, length, set, sym, ap, subst, refl, inl, ◌∙◌, arith}
-use Rattle.std.specs.Prelude.{is_some, is_ok, IfSome, nat_lt}
+use Rattle.std.proofs.Common.{◌≡◌, ◌<◌, ℕ, List, Bool, Option, Some, None, true, false, length, sym, ap, subst, inl, ◌∙◌, arith}
+use Rattle.std.specs.Prelude.{is_some, IfSome}
 use Rattle.std.proofs.lemmas.Bool.Decides.{nat_tests}
-use Rattle.plc_base.specs.Keeper.{Write}
 use Rattle.plc_base.specs.Writes.{Wrote}
-use Rattle.plc_base.specs.SlotTables.{IsFree, IsStored, entry_write}
+use Rattle.plc_base.specs.SlotTables.{IsStored}
 use Rattle.plc_base.proofs.SlotTables.{free_new, stored_elsewhere}
 use Rattle.routing_set.specs.declared.entry.RoutingEntry.{RoutingEntry}
 use Rattle.routing_set.specs.Laws.{Among}
-use Rattle.routing_set.specs.RoutingSet.{Routing, ranks, place_of, first_to_go, writes_of, half_of, after_of, Keeps}
+use Rattle.routing_set.specs.RoutingSet.{Routing, ranks, place_of, first_to_go, writes_of}
 use Rattle.routing_set.proofs.Offers.{one_goes, gone_among, place_there, gone_stops, gone_goes_on, err_not_ok}
 use Rattle.routing_set.proofs.routing_set.RoutingSet.replace.Goals as goal
 
