@@ -1,5 +1,5 @@
 //! What is kept of one address.
-ghost use Rattle.std.specs.Prelude.{◌≡◌, Option, if◌then◌else◌};
+ghost use Rattle.std.specs.Prelude.{◌≡◌, Option};
 ghost use Rattle.routing_set.specs.RoutingSet.{is_fresh, goes_before, comes_first, first_of, has_passed, is_old, goes_by};
 
 use crate::Rank;

@@ -1,7 +1,7 @@
 //! What becomes of an offer, and why no number is given out.
 use thiserror::Error;
 
-/// What became of an offer that had room.
+/// What became of an offer.
 #[derive(Clone, Copy, Debug, PartialEq, Eq)]
 pub enum Offered {
     /// It beat the rank of its address: it is kept, and the route is valid.

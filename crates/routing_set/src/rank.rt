@@ -1,7 +1,4 @@
 //! How good a way to an address is.
-ghost use Rattle.std.specs.Prelude.{◌≡◌};
-ghost use Rattle.routing_set.specs.Ranks.{beats};
-
 /// How good a way to an address is: the number of the route message, which its origin counted up, and the cost of the way
 /// (R_seq_num and R_metric of a Routing Tuple of LOADng).
 #[derive(Clone, Copy, Debug, Default, PartialEq, Eq)]

@@ -1,7 +1,6 @@
 //! The ranks of addresses and the valid routes to them.
-ghost use Rattle.std.specs.Prelude.{◌≡◌, ◌⊎◌, ◌==◌, ◌<◌, ◌≤◌, ◌∷◌, ◌++◌, [], ℕ, List, Ok, Some, None, Option, true, false, is_ok, is_some, length, set, map, slice_get, slice_index, IfOk, IfErr, IfSome, OnOk, OnErr, IsSorted, IsPermutation};
+ghost use Rattle.std.specs.Prelude.{◌≡◌, ◌⊎◌, ◌==◌, ◌<◌, ◌≤◌, ℕ, Ok, Some, None, Option, true, false, is_ok, map, IfOk, IfErr, OnOk, OnErr, IsSorted, IsPermutation};
 ghost use Rattle.std.specs.Bool.{OnTrue};
-ghost use Rattle.std.specs.Option.{option_map};
 ghost use Rattle.std.specs.Ordering.{nat_cmp};
 ghost use Rattle.std.specs.List.{list_all};
 ghost use Rattle.plc_base.specs.Keeper.{Records};

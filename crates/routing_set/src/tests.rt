@@ -1,5 +1,4 @@
 //! Tables: which records have a reading, what a full table forgets, routes that end, and each put of an offer cut.
-ghost use Rattle.std.specs.Prelude.{◌≤◌};
 
 mod holder;
 
