@@ -1,9 +1,9 @@
 //! The number of the route messages that a node begins.
-ghost use Rattle.std.specs.Prelude.{◌≡◌, ◌⊎◌, ◌+◌, ◌<◌, ◌≤◌, IfOk, OnOk, OnErr, is_ok, Some};
+ghost use Rattle.std.specs.Prelude.{◌≡◌, ◌⊎◌, ◌+◌, ◌<◌, ◌≤◌, IfOk, OnOk, OnErr, is_ok, Some, Ok};
 ghost use Rattle.std.specs.FinMap.{get};
 ghost use Rattle.std.specs.Bool.{OnTrue};
 ghost use Rattle.plc_base.specs.Keeper.{Stores, SameOutside};
-ghost use Rattle.routing_set.specs.OwnNumber.{IsKept, limit_in, limit_slot, opened, numbering_at, limit_write, advance_write, advanced, next_result, next_write, next_after, is_stored, preset_result};
+ghost use Rattle.routing_set.specs.OwnNumber.{Numbering, IsKept, limit_in, limit_slot, opened, numbering_at, limit_write, advance_write, advanced, next_result, next_write, next_after, is_stored, preset_result};
 ghost use Rattle.byteorder.specs.Endian.{big_bytes};
 
 use crate::NumberFault;
@@ -83,7 +83,7 @@ impl OwnNumber {
         ensures number { result ≡ opened (K.store keeper.now).records }
         ensures kept { IfOk result (λ number. IsKept number (K.store keeper.now).records) }
         // A number that was kept goes on at its limit.
-        ensures limit { IfOk result (λ number. limit_in (get (K.store keeper.now).records limit_slot) ≡ Some number.last) }
+        ensures reopened { (numbering : Numbering) → IsKept numbering (K.store keeper.now).records → result ≡ Ok (numbering_at numbering.limit) }
     {
         let Some(octets) = keeper.get(LIMIT_SLOT) else {
             return Ok(OwnNumber {
