@@ -1,0 +1,8 @@
+-- What is kept has no gap.
+use Rattle.plc_base.specs.Keeper.{Records}
+use Rattle.plc_base.specs.SlotTables.{IsGapless}
+use Rattle.plc_base.proofs.Opening.{stored_gapless}
+use Rattle.routing_set.specs.RoutingSet.{Routing, ranks, IsKept}
+
+pub kept_gapless : (routing : Routing) (records : Records) → IsKept routing records → IsGapless ranks records
+kept_gapless routing records kept = stored_gapless ranks routing.entries records kept.ranks

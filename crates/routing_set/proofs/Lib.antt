@@ -1,0 +1,13 @@
+pub mod Limits
+pub mod Entries
+pub mod FloorRecords
+pub mod Endings
+pub mod Offers
+pub mod Gapless
+pub mod RankOrder
+pub mod LookUps
+pub mod Rising
+pub mod Histories
+pub mod Forgetting
+pub mod Beside
+pub mod Resting

@@ -1,0 +1,7 @@
+pub mod Ranks
+pub mod OwnNumber
+pub mod RoutingSet
+pub mod Endings
+pub mod Holding
+pub mod Histories
+pub mod Laws

@@ -1,0 +1,97 @@
+-- The number of the route messages that a node begins, and what its calls do to it.
+use Rattle.std.specs.Prelude.{◌≡◌, ℕ, ◌+◌, ◌≤◌, min, Bool, true, false, ◌==◌, nat_lt, if◌then◌else◌, List, length, Option, Some, None, Result, Ok, Err, refl}
+use Rattle.std.specs.Coded.{Coded, code_by, coded×, coded_ℕ}
+use Rattle.std.specs.FinMap.{get}
+use Rattle.byteorder.specs.Endian.{big_number, big_bytes}
+use Rattle.plc_base.specs.Keeper.{Records, Write}
+use Rattle.plc_base.specs.declared.keeper.BadStore.{BadStore}
+use Rattle.routing_set.specs.declared.fault.NumberFault.{NumberFault}
+use Rattle.routing_set.specs.declared.fault.NumberFault.TheVariants.{SeqSpent, Store}
+
+-- The limit that is stored, which no number that was given out passes, and the number that was given out last.
+pub record Numbering : Type 0 where
+  pub limit : ℕ
+  pub last : ℕ
+
+-- a number's value is kept as the pair of its fields
+abbrev pub numbering_code : Coded Numbering
+numbering_code = code_by (ℕ × ℕ) (coded× coded_ℕ coded_ℕ) (λ n. (n.limit, n.last)) (λ p. record { limit = p.0; last = p.1 }) (λ _. refl)
+
+-- the slot of the limit
+abbrev pub limit_slot : ℕ
+limit_slot = 3
+
+abbrev pub limit_of : ℕ → Option ℕ
+limit_of limit = if limit == 0 then None else Some limit
+
+-- the limit that the record of the slot gives: 1 where none is there, and no reading where it has not 2 octets or is 0
+abbrev pub limit_in : Option (List ℕ) → Option ℕ
+limit_in None = Some 1
+limit_in (Some octets) = if length octets == 2 then limit_of (big_number 2 octets) else None
+
+-- a number that goes on at a limit
+abbrev pub numbering_at : ℕ → Numbering
+numbering_at limit = record { limit = limit; last = limit }
+
+abbrev pub numbering_from : Option ℕ → Result Numbering BadStore
+numbering_from None = Err (record { slot = limit_slot })
+numbering_from (Some limit) = Ok (numbering_at limit)
+
+-- the number that the records give
+abbrev pub opened : Records → Result Numbering BadStore
+opened records = numbering_from (limit_in (get records limit_slot))
+
+-- What the number holds as stored is what the records give.
+pub record IsKept (numbering : Numbering) (records : Records) : Type 0 where
+  pub limit : limit_in (get records limit_slot) ≡ Some numbering.limit
+  pub below : numbering.last ≤ numbering.limit
+
+-- the put of a limit
+abbrev pub limit_write : ℕ → Option Write
+limit_write limit = Some (record { slot = limit_slot; octets = big_bytes 2 limit })
+
+-- the limit that is stored for the number behind the last one
+abbrev pub raised : ℕ → ℕ
+raised last = min (last + 32) 65535
+
+-- whether the number behind the last one passes the limit
+abbrev pub passes : Numbering → Bool
+passes numbering = nat_lt numbering.limit (numbering.last + 1)
+
+-- what is stored before one number more is given out
+abbrev pub advance_write : Numbering → Option Write
+advance_write numbering = if passes numbering then limit_write (raised numbering.last) else None
+
+-- the number after one more was given out
+abbrev pub advanced : Numbering → Numbering
+advanced numbering = record {
+  limit = if passes numbering then raised numbering.last else numbering.limit;
+  last = numbering.last + 1;
+}
+
+-- whether no number is left
+abbrev pub is_spent : Numbering → Bool
+is_spent numbering = numbering.last == 65535
+
+-- `next` is described in three functions: what it answers, which put it makes and what the number is afterwards; done says
+-- that no put failed
+abbrev pub next_result : Numbering → Bool → Result ℕ NumberFault
+next_result numbering done =
+    if is_spent numbering then Err SeqSpent else (if done then Ok (numbering.last + 1) else Err Store)
+
+abbrev pub next_write : Numbering → Option Write
+next_write numbering = if is_spent numbering then None else advance_write numbering
+
+abbrev pub next_after : Numbering → Bool → Numbering
+next_after numbering done =
+    if is_spent numbering then numbering else (if done then advanced numbering else numbering)
+
+-- whether no put of a `next` failed
+abbrev pub is_stored : Result ℕ NumberFault → Bool
+is_stored (Ok number) = true
+is_stored (Err SeqSpent) = true
+is_stored (Err Store) = false
+
+-- what `preset` answers
+abbrev pub preset_result : Bool → Result (Unit {0}) NumberFault
+preset_result done = if done then Ok tt else Err Store

@@ -1,0 +1,24 @@
+//! Laws of ranks, routes and floors. Each is the contract of a function that does nothing.
+ghost use Rattle.routing_set.specs.Laws.{RanksOnlyRise, OffersBeginTheirRoute, EndingsKeepRanks, TheFirstIsForgotten};
+
+/// The rank of an address, kept or a floor, only rises: over any offers, failed puts, forgetting, routes that end and new
+/// starts.
+pub fn ranks_only_rise()
+    ensures { RanksOnlyRise }
+{}
+
+/// An offer that is taken begins the route that it offers, and no other one.
+pub fn offers_begin_their_route()
+    ensures { OffersBeginTheirRoute }
+{}
+
+/// Where routes end, by whatever test, no route begins, and every rank and floor stays.
+pub fn endings_keep_ranks()
+    ensures { EndingsKeepRanks }
+{}
+
+/// The rank that is forgotten is the first in order of those that may be, and there is one exactly where not every entry has a
+/// valid route that was offered less than 60 seconds ago.
+pub fn the_first_is_forgotten()
+    ensures { TheFirstIsForgotten }
+{}

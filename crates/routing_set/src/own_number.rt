@@ -1,0 +1,189 @@
+//! The number of the route messages that a node begins.
+ghost use Rattle.std.specs.Prelude.{◌≡◌, ◌⊎◌, ◌+◌, ◌<◌, ◌≤◌, IfOk, OnOk, OnErr, is_ok, Some, Ok};
+ghost use Rattle.std.specs.FinMap.{get};
+ghost use Rattle.std.specs.Bool.{OnTrue};
+ghost use Rattle.plc_base.specs.Keeper.{Stores, SameOutside};
+ghost use Rattle.routing_set.specs.OwnNumber.{Numbering, IsKept, limit_in, limit_slot, opened, numbering_at, limit_write, advance_write, advanced, next_result, next_write, next_after, is_stored, preset_result};
+ghost use Rattle.byteorder.specs.Endian.{big_bytes};
+
+use crate::NumberFault;
+use byteorder::{BigEndian, ByteOrder};
+use plc_base::{BadStore, Failed, Keeper, Record};
+use std::marker::Model;
+
+/// Gives out the numbers of the route messages that a node begins, each higher than the last, also over losses of power: a
+/// limit is stored ahead, and a new start goes on at it (the sequence number of LOADng).
+///
+/// A contract sees the limit and the last number.
+#[derive(Drop, Debug)]
+pub struct OwnNumber {
+    limit: u16,
+    last: u16,
+}
+
+impl Model for OwnNumber {
+    ghost use Rattle.std.specs.Prelude.{◌≤◌};
+    ghost use Rattle.routing_set.specs.OwnNumber.{Numbering, numbering_code};
+
+    ghost Value = { Numbering };
+
+    ghost coded = { numbering_code };
+
+    ghost view = { λ n. record { limit = n.limit; last = n.last } };
+
+    ghost invariant = { λ n. n.last ≤ n.limit };
+}
+
+/// The slot of the limit.
+const LIMIT_SLOT: u32 = 3;
+
+/// The last number where no limit is stored.
+const FIRST: u16 = 1;
+
+/// How far the limit is stored ahead of the last number.
+const STRIDE: u16 = 32;
+
+// The record of a limit.
+fn limit_record(limit: u16) -> Record
+    ensures { result ≡ big_bytes 2 limit }
+{
+    let mut octets = [0; 2];
+    BigEndian::write_u16(&mut octets, limit);
+    Record::from_octets(&octets)
+}
+
+// Stores a limit.
+fn store_limit<K: Keeper>(keeper: &mut K, limit: u16) -> Result<(), Failed>
+    requires { 1 ≤ limit }
+    ensures store { Stores (K.store keeper.old) (limit_write limit) (is_ok result) (K.store keeper.new) }
+    ensures stored { OnOk result (limit_in (get (K.store keeper.new).records limit_slot) ≡ Some limit) }
+    ensures either { (limit_in (get (K.store keeper.new).records limit_slot) ≡ limit_in (get (K.store keeper.old).records limit_slot))
+        ⊎ (limit_in (get (K.store keeper.new).records limit_slot) ≡ Some limit) }
+    ensures elsewhere { SameOutside 3 3 (K.store keeper.old).records (K.store keeper.new).records }
+{
+    keeper.put(LIMIT_SLOT, &limit_record(limit))
+}
+
+// The limit that a record gives. None exactly where it has not 2 octets or is 0.
+fn limit_of(octets: &[u8]) -> Option<u16>
+    ensures { result ≡ limit_in (Some octets.now) }
+{
+    if octets.len() != 2 {
+        return None;
+    }
+    let limit = BigEndian::read_u16(octets);
+    if limit == 0 { None } else { Some(limit) }
+}
+
+impl OwnNumber {
+    /// The number that the record at slot 3 gives: the last one is the stored limit, 1 where none is stored.
+    ///
+    /// BadStore exactly where the record has another length than 2 octets or is 0.
+    pub fn open<K: Keeper>(keeper: &K) -> Result<OwnNumber, BadStore>
+        ensures number { result ≡ opened (K.store keeper.now).records }
+        ensures kept { IfOk result (λ number. IsKept number (K.store keeper.now).records) }
+        // A number that was kept goes on at its limit.
+        ensures reopened { (numbering : Numbering) → IsKept numbering (K.store keeper.now).records → result ≡ Ok (numbering_at numbering.limit) }
+    {
+        let Some(octets) = keeper.get(LIMIT_SLOT) else {
+            return Ok(OwnNumber {
+                limit: FIRST,
+                last: FIRST,
+            });
+        };
+        match limit_of(octets.octets()) {
+            Some(limit) => Ok(OwnNumber { limit, last: limit }),
+            None => Err(BadStore { slot: LIMIT_SLOT }),
+        }
+    }
+
+    /// The number that was given out last. No number is left exactly where it is 65,535.
+    pub fn last(&self) -> u16
+        ensures { result ≡ self.now.last }
+    {
+        self.last
+    }
+
+    /// Gives out the number behind the last one. Where it passes the limit, the smaller of last + 32 and 65,535 is stored
+    /// first.
+    ///
+    /// Only a failed put is an error. The number is then as it was, but may not be used until it is opened again.
+    pub fn advance<K: Keeper>(&mut self, keeper: &mut K) -> Result<u16, Failed>
+        requires left { self.old.last < 65535 }
+        requires kept { IsKept self.old (K.store keeper.old).records }
+        ensures number { IfOk result (λ number. number ≡ self.old.last + 1) }
+        ensures numbering { OnOk result (self.new ≡ advanced self.old) }
+        ensures same { OnErr result (self.new ≡ self.old) }
+        ensures store { Stores (K.store keeper.old) (advance_write self.old) (is_ok result) (K.store keeper.new) }
+        ensures kept { OnOk result (IsKept self.new (K.store keeper.new).records) }
+        // Whatever became of the put, the record is that of the number before or of the one after.
+        ensures either { IsKept self.old (K.store keeper.new).records ⊎ IsKept (advanced self.old) (K.store keeper.new).records }
+        ensures elsewhere { SameOutside 3 3 (K.store keeper.old).records (K.store keeper.new).records }
+    {
+        let number = self.last + 1;
+        if self.limit < number {
+            let limit = self.last.saturating_add(STRIDE);
+            store_limit(keeper, limit)?;
+            self.limit = limit;
+        }
+        self.last = number;
+        Ok(number)
+    }
+
+    /// Gives out the number behind the last one. Where it passes the limit, the smaller of last + 32 and 65,535 is stored
+    /// first.
+    ///
+    /// SeqSpent exactly where the last number is 65,535. Store where that put failed, and then the number may not be used
+    /// until it is opened again. After each error the number is as it was.
+    pub fn next<K: Keeper>(&mut self, keeper: &mut K) -> Result<u16, NumberFault>
+        requires { IsKept self.old (K.store keeper.old).records }
+        ensures answer { result ≡ next_result self.old (is_stored result) }
+        ensures numbering { self.new ≡ next_after self.old (is_stored result) }
+        ensures store { Stores (K.store keeper.old) (next_write self.old) (is_stored result) (K.store keeper.new) }
+        ensures kept { OnTrue (is_stored result) (IsKept self.new (K.store keeper.new).records) }
+        ensures either { IsKept self.old (K.store keeper.new).records ⊎ IsKept (advanced self.old) (K.store keeper.new).records }
+        ensures elsewhere { SameOutside 3 3 (K.store keeper.old).records (K.store keeper.new).records }
+    {
+        if self.last == u16::MAX {
+            return Err(NumberFault::SeqSpent);
+        }
+        self.advance(keeper).map_err(|_| NumberFault::Store)
+    }
+
+    /// Stores a limit, and goes on at it. It may be lower than the limit before.
+    ///
+    /// Only a failed put is an error. The number is then as it was, but may not be used until it is opened again.
+    pub fn set_limit<K: Keeper>(&mut self, keeper: &mut K, value: u16) -> Result<(), Failed>
+        requires { 1 ≤ value }
+        ensures numbering { OnOk result (self.new ≡ numbering_at value) }
+        ensures same { OnErr result (self.new ≡ self.old) }
+        ensures store { Stores (K.store keeper.old) (limit_write value) (is_ok result) (K.store keeper.new) }
+        ensures kept { OnOk result (IsKept self.new (K.store keeper.new).records) }
+        ensures either { (limit_in (get (K.store keeper.new).records limit_slot) ≡ limit_in (get (K.store keeper.old).records limit_slot))
+            ⊎ IsKept (numbering_at value) (K.store keeper.new).records }
+        ensures elsewhere { SameOutside 3 3 (K.store keeper.old).records (K.store keeper.new).records }
+    {
+        store_limit(keeper, value)?;
+        self.limit = value;
+        self.last = value;
+        Ok(())
+    }
+
+    /// Stores the limit `value`, at least 1, and makes it the last number.
+    ///
+    /// Store alone, where that put failed, and then the number may not be used until it is opened again.
+    pub fn preset<K: Keeper>(&mut self, keeper: &mut K, value: u16) -> Result<(), NumberFault>
+        requires { 1 ≤ value }
+        ensures answer { result ≡ preset_result (is_ok result) }
+        ensures numbering { OnOk result (self.new ≡ numbering_at value) }
+        ensures same { OnErr result (self.new ≡ self.old) }
+        ensures store { Stores (K.store keeper.old) (limit_write value) (is_ok result) (K.store keeper.new) }
+        ensures kept { OnOk result (IsKept self.new (K.store keeper.new).records) }
+        ensures either { (limit_in (get (K.store keeper.new).records limit_slot) ≡ limit_in (get (K.store keeper.old).records limit_slot))
+            ⊎ IsKept (numbering_at value) (K.store keeper.new).records }
+        ensures elsewhere { SameOutside 3 3 (K.store keeper.old).records (K.store keeper.new).records }
+    {
+        self.set_limit(keeper, value)
+            .map_err(|_| NumberFault::Store)
+    }
+}
