@@ -1,0 +1,36 @@
+//! The cut of a datagram into pieces.
+ghost use Rattle.std.specs.Prelude.{◌≡◌, ◌≤◌, ◌<◌, length};
+ghost use Rattle.fragment_buffers.specs.Cutting.{pieces_of, piece_of};
+
+use mesh_header::Piece;
+use plc_base::FrameBuf;
+
+/// The octets of each piece but the last.
+const PIECE: usize = 368;
+
+/// How many units carry a datagram of so many octets, 1 to 1,280: one for up to 375 octets, and else one for each piece of 368
+/// octets and one for the octets that are left.
+pub fn pieces(octets: u16) -> u8
+    requires { (1 ≤ octets) × (octets ≤ 1280) }
+    ensures { result ≡ pieces_of octets }
+{
+    if octets <= 375 {
+        return 1;
+    }
+    octets.div_ceil(PIECE as u16) as u8
+}
+
+/// The k-th piece of a datagram of 376 to 1,280 octets, from 0; `k` is below `pieces`.
+///
+/// The piece has the datagram's size and this tag, stands at 46 times `k` units of 8 octets, and has 368 octets or, as the last
+/// one, those that are left.
+pub fn cut_piece(datagram: &[u8], tag: u16, k: u8) -> Piece
+    requires long { (376 ≤ length datagram.now) × (length datagram.now ≤ 1280) }
+    requires there { k < pieces_of (length datagram.now) }
+    ensures { result ≡ piece_of datagram.now tag k }
+{
+    let size = datagram.len() as u16;
+    let left = &datagram[PIECE * k as usize..];
+    let octets = FrameBuf::from_octets(&left[..PIECE.min(left.len())]);
+    Piece::new(size, tag, 46 * k, octets).unwrap()
+}
