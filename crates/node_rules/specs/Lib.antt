@@ -1,0 +1,17 @@
+pub mod Frames
+pub mod Memory
+pub mod Plans
+pub mod Doings
+pub mod Accepting
+pub mod Hearing
+pub mod Calls
+pub mod Joining
+pub mod Holding
+pub mod Meters
+pub mod Coordinators
+pub mod Opening
+pub mod Answers
+pub mod Worlds
+pub mod Showing
+pub mod Steps
+pub mod Runs

@@ -1,0 +1,15 @@
+//! The rules of the nodes of a line, as definitions: what a node holds, what each call and each frame does to it, and what an event
+//! does to a line of nodes.
+//!
+//! The definitions stand in `specs/`; here are the words of the answers, which they name, and the laws.
+#![tactic(auto)]
+
+mod event;
+mod heard;
+mod refusal;
+
+pub use event::{Answer, Event, LineOctets, StepFault};
+pub use heard::{Accepted, CoordHeard, Heard, MeterHeard, Path, SentHow, Way};
+pub use refusal::{
+    CoordRefusal, Dropped, FrameRefusal, Halted, JoinRefusal, LeaveRefusal, PresetFault, RandomFault, SendRefusal,
+};
