@@ -111,8 +111,8 @@ leave_word (Err leaves.Store) = said.Store
 
 -- of an order that was carried out
 abbrev pub ordered_word : {A : Type 0} → Answer → Result A CoordRefusal → Answer
-ordered_word answer (Ok a) = answer
-ordered_word answer (Err reason) = order_word reason
+ordered_word word (Ok a) = word
+ordered_word word (Err reason) = order_word reason
 
 -- # What a node made of a frame
 
@@ -150,7 +150,7 @@ line_reception line.Learned = only said.Learned
 line_reception line.Broken = only said.Broken
 line_reception line.Reported = only said.Reported
 line_reception (line.Joining way body) = only said.BadUnit
-line_reception (line.Local from to_all code body) = only said.BadUnit
+line_reception (line.Local from all code body) = only said.BadUnit
 
 abbrev pub meter_reception : Result MeterHeard Dropped → Reception
 meter_reception (Ok (meter.Line h)) = line_reception h

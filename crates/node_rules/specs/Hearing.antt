@@ -172,7 +172,7 @@ gather l from piece note now = gathered l from (pieces.taken l.reassemblies from
 -- # A frame that was accepted
 
 -- a route message to all may be a request alone, one to this node a reply or an error
-abbrev pub hear_message : Line → (own by : ℕ) → (to_all : Bool) → (cost now : ℕ) → Message → Hearing
+abbrev pub hear_message : Line → (own by : ℕ) → (all : Bool) → (cost now : ℕ) → Message → Hearing
 hear_message l own by true cost now (Rreq number c origin dest) = hear_request l own by origin dest (rank_over number c cost) now
 hear_message l own by true cost now (Rrep number c origin to) = drop_it l BadUnit
 hear_message l own by true cost now (Rerr lost to) = drop_it l BadUnit
@@ -180,15 +180,15 @@ hear_message l own by false cost now (Rreq number c origin dest) = drop_it l Bad
 hear_message l own by false cost now (Rrep number c origin to) = hear_reply l own by origin to (rank_over number c cost) now
 hear_message l own by false cost now (Rerr lost to) = hear_error l own by lost to
 
-abbrev pub hear_message_in : Line → (own by : ℕ) → (to_all : Bool) → (cost now : ℕ) → Option Message → Hearing
-hear_message_in l own by to_all cost now None = drop_it l BadUnit
-hear_message_in l own by to_all cost now (Some message) = hear_message l own by to_all cost now message
+abbrev pub hear_message_in : Line → (own by : ℕ) → (all : Bool) → (cost now : ℕ) → Option Message → Hearing
+hear_message_in l own by all cost now None = drop_it l BadUnit
+hear_message_in l own by all cost now (Some message) = hear_message l own by all cost now message
 
 -- a command for the neighbours: a route message, or one of code 03, 04 or 05, which is handed on unread
-abbrev pub hear_command : Line → (own by : ℕ) → (to_all : Bool) → (code : ℕ) → List ℕ → (cost now : ℕ) → Hearing
-hear_command l own by to_all code body cost now =
-    choose (code == 1) (hear_message_in l own by to_all cost now (message_in body))
-    (choose (code == 2) (drop_it l BadUnit) (resting l (Ok (heard.Local by to_all code body)) (Err Store)))
+abbrev pub hear_command : Line → (own by : ℕ) → (all : Bool) → (code : ℕ) → List ℕ → (cost now : ℕ) → Hearing
+hear_command l own by all code body cost now =
+    choose (code == 1) (hear_message_in l own by all cost now (message_in body))
+    (choose (code == 2) (drop_it l BadUnit) (resting l (Ok (heard.Local by all code body)) (Err Store)))
 
 -- a unit with a mesh header, to this node
 abbrev pub hear_over_mesh : Line → (own : ℕ) → Unit → (note now : ℕ) → Hearing
@@ -207,11 +207,11 @@ is_local (units.Part mesh piece) = false
 is_local (units.Carried mesh body) = false
 
 -- a sealed frame: a command for the neighbours, or a unit over the mesh, which may not go to all
-abbrev pub hear_sealed : Line → (own by : ℕ) → (to_all : Bool) → Unit → (cost note now : ℕ) → Hearing
-hear_sealed l own by to_all (units.Local code body) cost note now = hear_command l own by to_all code body cost now
-hear_sealed l own by to_all (units.Whole mesh octets) cost note now = choose to_all (drop_it l BadUnit) (hear_over_mesh l own (units.Whole mesh octets) note now)
-hear_sealed l own by to_all (units.Part mesh piece) cost note now = choose to_all (drop_it l BadUnit) (hear_over_mesh l own (units.Part mesh piece) note now)
-hear_sealed l own by to_all (units.Carried mesh body) cost note now = choose to_all (drop_it l BadUnit) (hear_over_mesh l own (units.Carried mesh body) note now)
+abbrev pub hear_sealed : Line → (own by : ℕ) → (all : Bool) → Unit → (cost note now : ℕ) → Hearing
+hear_sealed l own by all (units.Local code body) cost note now = hear_command l own by all code body cost now
+hear_sealed l own by all (units.Whole mesh octets) cost note now = choose all (drop_it l BadUnit) (hear_over_mesh l own (units.Whole mesh octets) note now)
+hear_sealed l own by all (units.Part mesh piece) cost note now = choose all (drop_it l BadUnit) (hear_over_mesh l own (units.Part mesh piece) note now)
+hear_sealed l own by all (units.Carried mesh body) cost note now = choose all (drop_it l BadUnit) (hear_over_mesh l own (units.Carried mesh body) note now)
 
 -- a plain frame carries a joining command alone
 abbrev pub is_joining : Unit → Option (List ℕ)
@@ -226,8 +226,8 @@ hear_plain l answer (Some body) = resting l (Ok (answer body)) (Err Store)
 
 -- the unit of an accepted frame, at a node whose address is given; one without an address hears plain frames alone
 abbrev pub hear_unit : Line → Path → Unit → (cost note now : ℕ) → Hearing
-hear_unit l (paths.Sealed from to_all key) unit cost note now =
-    option_map_or (λ own. hear_sealed l own from to_all unit cost note now) (address_of l) (drop_it l BadUnit)
+hear_unit l (paths.Sealed from all key) unit cost note now =
+    option_map_or (λ own. hear_sealed l own from all unit cost note now) (address_of l) (drop_it l BadUnit)
 hear_unit l (paths.Up from) unit cost note now = hear_plain l (λ body. heard.Joining (Air from) body) (is_joining unit)
 hear_unit l (paths.Down from) unit cost note now = hear_plain l (λ body. heard.Joining (Near from) body) (is_joining unit)
 

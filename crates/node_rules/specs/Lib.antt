@@ -15,3 +15,4 @@ pub mod Worlds
 pub mod Showing
 pub mod Steps
 pub mod Runs
+pub mod Scripts

@@ -115,8 +115,11 @@ pub record Node : Type 0 where
 abbrev pub node_address : Node → Option ℕ
 node_address x = option_and_then (λ m. address_of m.line) x.memory
 
+abbrev pub line_route : Line → ℕ → Option ℕ
+line_route l dest = option_and_then (λ _. next_hop l dest) l.ring
+
 abbrev pub node_route : Node → ℕ → Option ℕ
-node_route x dest = option_and_then (λ m. next_hop m.line dest) x.memory
+node_route x dest = option_and_then (λ m. line_route m.line dest) x.memory
 
 abbrev pub is_halted : Node → Bool
 is_halted x = is_halted_by x.memory

@@ -388,13 +388,14 @@ reception_deeds w number forged d = record {
 
 abbrev pub received : Seal → World → ℕ → Bool → Did Reception → World × Deeds
 received seal w number forged d =
-    let told_world = told seal (ran w) number d in
-    (record told_world {
-      ups = number_if (is_some d.answer.up) w.ups;
-      forged = number_if forged w.forged;
-      done = number_if (is_some d.answer.done) w.done;
-    },
-    reception_deeds w number forged d)
+    let told_world = told seal (ran w) number d in (
+      record told_world {
+        ups = number_if (is_some d.answer.up) w.ups;
+        forged = number_if forged w.forged;
+        done = number_if (is_some d.answer.done) w.done;
+      },
+      reception_deeds w number forged d,
+    )
 
 -- a frame that was accepted is heard under its note; it is forged where it was sent by nobody, or a pair tag that was found right was
 -- made by nobody
@@ -443,8 +444,9 @@ ticked now x = record x { memory = option_map (tick_by x.role) x.memory }
 unfoldable pub tick : World → ℕ → Step
 tick w seconds =
     once_begun w (Ok (
-    record (ran w) { clock = w.clock + seconds; nodes = map (ticked (w.clock + seconds)) w.nodes },
-    deeds (happened w said.Ticked)))
+      record (ran w) { clock = w.clock + seconds; nodes = map (ticked (w.clock + seconds)) w.nodes },
+      deeds (happened w said.Ticked),
+    ))
 
 abbrev pub memory_by : Result Memory BadStore → Option Memory
 memory_by (Ok m) = Some m

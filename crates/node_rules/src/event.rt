@@ -11,51 +11,116 @@ pub type LineOctets = Octets<2048>;
 #[derive(Debug, Drop)]
 pub enum Event {
     /// Makes node 0, the coordinator, with its group key.
-    Coordinator { eui: Eui, key: Key },
+    Coordinator {
+        eui: Eui,
+        key: Key,
+    },
     /// Makes the next node, a meter, with its pair key.
-    Meter { eui: Eui, psk: Key },
+    Meter {
+        eui: Eui,
+        psk: Key,
+    },
     /// Joins a meter in the workshop.
-    Depot { node: u32 },
+    Depot {
+        node: u32,
+    },
     /// Gives two joined nodes the route to each other, over one hop of this cost.
-    Near { a: u32, b: u32, cost: LinkCost },
+    Near {
+        a: u32,
+        b: u32,
+        cost: LinkCost,
+    },
     /// Sets the next frame counter of a node.
-    Counter { node: u32, value: u32 },
+    Counter {
+        node: u32,
+        value: u32,
+    },
     /// Sets the last own number of a node.
-    Number { node: u32, value: u16 },
+    Number {
+        node: u32,
+        value: u16,
+    },
     /// Allows a meter to join.
-    Allow { node: u32 },
+    Allow {
+        node: u32,
+    },
     /// Gives a node a random value.
-    Rand { node: u32, value: Rand },
+    Rand {
+        node: u32,
+        value: Rand,
+    },
     /// A meter begins to join by an agent.
-    Join { node: u32, agent: u32 },
+    Join {
+        node: u32,
+        agent: u32,
+    },
     /// A meter leaves.
-    Leave { node: u32 },
+    Leave {
+        node: u32,
+    },
     /// Sends a datagram from a node to a node.
-    Send { from: u32, to: u32, datagram: LineOctets },
+    Send {
+        from: u32,
+        to: u32,
+        datagram: LineOctets,
+    },
     /// Brings a flight to a node over a link of this cost.
-    Deliver { flight: u32, node: u32, cost: LinkCost },
+    Deliver {
+        flight: u32,
+        node: u32,
+        cost: LinkCost,
+    },
     /// Brings octets to a node that no node sent, over a link of this cost.
-    Inject { node: u32, cost: LinkCost, octets: LineOctets },
+    Inject {
+        node: u32,
+        cost: LinkCost,
+        octets: LineOctets,
+    },
     /// Takes a flight away.
-    Lose { flight: u32 },
+    Lose {
+        flight: u32,
+    },
     /// Tells a node that its link to another one broke.
-    Break { node: u32, next: u32 },
+    Break {
+        node: u32,
+        next: u32,
+    },
     /// Moves the clock on by so many seconds.
-    Tick { seconds: u32 },
+    Tick {
+        seconds: u32,
+    },
     /// Restarts a node.
-    Restart { node: u32 },
+    Restart {
+        node: u32,
+    },
     /// Makes a store write of a node fail: the nth from now on. Its slot then has the new record or the old one.
-    Cut { node: u32, nth: u16, keeps_new: bool },
+    Cut {
+        node: u32,
+        nth: u16,
+        keeps_new: bool,
+    },
     /// Draws a group key for an index.
-    Rekey { index: u8, key: Key },
+    Rekey {
+        index: u8,
+        key: Key,
+    },
     /// The coordinator challenges a meter.
-    Challenge { node: u32 },
+    Challenge {
+        node: u32,
+    },
     /// Makes a group key the one that seals, at the coordinator or, by an order, at a meter.
-    Activate { node: u32, index: u8 },
+    Activate {
+        node: u32,
+        index: u8,
+    },
     /// Shuts a meter out.
-    Kick { node: u32 },
+    Kick {
+        node: u32,
+    },
     /// Shows a node.
-    Show { node: u32 },
+    Show {
+        node: u32,
+    },
 }
 
 /// How an event that was taken ended: the words of the report.

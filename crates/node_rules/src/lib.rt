@@ -7,9 +7,12 @@
 mod event;
 mod heard;
 mod refusal;
+mod runs;
 
 pub use event::{Answer, Event, LineOctets, StepFault};
 pub use heard::{Accepted, CoordHeard, Heard, MeterHeard, Path, SentHow, Way};
 pub use refusal::{
-    CoordRefusal, Dropped, FrameRefusal, Halted, JoinRefusal, LeaveRefusal, PresetFault, RandomFault, SendRefusal,
+    CoordRefusal, Dropped, FrameRefusal, Halted, JoinRefusal, LeaveRefusal, PresetFault,
+    RandomFault, SendRefusal,
 };
+pub use runs::a_repeat_is_refused;
