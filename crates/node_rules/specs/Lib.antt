@@ -16,3 +16,4 @@ pub mod Showing
 pub mod Steps
 pub mod Runs
 pub mod Scripts
+pub mod Rows

@@ -1,17 +1,17 @@
--- Small runs that are computed, with a plain seal in place of the cipher.
-use Rattle.std.specs.Prelude.{◌≡◌, ℕ, ◌-◌, ◌==◌, ◌&&◌, List, [], ◌∷◌, ◌++◌, length, map, take, drop, replicate, Option, Some, None, if◌then◌else◌, nat_lt}
+-- Words of small scripts that are computed, with a plain seal in place of the cipher.
+use Rattle.std.specs.Prelude.{ℕ, ◌-◌, Bool, false, List, [], ◌∷◌, ◌++◌, length, map, take, drop, Option, Some, None, Result, Ok, Err, if◌then◌else◌}
 use Rattle.std.specs.Str.{bytes_eq}
-use Rattle.std.specs.Option.{option_map}
 use Rattle.byteorder.specs.Endian.{big_bytes}
 use Rattle.plc_base.specs.declared.address.Eui.{Eui}
 use Rattle.plc_base.specs.declared.key.Key.{Key}
 use Rattle.mac_frames.specs.declared.head.MacHead.{MacHead}
 use Rattle.node_rules.specs.declared.event.Answer.{Answer}
-use Rattle.node_rules.specs.declared.event.Answer.TheVariants as said
 use Rattle.node_rules.specs.declared.event.Event.{Event}
-use Rattle.node_rules.specs.declared.event.Event.TheVariants.{Coordinator, Meter, Depot, Near, Counter, Number, Send, Deliver, Break, Lose, Restart, Show}
+use Rattle.node_rules.specs.declared.event.Event.TheVariants.{Coordinator, Meter, Depot}
 use Rattle.node_rules.specs.Frames.{Seal}
 use Rattle.node_rules.specs.Worlds.{World, Handed, Happenings, Shown, start}
+use Rattle.node_rules.specs.declared.event.StepFault.{StepFault}
+use Rattle.node_rules.specs.Steps.{Step, step}
 use Rattle.node_rules.specs.Runs.{Entry, run}
 
 -- # The plain seal
@@ -71,24 +71,34 @@ shown_at_last [] = None
 shown_at_last (x ∷ []) = x.deeds.happened.shown
 shown_at_last (x ∷ (y ∷ rest)) = shown_at_last (y ∷ rest)
 
--- # One hop
+abbrev pub forged_at_last : List Entry → Bool
+forged_at_last [] = false
+forged_at_last (x ∷ []) = x.deeds.happened.forged
+forged_at_last (x ∷ (y ∷ rest)) = forged_at_last (y ∷ rest)
 
-abbrev pub one_hop : List Event
-one_hop = two_meters ++ (Near 1 2 3 ∷ Send 1 2 (0x48 ∷ 0x65 ∷ 0x6c ∷ 0x6c ∷ 0x6f ∷ []) ∷ Deliver 1 2 3 ∷ Deliver 1 2 3 ∷ [])
+-- the world behind a run
+abbrev pub world_behind : World → List Entry → World
+world_behind w [] = w
+world_behind w (x ∷ rest) = world_behind x.after rest
 
--- a datagram is handed up, and its repeat is refused
-abbrev pub ARepeatIsRefused : Type 0
-ARepeatIsRefused = answers_after 5 one_hop ≡ said.Set ∷ said.Sent ∷ said.Up ∷ said.Replayed ∷ []
+-- what the last line of a report counts
+pub record Counted : Type 0 where
+  pub events : ℕ
+  pub flights : ℕ
+  pub sends : ℕ
+  pub ups : ℕ
+  pub forged : ℕ
 
--- # Discovery over two relays
+abbrev pub counted : World → Counted
+counted w = record { events = w.events; flights = length w.flights; sends = w.sends; ups = w.ups; forged = w.forged }
 
-abbrev pub discovery : List Event
-discovery =
-    four_meters
-    ++ (Send 1 4 (0xaa ∷ []) ∷ Deliver 1 2 2 ∷ Deliver 1 3 3 ∷ Deliver 2 4 3 ∷ Deliver 3 4 4 ∷ Deliver 4 2 3 ∷ Deliver 5 1 2 ∷ Deliver 6 2 2 ∷ Deliver 7 4 3 ∷ [])
+abbrev pub counts_of : List Event → Counted
+counts_of events = counted (world_behind start (run plain start events))
 
--- the cheaper way is answered, the dearer one is refused, and what waited is handed up
-abbrev pub DiscoveryOverTwoRelays : Type 0
-DiscoveryOverTwoRelays =
-    (answers_after 9 discovery ≡ said.Waiting ∷ said.Relayed ∷ said.Relayed ∷ said.Answered ∷ said.NotBetter ∷ said.Relayed ∷ said.Learned ∷ said.Relayed ∷ said.Up ∷ [])
-    × (handed_at_last (run plain start discovery) ≡ Some (record { node = 4; note = 1; octets = 0xaa ∷ [] }))
+-- why an event is not taken behind others
+abbrev pub fault_by : Step → Option StepFault
+fault_by (Ok r) = None
+fault_by (Err fault) = Some fault
+
+abbrev pub fault_after : List Event → Event → Option StepFault
+fault_after events event = fault_by (step plain (world_behind start (run plain start events)) event)

@@ -15,4 +15,9 @@ pub use refusal::{
     CoordRefusal, Dropped, FrameRefusal, Halted, JoinRefusal, LeaveRefusal, PresetFault,
     RandomFault, SendRefusal,
 };
-pub use runs::a_repeat_is_refused;
+pub use runs::{
+    a_broken_route_stays_broken, a_forged_frame_is_named, a_lost_flight_comes_no_more,
+    a_repeat_is_refused, bad_lines_have_their_reasons, costs_are_spent, datagrams_of_every_size,
+    discovery_over_two_relays, malicious_frames_are_refused, nothing_is_sent_when_spent,
+    rotation_and_kick,
+};
