@@ -16,9 +16,7 @@ use Rattle.joining_messages.specs.declared.message.JoinMessage.{JoinMessage}
 use Rattle.joining_messages.specs.declared.message.JoinBody.{JoinBody}
 use Rattle.joining_messages.specs.declared.message.JoinBody.TheVariants as body
 use Rattle.joining_messages.specs.Reading.{join_in}
-use Rattle.eap_psk.specs.Keys.{keys_of}
 use Rattle.eap_psk.specs.Messages.{granting_text}
-use Rattle.eap_psk.specs.Faults.{second_fault, fourth_fault}
 use Rattle.eap_psk.specs.Tags.{mac_p_tag, mac_s_tag, granting_tag, success_tag}
 use Rattle.eap_psk.specs.declared.server.Server.{Server}
 use Rattle.node_rules.specs.declared.heard.Accepted.{Accepted}
@@ -31,18 +29,24 @@ use Rattle.node_rules.specs.declared.refusal.Dropped.{Dropped}
 use Rattle.node_rules.specs.declared.refusal.Dropped.TheVariants as drops
 use Rattle.node_rules.specs.declared.refusal.CoordRefusal.{CoordRefusal}
 use Rattle.node_rules.specs.declared.refusal.CoordRefusal.TheVariants as refusal
+use Rattle.node_rules.specs.Ciphers.{Ciphers}
 use Rattle.node_rules.specs.Memory.{Line, Memory, CenterSession, address_of, next_hop}
 use Rattle.node_rules.specs.Plans.{Plan, resting, within}
 use Rattle.node_rules.specs.Accepting.{same_eui}
 use Rattle.node_rules.specs.Doings.{Doing, Ends, Lack, OfRoom, OfNumbers, begun, ringed, counters_left, refused, sealing, sealed, checked, choose}
 use Rattle.node_rules.specs.Hearing.{dropped, hear}
 use Rattle.node_rules.specs.Calls as calls
-use Rattle.node_rules.specs.Joining.{first_packet, server_for, rand_p_in, third_packet, server_agrees, message, command_of}
+use Rattle.node_rules.specs.Joining.{first_packet, server_for, rand_p_in, server_agrees, message, command_of}
 use Rattle.node_rules.specs.Holding.{with_line, in_memory, on_line, remembered, tagged_with, goes_down, is_commanded, command_lack, oldest, without_oldest, Unread, unread, packet_fault}
 use Rattle.node_rules.specs.Doings as doings
 
 abbrev pub Hearing : Type 0
 Hearing = Plan Memory (Result CoordHeard Dropped)
+
+-- The coordinator: its identity, and what its packets are made with.
+pub record Center : Type 0 where
+  pub eui : Eui
+  pub ciphers : Ciphers
 
 abbrev pub drop_it : Memory → Dropped → Hearing
 drop_it m reason = refused dropped m reason
@@ -122,21 +126,21 @@ challenges m way server now =
     checked dropped m (say_lack m way join)
     (ends m (says way join now (opens (record { server = server; way = way; since = now }) (begun m))) heard.Challenged)
 
-abbrev pub open_session : Eui → Memory → Way → Eui → ℕ → Hearing
+abbrev pub open_session : Center → Memory → Way → Eui → ℕ → Hearing
 open_session own m way eui now =
     checked dropped m (session_fault m eui)
-    (option_map_or (λ value. challenges m way (server_for eui own value) now) (oldest m) (drop_it m drops.NoRandom))
+    (option_map_or (λ value. challenges m way (server_for eui own.eui value) now) (oldest m) (drop_it m drops.NoRandom))
 
-abbrev pub asked : Eui → Memory → Way → Eui → ℕ → Hearing
+abbrev pub asked : Center → Memory → Way → Eui → ℕ → Hearing
 asked own m way eui now =
     choose (book.is_allowed m.book eui) (open_session own m way eui now) (declines m way (message eui body.Decline) now)
 
 -- # JOIN with a packet
 
 -- the second packet: the grant's keys are noted as issued, and the third packet goes the session's way
-abbrev pub keys_for : Memory → CenterSession → BookEntry → Rand → Granted → ℕ → Hearing
-keys_for m s e rand_p granted now =
-    let join = message s.server.eui (body.Challenge (third_packet e.psk s.server rand_p granted)) in
+abbrev pub keys_for : Center → Memory → CenterSession → BookEntry → Rand → Granted → ℕ → Hearing
+keys_for own m s e rand_p granted now =
+    let join = message s.server.eui (body.Challenge (own.ciphers.third e.psk s.server rand_p granted)) in
     checked dropped m (say_lack m s.way join)
     (ends m
     (says s.way join now
@@ -146,10 +150,10 @@ keys_for m s e rand_p granted now =
     (remembered (with_session (record s { server = record s.server { rand_p = Some rand_p } })) (begun m)))))
     (heard.Keyed s.server.eui granted))
 
-abbrev pub take_second : Memory → CenterSession → BookEntry → List ℕ → ℕ → Hearing
-take_second m s e packet now =
-    checked dropped m (option_map packet_fault (second_fault (keys_of e.psk.0) s.server packet))
-    (option_map_or (λ granted. keys_for m s e (rand_p_in packet) granted now) (grant_for m s.server.eui) (drop_it m drops.NotAllowed))
+abbrev pub take_second : Center → Memory → CenterSession → BookEntry → List ℕ → ℕ → Hearing
+take_second own m s e packet now =
+    checked dropped m (option_map packet_fault (own.ciphers.second_fault e.psk s.server packet))
+    (option_map_or (λ granted. keys_for own m s e (rand_p_in packet) granted now) (grant_for m s.server.eui) (drop_it m drops.NotAllowed))
 
 -- the fourth packet: the session ends, and the acceptance goes its way
 abbrev pub accepts : Memory → CenterSession → Rand → ℕ → Hearing
@@ -162,16 +166,16 @@ accepts m s rand_p now =
     (remembered (without_session s.server.eui) (begun m))))
     (heard.Done s.server.eui (server_agrees s.server rand_p)))
 
-abbrev pub take_fourth : Memory → CenterSession → BookEntry → List ℕ → Rand → ℕ → Hearing
-take_fourth m s e packet rand_p now =
-    checked dropped m (option_map packet_fault (fourth_fault (keys_of e.psk.0) s.server rand_p.0 packet)) (accepts m s rand_p now)
+abbrev pub take_fourth : Center → Memory → CenterSession → BookEntry → List ℕ → Rand → ℕ → Hearing
+take_fourth own m s e packet rand_p now =
+    checked dropped m (option_map packet_fault (own.ciphers.fourth_fault e.psk s.server rand_p packet)) (accepts m s rand_p now)
 
-abbrev pub take_packet : Memory → BookEntry → List ℕ → ℕ → CenterSession → Hearing
-take_packet m e packet now s = option_map_or (λ rand_p. take_fourth m s e packet rand_p now) s.server.rand_p (take_second m s e packet now)
+abbrev pub take_packet : Center → Memory → BookEntry → List ℕ → ℕ → CenterSession → Hearing
+take_packet own m e packet now s = option_map_or (λ rand_p. take_fourth own m s e packet rand_p now) s.server.rand_p (take_second own m s e packet now)
 
-abbrev pub answered : Memory → Eui → List ℕ → ℕ → Hearing
-answered m eui packet now =
-    option_map_or (λ e. option_map_or (take_packet m e packet now) (session_of m eui) (drop_it m drops.NoSession)) (allowed_entry m eui) (drop_it m drops.NotAllowed)
+abbrev pub answered : Center → Memory → Eui → List ℕ → ℕ → Hearing
+answered own m eui packet now =
+    option_map_or (λ e. option_map_or (take_packet own m e packet now) (session_of m eui) (drop_it m drops.NoSession)) (allowed_entry m eui) (drop_it m drops.NotAllowed)
 
 -- # A joining message
 
@@ -181,12 +185,12 @@ may_come (Air from) eui = same_eui from eui
 may_come (Near agent) eui = false
 may_come (Mesh origin) eui = true
 
-abbrev pub hear_join : Eui → Memory → Way → Eui → JoinBody → ℕ → Hearing
+abbrev pub hear_join : Center → Memory → Way → Eui → JoinBody → ℕ → Hearing
 hear_join own m way eui (body.Join []) now = asked own m way eui now
-hear_join own m way eui (body.Join (x ∷ packet)) now = answered m eui (x ∷ packet) now
+hear_join own m way eui (body.Join (x ∷ packet)) now = answered own m eui (x ∷ packet) now
 hear_join own m way eui _ now = drop_it m drops.BadUnit
 
-abbrev pub hear_join_in : Eui → Memory → Way → Option JoinMessage → ℕ → Hearing
+abbrev pub hear_join_in : Center → Memory → Way → Option JoinMessage → ℕ → Hearing
 hear_join_in own m way None now = drop_it m drops.BadUnit
 hear_join_in own m way (Some join) now = choose (may_come way join.eui) (hear_join own m way join.eui join.body now) (drop_it m drops.BadUnit)
 
@@ -196,12 +200,12 @@ abbrev pub on_station : Result Heard Dropped → Result CoordHeard Dropped
 on_station (Ok h) = Ok (heard.Line h)
 on_station (Err reason) = Err reason
 
-abbrev pub heard_by : Eui → Memory → ℕ → Plan Line (Result Heard Dropped) → Option Unread → Hearing
+abbrev pub heard_by : Center → Memory → ℕ → Plan Line (Result Heard Dropped) → Option Unread → Hearing
 heard_by own m now p None = within (λ l. with_line l m) on_station p
 heard_by own m now p (Some u) = hear_join_in own m u.way (join_in u.body) now
 
 -- what the coordinator makes of an accepted frame, which came over a link of this cost under this note
-abbrev pub hear_center : Eui → Memory → Accepted → (cost note now : ℕ) → Hearing
+abbrev pub hear_center : Center → Memory → Accepted → (cost note now : ℕ) → Hearing
 hear_center own m got cost note now = let p = hear m.line got cost note now in heard_by own m now p (unread p.answer)
 
 -- # Orders of the operator

@@ -1,3 +1,4 @@
+pub mod Ciphers
 pub mod Frames
 pub mod Memory
 pub mod Plans

@@ -12,9 +12,8 @@ use Rattle.joining_messages.specs.declared.message.JoinMessage.{JoinMessage}
 use Rattle.joining_messages.specs.declared.message.JoinBody.{JoinBody}
 use Rattle.joining_messages.specs.declared.message.JoinBody.TheVariants as body
 use Rattle.joining_messages.specs.Reading.{join_in}
-use Rattle.eap_psk.specs.Keys.{keys_of}
 use Rattle.eap_psk.specs.Messages.{granting_text}
-use Rattle.eap_psk.specs.Faults.{first_fault, third_fault}
+use Rattle.eap_psk.specs.Faults.{first_fault}
 use Rattle.eap_psk.specs.Tags.{mac_p_tag, mac_s_tag, granting_tag, success_tag}
 use Rattle.eap_psk.specs.declared.peer.Peer.{Peer}
 use Rattle.eap_psk.specs.declared.server.Agreed.{Agreed}
@@ -30,22 +29,24 @@ use Rattle.node_rules.specs.declared.refusal.JoinRefusal.{JoinRefusal}
 use Rattle.node_rules.specs.declared.refusal.JoinRefusal.TheVariants.{AlreadyJoined, Halted}
 use Rattle.node_rules.specs.declared.refusal.LeaveRefusal.{LeaveRefusal}
 use Rattle.node_rules.specs.declared.refusal.LeaveRefusal.TheVariants as leaving
+use Rattle.node_rules.specs.Ciphers.{Ciphers}
 use Rattle.node_rules.specs.Memory.{Line, Memory, MeterSession, Course, ByAgent, ByCommand, address_of}
 use Rattle.node_rules.specs.Plans.{Plan, resting, within}
 use Rattle.node_rules.specs.Accepting.{same_eui}
 use Rattle.node_rules.specs.Doings.{Doing, Ends, begun, ringed, refused, sealing, sealed, checked, choose}
 use Rattle.node_rules.specs.Hearing.{dropped, hear}
 use Rattle.node_rules.specs.Calls as calls
-use Rattle.node_rules.specs.Joining.{peer_for, second_packet, grant_of, fourth_packet, identifier_of, is_first, peer_agrees, message}
+use Rattle.node_rules.specs.Joining.{peer_for, identifier_of, is_first, peer_agrees, message}
 use Rattle.node_rules.specs.Holding.{with_line, in_memory, on_line, remembered, tagged_with, goes_up, goes_down, is_commanded, command_lack, oldest, without_oldest, Unread, unread, packet_fault}
 
 abbrev pub Hearing : Type 0
 Hearing = Plan Memory (Result MeterHeard Dropped)
 
--- A meter: its identity and the pair key.
+-- A meter: its identity, the pair key, and what its packets are made with.
 pub record Identity : Type 0 where
   pub eui : Eui
   pub psk : Key
+  pub ciphers : Ciphers
 
 abbrev pub drop_it : Memory → Dropped → Hearing
 drop_it m reason = refused dropped m reason
@@ -132,7 +133,7 @@ replies m course peer join now =
 abbrev pub reply_with : Identity → Memory → Course → List ℕ → ℕ → Rand → Hearing
 reply_with x m course packet now value =
     let peer = peer_for x.eui value packet in
-    replies m course peer (message x.eui (body.Join (second_packet x.psk (identifier_of packet) peer))) now
+    replies m course peer (message x.eui (body.Join (x.ciphers.second x.psk (identifier_of packet) peer))) now
 
 abbrev pub reply : Identity → Memory → Course → List ℕ → ℕ → Hearing
 reply x m course packet now =
@@ -154,12 +155,12 @@ takes m course peer identifier granted join now =
 abbrev pub take_with : Identity → Memory → Course → List ℕ → ℕ → Peer → Option Granted → Hearing
 take_with x m course packet now peer None = drop_it m NoSuccess
 take_with x m course packet now peer (Some granted) =
-    takes m course peer (identifier_of packet) granted (message x.eui (body.Join (fourth_packet x.psk (identifier_of packet) peer))) now
+    takes m course peer (identifier_of packet) granted (message x.eui (body.Join (x.ciphers.fourth x.psk (identifier_of packet) peer))) now
 
 abbrev pub take_by : Identity → Memory → Course → List ℕ → ℕ → Option Peer → Hearing
 take_by x m course packet now None = drop_it m Form
 take_by x m course packet now (Some peer) =
-    checked dropped m (option_map packet_fault (third_fault (keys_of x.psk.0) peer packet)) (take_with x m course packet now peer (grant_of x.psk peer packet))
+    checked dropped m (option_map packet_fault (x.ciphers.third_fault x.psk peer packet)) (take_with x m course packet now peer (x.ciphers.granted x.psk peer packet))
 
 abbrev pub take : Identity → Memory → Course → List ℕ → ℕ → Hearing
 take x m course packet now =

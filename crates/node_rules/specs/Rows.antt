@@ -2,6 +2,7 @@
 use Rattle.std.specs.Prelude.{◌≡◌, ℕ, List, [], ◌∷◌, ◌++◌, length, map, replicate, true, false, Option, Some, None, Result, Ok, Err}
 use Rattle.byteorder.specs.Endian.{big_bytes}
 use Rattle.plc_base.specs.declared.key.Key.{Key}
+use Rattle.plc_base.specs.declared.key.Rand.{Rand as RandomValue}
 use Rattle.plc_base.specs.declared.out_frame.OutFrame.{OutFrame}
 use Rattle.mesh_header.specs.declared.unit.Unit.TheVariants.{Whole, Local}
 use Rattle.loadng_messages.specs.declared.message.Message.TheVariants.{Rreq}
@@ -9,13 +10,14 @@ use Rattle.loadng_messages.specs.Grammar as messages
 use Rattle.node_rules.specs.declared.event.Answer.{Answer}
 use Rattle.node_rules.specs.declared.event.Answer.TheVariants as said
 use Rattle.node_rules.specs.declared.event.Event.{Event}
-use Rattle.node_rules.specs.declared.event.Event.TheVariants.{Coordinator, Meter, Depot, Near, Counter, Number, Join, Send, Deliver, Inject, Lose, Break, Tick, Rekey, Activate, Challenge, Kick, Show}
+use Rattle.node_rules.specs.declared.event.Event.TheVariants.{Coordinator, Meter, Depot, Near, Counter, Number, Allow, Rand, Join, Send, Deliver, Inject, Lose, Break, Tick, Cut, Rekey, Activate, Challenge, Kick, Show}
 use Rattle.node_rules.specs.declared.event.StepFault.TheVariants as faults
 use Rattle.node_rules.specs.Frames.{Sealed, spelled}
-use Rattle.node_rules.specs.Worlds.{World, Handed, start}
+use Rattle.node_rules.specs.Worlds.{Flight, World, Handed, start, flight_at}
 use Rattle.node_rules.specs.Runs.{Entry, run}
 use Rattle.node_rules.specs.Steps.{step}
-use Rattle.node_rules.specs.Scripts.{plain, eui, group_key, pair_key, two_meters, three_meters, four_meters, answers_after, counts_of, Counted, fault_after, handed_at_last, shown_at_last, forged_at_last}
+use Rattle.std.specs.Option.{option_map}
+use Rattle.node_rules.specs.Scripts.{plain, eui, group_key, pair_key, two_meters, three_meters, four_meters, answers_after, counts_of, Counted, fault_after, world_behind, handed_at_last, shown_at_last, forged_at_last, takers, doers, admissions}
 
 -- # One hop
 
@@ -185,14 +187,120 @@ second_key = record { 0 = big_bytes 16 0x202122232425262728292a2b2c2d2e2f }
 abbrev pub rotation : List Event
 rotation =
     three_meters
-    ++ (Near 0 1 1 ∷ Near 0 2 1 ∷ Near 0 3 1 ∷ Kick 3 ∷ Rekey 1 second_key ∷ Challenge 3 ∷ Activate 0 1 ∷ Send 0 3 (0xaa ∷ [])
-    ∷ Deliver 2 3 1 ∷ Deliver 1 3 1 ∷ Rekey 1 pair_key ∷ Send 2 0 (0xbb ∷ []) ∷ Rekey 0 pair_key ∷ Deliver 3 0 1 ∷ [])
+    ++ (Near 0 1 1 ∷ Near 0 2 1 ∷ Near 0 3 1 ∷ Kick 3 ∷ Rekey 1 second_key ∷ Rand 0 (record { 0 = group_key.0 }) ∷ Rand 1 (record { 0 = big_bytes 16 0xf0f1f2f3f4f5f6f7f8f9fafbfcfdfeff })
+    ∷ Challenge 1 ∷ Deliver 2 1 1 ∷ Deliver 3 0 1 ∷ Deliver 4 1 1 ∷ Deliver 5 0 1
+    ∷ Challenge 3 ∷ Activate 0 1 ∷ Send 0 3 (0xaa ∷ []) ∷ Deliver 7 3 1 ∷ Deliver 1 3 1 ∷ Rekey 1 pair_key ∷ Send 2 0 (0xbb ∷ []) ∷ Rekey 0 pair_key ∷ Deliver 8 0 1 ∷ [])
 
--- a kicked meter leaves, hears nothing under the new key, and what is sealed under the old one opens no more
+-- a meter is given the second key, a kicked one leaves and hears nothing under it, and what is sealed under the old one opens no more
 abbrev pub RotationAndKick : Type 0
 RotationAndKick =
-    answers_after 10 rotation
-    ≡ said.Kicked ∷ said.Drawn ∷ said.NotAllowed ∷ said.Activated ∷ said.Sent ∷ said.NoKey ∷ said.Left ∷ said.IndexActive ∷ said.Sent ∷ said.Drawn ∷ said.BadTag ∷ []
+    (answers_after 10 rotation
+    ≡ said.Kicked ∷ said.Drawn ∷ said.Given ∷ said.Given ∷ said.Challenged ∷ said.Replied ∷ said.Keyed ∷ said.Took ∷ said.Done
+    ∷ said.NotAllowed ∷ said.Activated ∷ said.Sent ∷ said.NoKey ∷ said.Left ∷ said.IndexActive ∷ said.Sent ∷ said.Drawn ∷ said.BadTag ∷ [])
+    × (takers (run plain start rotation) ≡ 1 ∷ [])
+    × (doers (run plain start rotation) ≡ 1 ∷ [])
+    × (counts_of rotation ≡ record { events = 28; flights = 8; sends = 2; ups = 0; forged = 0 })
+
+-- # Joining
+
+abbrev pub rand_k : RandomValue
+rand_k = record { 0 = group_key.0 }
+
+abbrev pub rand_r : RandomValue
+rand_r = record { 0 = big_bytes 16 0xf0f1f2f3f4f5f6f7f8f9fafbfcfdfeff }
+
+abbrev pub rand_p : RandomValue
+rand_p = record { 0 = pair_key.0 }
+
+abbrev pub rand_q : RandomValue
+rand_q = record { 0 = second_key.0 }
+
+-- a meter is allowed, and asks the coordinator over the air
+abbrev pub asking : List Event
+asking = Coordinator (eui 1) group_key ∷ Meter (eui 2) pair_key ∷ Allow 1 ∷ Rand 0 rand_k ∷ Rand 1 rand_r ∷ Join 1 0 ∷ []
+
+abbrev pub joining : List Event
+joining = asking ++ (Deliver 1 0 1 ∷ Deliver 2 1 1 ∷ Deliver 3 0 1 ∷ Deliver 4 1 1 ∷ Deliver 5 0 1 ∷ Deliver 6 1 1 ∷ [])
+
+-- both ends come to an end, and the meter has its address
+abbrev pub AMeterJoinsOverTheAir : Type 0
+AMeterJoinsOverTheAir =
+    (answers_after 2 joining
+    ≡ said.Allowed ∷ said.Given ∷ said.Given ∷ said.Asked ∷ said.Challenged ∷ said.Replied ∷ said.Keyed ∷ said.Took ∷ said.Done ∷ said.Noted ∷ [])
+    × (admissions (run plain start joining) ≡ record { node = 1; address = 1 } ∷ [])
+    × (takers (run plain start joining) ≡ 1 ∷ [])
+    × (doers (run plain start joining) ≡ 1 ∷ [])
+    × (counts_of joining ≡ record { events = 12; flights = 6; sends = 0; ups = 0; forged = 0 })
+
+-- a third packet of an earlier session
+abbrev pub joining_again : List Event
+joining_again =
+    asking ++ (Deliver 1 0 1 ∷ Deliver 2 1 1 ∷ Deliver 3 0 1 ∷ Rand 0 rand_p ∷ Rand 1 rand_q ∷ Join 1 0 ∷ Deliver 5 0 1 ∷ Deliver 6 1 1 ∷ Deliver 4 1 1 ∷ [])
+
+abbrev pub AnOldThirdPacketIsRefused : Type 0
+AnOldThirdPacketIsRefused = answers_after 13 joining_again ≡ said.Replied ∷ said.OtherSession ∷ []
+
+-- # Joining through an agent
+
+abbrev pub by_agent : List Event
+by_agent =
+    Coordinator (eui 1) group_key ∷ Meter (eui 2) pair_key ∷ Meter (eui 3) second_key ∷ Depot 1 ∷ Near 0 1 1 ∷ Allow 2 ∷ Rand 0 rand_k ∷ Rand 2 rand_r ∷ Join 2 1
+    ∷ Deliver 1 1 1 ∷ Deliver 2 0 1 ∷ Deliver 3 1 1 ∷ Deliver 4 2 1 ∷ Deliver 5 1 1 ∷ Deliver 6 0 1 ∷ Deliver 7 1 1 ∷ Deliver 8 2 1 ∷ Deliver 9 1 1 ∷ Deliver 10 0 1
+    ∷ Deliver 11 1 1 ∷ Deliver 12 2 1 ∷ []
+
+abbrev pub AMeterJoinsThroughAnAgent : Type 0
+AMeterJoinsThroughAnAgent =
+    (answers_after 9 by_agent
+    ≡ said.Carried ∷ said.Challenged ∷ said.Carried ∷ said.Replied ∷ said.Carried ∷ said.Keyed ∷ said.Carried ∷ said.Took ∷ said.Carried ∷ said.Done ∷ said.Carried
+    ∷ said.Noted ∷ [])
+    × (admissions (run plain start by_agent) ≡ record { node = 2; address = 2 } ∷ [])
+    × (takers (run plain start by_agent) ≡ 2 ∷ [])
+    × (doers (run plain start by_agent) ≡ 2 ∷ [])
+    × (counts_of by_agent ≡ record { events = 21; flights = 12; sends = 0; ups = 0; forged = 0 })
+
+-- # Kicked, and not told
+
+abbrev pub kicked_unaware : List Event
+kicked_unaware = joining ++ (Kick 1 ∷ Join 1 0 ∷ [])
+
+-- without a route no word goes out, and the meter knows nothing of it
+abbrev pub AKickedMeterMayNotKnow : Type 0
+AKickedMeterMayNotKnow =
+    (answers_after 12 kicked_unaware ≡ said.Kicked ∷ said.AlreadyJoined ∷ [])
+    × (counts_of kicked_unaware ≡ record { events = 14; flights = 6; sends = 0; ups = 0; forged = 0 })
+
+-- # The octets of frames
+
+-- the octets of the flight of a number behind a script
+abbrev pub octets_of : List Event → ℕ → Option (List ℕ)
+octets_of events number = option_map (λ (f : Flight). f.octets) (flight_at (world_behind start (run plain start events)) number)
+
+abbrev pub named_joining : List Event
+named_joining =
+    Coordinator (record { 0 = big_bytes 8 0xaabbccddeeff0011 }) group_key ∷ Meter (record { 0 = big_bytes 8 0x0102030405060708 }) pair_key ∷ Allow 1 ∷ Rand 0 rand_k ∷ Rand 1 rand_r
+    ∷ Join 1 0 ∷ Deliver 1 0 1 ∷ Deliver 2 1 1 ∷ Deliver 3 0 1 ∷ Deliver 4 1 1 ∷ Deliver 5 0 1 ∷ Deliver 6 1 1 ∷ []
+
+-- a sealed frame's header and unit, and the plain frames that ask, challenge and accept
+abbrev pub FramesAreSpelled : Type 0
+FramesAreSpelled =
+    (octets_of one_hop 1
+    ≡ Some (big_bytes 15 0x6998001d7802000100_0d0000000000 ++ (big_bytes 11 0xbe000100024148656c6c6f ++ big_bytes 4 0x00010203)))
+    × (octets_of named_joining 1 ≡ Some (big_bytes 18 0x61d8001d7800000807060504030201400201 ++ big_bytes 8 0x0102030405060708))
+    × (octets_of named_joining 2
+    ≡ Some (big_bytes 18 0x619c001d7808070605040302010000400203 ++ (big_bytes 8 0x0102030405060708 ++ (big_bytes 6 0x0101001e2f00 ++ (group_key.0 ++ big_bytes 8 0xaabbccddeeff0011)))))
+    × (octets_of named_joining 6 ≡ Some (big_bytes 18 0x619c001d7808070605040302010000400202 ++ (big_bytes 8 0x0102030405060708 ++ big_bytes 4 0x03020004)))
+
+-- # A store write that fails
+
+abbrev pub cut_off : List Event
+cut_off = two_meters ++ (Near 1 2 3 ∷ Cut 1 1 false ∷ Send 1 2 (0xaa ∷ []) ∷ Send 1 2 (0xaa ∷ []) ∷ Deliver 1 2 1 ∷ [])
+
+-- the node halts and sends nothing
+abbrev pub AFailedWriteHalts : Type 0
+AFailedWriteHalts =
+    (answers_after 6 cut_off ≡ said.Set ∷ said.Store ∷ said.Halted ∷ [])
+    × (counts_of cut_off ≡ record { events = 9; flights = 0; sends = 0; ups = 0; forged = 0 })
+    × (answers_after 3 (Coordinator (eui 1) group_key ∷ Meter (eui 2) pair_key ∷ Meter (eui 3) second_key ∷ Cut 0 1 true ∷ Allow 1 ∷ Allow 2 ∷ []) ≡ said.Set ∷ said.Store ∷ said.Halted ∷ [])
 
 -- # Bad lines
 

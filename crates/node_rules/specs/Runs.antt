@@ -14,7 +14,7 @@ use Rattle.node_rules.specs.declared.event.Answer.{Answer}
 use Rattle.node_rules.specs.declared.event.Answer.TheVariants as said
 use Rattle.node_rules.specs.declared.event.Event.{Event}
 use Rattle.node_rules.specs.declared.event.Event.TheVariants as events
-use Rattle.node_rules.specs.Frames.{Seal}
+use Rattle.node_rules.specs.Ciphers.{Ciphers}
 use Rattle.node_rules.specs.Memory.{Line, Memory, Node, Role, Coordinator, Meter, Body, node_address, node_route}
 use Rattle.node_rules.specs.Doings.{blocks_waiting}
 use Rattle.node_rules.specs.Worlds.{Flight, World, start, node_at, Handed, Happenings, Sending, Issued, Pairing, Deeds}
@@ -36,14 +36,14 @@ entries_of w event (Ok r) rest = record { number = w.events + 1; event = event; 
 entries_of w event (Err fault) rest = []
 
 -- the run of events from a world on, up to the first that is not taken; it has at most 50,000 events
-abbrev pub run : Seal → World → List Event → List Entry
-run seal w [] = []
-run seal w (event ∷ events) = if nat_lt w.events 50000 then entries_of w event (step seal w event) (λ next. run seal next events) else []
+abbrev pub run : Ciphers → World → List Event → List Entry
+run ciphers w [] = []
+run ciphers w (event ∷ events) = if nat_lt w.events 50000 then entries_of w event (step ciphers w event) (λ next. run ciphers next events) else []
 
 -- the entries are a run from a world on
-abbrev pub IsRun : Seal → World → List Entry → Type 0
-IsRun seal w [] = Unit {0}
-IsRun seal w (x ∷ xs) = (w.events < 50000) × (x.number ≡ w.events + 1) × (step seal w x.event ≡ Ok (x.after, x.deeds)) × IsRun seal x.after xs
+abbrev pub IsRun : Ciphers → World → List Entry → Type 0
+IsRun ciphers w [] = Unit {0}
+IsRun ciphers w (x ∷ xs) = (w.events < 50000) × (x.number ≡ w.events + 1) × (step ciphers w x.event ≡ Ok (x.after, x.deeds)) × IsRun ciphers x.after xs
 
 -- # What a history tells
 

@@ -29,7 +29,8 @@ use Rattle.node_rules.specs.declared.refusal.JoinRefusal.TheVariants as joins
 use Rattle.node_rules.specs.declared.refusal.LeaveRefusal.TheVariants as leaves
 use Rattle.node_rules.specs.declared.refusal.RandomFault.TheVariants as randoms
 use Rattle.node_rules.specs.declared.refusal.SendRefusal.TheVariants as sends
-use Rattle.node_rules.specs.Frames.{Seal, Sent, spelled, arrived}
+use Rattle.node_rules.specs.Ciphers.{Ciphers}
+use Rattle.node_rules.specs.Frames.{Sent, spelled, arrived}
 use Rattle.node_rules.specs.Memory.{Line, Memory, Node, Role, Coordinator, Meter, Stored, node_address}
 use Rattle.node_rules.specs.Plans.{Plan, Outcome, carry_out, resting, within}
 use Rattle.node_rules.specs.Accepting.{accept}
@@ -95,14 +96,14 @@ ran w = record w { events = w.events + 1; running = true }
 abbrev pub flight_by : ℕ → OutFrame → Flight
 flight_by from f = record { from = from; octets = f.octets; key = f.key; note = f.note; lost = false }
 
-abbrev pub flights_of : {A : Type 0} → Seal → ℕ → Did A → List Flight
-flights_of seal number d = map (λ frame. flight_by number (spelled seal frame)) d.frames
+abbrev pub flights_of : {A : Type 0} → Ciphers → ℕ → Did A → List Flight
+flights_of ciphers number d = map (λ frame. flight_by number (spelled ciphers frame)) d.frames
 
 -- the node is the one that is left, its frames fly, and its pair tags are made
-unfoldable pub told : {A : Type 0} → Seal → World → ℕ → Did A → World
-told seal w number d = record w {
+unfoldable pub told : {A : Type 0} → Ciphers → World → ℕ → Did A → World
+told ciphers w number d = record w {
   nodes = slice_set w.nodes number d.node;
-  flights = w.flights ++ flights_of seal number d;
+  flights = w.flights ++ flights_of ciphers number d;
   made = w.made ++ d.made;
 }
 
@@ -128,8 +129,8 @@ deeds h = record { happened = h; sent = None; issued = []; taken = None; done = 
 abbrev pub spoken : World → Did Answer → Deeds
 spoken w d = record (deeds (record (happened w d.answer) { flights = length d.frames })) { made = d.made; opened = d.opened }
 
-abbrev pub acted : Seal → World → ℕ → Did Answer → World × Deeds
-acted seal w number d = (told seal (ran w) number d, spoken w d)
+abbrev pub acted : Ciphers → World → ℕ → Did Answer → World × Deeds
+acted ciphers w number d = (told ciphers (ran w) number d, spoken w d)
 
 -- # Which events are taken
 
@@ -199,26 +200,26 @@ psk_of x = psk_by x.role
     psk_by (Meter psk) = Some psk
 
 -- the meter gets the grant that the coordinator has for it
-abbrev pub provisioned : Seal → World → ℕ → Node → Granted → World × Deeds
-provisioned seal w number x g = (
-  told seal w number (acts x (Ok tt) (λ m. meters.provision m g)),
+abbrev pub provisioned : Ciphers → World → ℕ → Node → Granted → World × Deeds
+provisioned ciphers w number x g = (
+  told ciphers w number (acts x (Ok tt) (λ m. meters.provision m g)),
   record (deeds (happened w said.Joined)) { issued = issued_by x.eui g },
 )
 
-abbrev pub depot_by : Seal → World → ℕ → Node → Did (Result Granted CoordRefusal) → Step
-depot_by seal w number x d = by_answer d.answer
+abbrev pub depot_by : Ciphers → World → ℕ → Node → Did (Result Granted CoordRefusal) → Step
+depot_by ciphers w number x d = by_answer d.answer
   where
     by_answer : Result Granted CoordRefusal → Step
-    by_answer (Ok g) = Ok (provisioned seal (told seal (set_up w) 0 d) number x g)
+    by_answer (Ok g) = Ok (provisioned ciphers (told ciphers (set_up w) 0 d) number x g)
     by_answer (Err reason) = Err faults.Setup
 
-abbrev pub depot_at : Seal → World → ℕ → Node → Node → Step
-depot_at seal w number x c =
+abbrev pub depot_at : Ciphers → World → ℕ → Node → Node → Step
+depot_at ciphers w number x c =
     if (number == 0) || is_some (node_address x) then Err faults.Setup
-    else option_map_or (λ psk. depot_by seal w number x (acts c (Err orders.Halted) (λ m. center.depot m x.eui psk))) (psk_of x) (Err faults.Setup)
+    else option_map_or (λ psk. depot_by ciphers w number x (acts c (Err orders.Halted) (λ m. center.depot m x.eui psk))) (psk_of x) (Err faults.Setup)
 
-unfoldable pub depot : Seal → World → ℕ → Step
-depot seal w number = in_setup w (on_node w number (λ x. at_center w (λ c. depot_at seal w number x c)))
+unfoldable pub depot : Ciphers → World → ℕ → Step
+depot ciphers w number = in_setup w (on_node w number (λ x. at_center w (λ c. depot_at ciphers w number x c)))
 
 -- # near
 
@@ -232,22 +233,22 @@ ranks_full x = option_map_or (λ (m : Memory). nat_lt 63 (length m.line.routing.
 abbrev pub offered_near : Node → ℕ → ℕ → ℕ → Did (Unit {0})
 offered_near x to cost now = answering (λ _. tt) (acts x (Ok tt) (λ m. of_line m (calls.preset_near m.line to cost now)))
 
-abbrev pub near_by : Seal → World → (a b cost : ℕ) → Node → Node → Option ℕ → Option ℕ → Step
-near_by seal w a b cost x y None q = Err faults.Setup
-near_by seal w a b cost x y (Some p) None = Err faults.Setup
-near_by seal w a b cost x y (Some p) (Some q) =
+abbrev pub near_by : Ciphers → World → (a b cost : ℕ) → Node → Node → Option ℕ → Option ℕ → Step
+near_by ciphers w a b cost x y None q = Err faults.Setup
+near_by ciphers w a b cost x y (Some p) None = Err faults.Setup
+near_by ciphers w a b cost x y (Some p) (Some q) =
     if (a == b) || (keeps_rank x q || (ranks_full x || ranks_full y)) then Err faults.Setup
-    else Ok (told seal (told seal (set_up w) a (offered_near x q cost w.clock)) b (offered_near y p cost w.clock), deeds (happened w said.Set))
+    else Ok (told ciphers (told ciphers (set_up w) a (offered_near x q cost w.clock)) b (offered_near y p cost w.clock), deeds (happened w said.Set))
 
-unfoldable pub near : Seal → World → (a b cost : ℕ) → Step
-near seal w a b cost =
-    in_setup w (on_node w a (λ x. on_node w b (λ y. near_by seal w a b cost x y (node_address x) (node_address y))))
+unfoldable pub near : Ciphers → World → (a b cost : ℕ) → Step
+near ciphers w a b cost =
+    in_setup w (on_node w a (λ x. on_node w b (λ y. near_by ciphers w a b cost x y (node_address x) (node_address y))))
 
 -- # counter, number
 
-abbrev pub preset : Seal → World → ℕ → (Line → calls.Presetting) → Step
-preset seal w number plan =
-    in_setup w (on_node w number (λ x. Ok (told seal (set_up w) number (acts x (Ok tt) (λ m. of_line m (plan m.line))), deeds (happened w said.Set))))
+abbrev pub preset : Ciphers → World → ℕ → (Line → calls.Presetting) → Step
+preset ciphers w number plan =
+    in_setup w (on_node w number (λ x. Ok (told ciphers (set_up w) number (acts x (Ok tt) (λ m. of_line m (plan m.line))), deeds (happened w said.Set))))
 
 -- # allow, rand, join, leave
 
@@ -258,38 +259,38 @@ abbrev pub admission_by : ℕ → Result ℕ CoordRefusal → Option Admission
 admission_by number (Ok address) = Some (record { node = number; address = address })
 admission_by number (Err reason) = None
 
-abbrev pub allowed : Seal → World → ℕ → Did (Result ℕ CoordRefusal) → World × Deeds
-allowed seal w number d = (
-  told seal (ran w) 0 d,
+abbrev pub allowed : Ciphers → World → ℕ → Did (Result ℕ CoordRefusal) → World × Deeds
+allowed ciphers w number d = (
+  told ciphers (ran w) 0 d,
   deeds (record (happened w (allowed_word d.answer)) { grant = admission_by number d.answer }),
 )
 
-unfoldable pub allow : Seal → World → ℕ → Step
-allow seal w number =
+unfoldable pub allow : Ciphers → World → ℕ → Step
+allow ciphers w number =
     once_begun w (on_meter w number (λ x. at_center w (λ c.
-    option_map_or (λ psk. Ok (allowed seal w number (acts c (Err orders.Halted) (λ m. center.allow m x.eui psk)))) (psk_of x) (Err faults.Node))))
+    option_map_or (λ psk. Ok (allowed ciphers w number (acts c (Err orders.Halted) (λ m. center.allow m x.eui psk)))) (psk_of x) (Err faults.Node))))
 
-unfoldable pub rand : Seal → World → ℕ → Rand → Step
-rand seal w number value =
-    once_begun w (on_node w number (λ x. Ok (acted seal w number (answering random_word (acts x (Err randoms.Halted) (λ m. give_random m value))))))
+unfoldable pub rand : Ciphers → World → ℕ → Rand → Step
+rand ciphers w number value =
+    once_begun w (on_node w number (λ x. Ok (acted ciphers w number (answering random_word (acts x (Err randoms.Halted) (λ m. give_random m value))))))
 
 -- the identity that a meter's calls are given
-abbrev pub identity : Node → Key → meters.Identity
-identity x psk = record { eui = x.eui; psk = psk }
+abbrev pub identity : Ciphers → Node → Key → meters.Identity
+identity ciphers x psk = record { eui = x.eui; psk = psk; ciphers = ciphers }
 
-abbrev pub joins_by : Seal → World → ℕ → Node → Option ℕ → Option Key → World × Deeds
-joins_by seal w number x None psk = (ran w, deeds (happened w said.NoAddress))
-joins_by seal w number x (Some agent) None = (ran w, deeds (happened w said.NoAddress))
-joins_by seal w number x (Some agent) (Some psk) =
-    acted seal w number (answering join_word (acts x (Err joins.Halted) (λ m. meters.join (identity x psk) m agent w.clock)))
+abbrev pub joins_by : Ciphers → World → ℕ → Node → Option ℕ → Option Key → World × Deeds
+joins_by ciphers w number x None psk = (ran w, deeds (happened w said.NoAddress))
+joins_by ciphers w number x (Some agent) None = (ran w, deeds (happened w said.NoAddress))
+joins_by ciphers w number x (Some agent) (Some psk) =
+    acted ciphers w number (answering join_word (acts x (Err joins.Halted) (λ m. meters.join (identity ciphers x psk) m agent w.clock)))
 
-unfoldable pub join : Seal → World → ℕ → ℕ → Step
-join seal w number agent =
-    once_begun w (on_meter w number (λ x. on_node w agent (λ y. Ok (joins_by seal w number x (node_address y) (psk_of x)))))
+unfoldable pub join : Ciphers → World → ℕ → ℕ → Step
+join ciphers w number agent =
+    once_begun w (on_meter w number (λ x. on_node w agent (λ y. Ok (joins_by ciphers w number x (node_address y) (psk_of x)))))
 
-unfoldable pub leave : Seal → World → ℕ → Step
-leave seal w number =
-    once_begun w (on_meter w number (λ x. Ok (acted seal w number (answering leave_word (acts x (Err leaves.Halted) meters.leave)))))
+unfoldable pub leave : Ciphers → World → ℕ → Step
+leave ciphers w number =
+    once_begun w (on_meter w number (λ x. Ok (acted ciphers w number (answering leave_word (acts x (Err leaves.Halted) meters.leave)))))
 
 -- # send, break
 
@@ -310,36 +311,36 @@ sent_if w from to datagram tag true r = (
   record r.1 { sent = Some (record { from = from; to = to; datagram = datagram; tag = tag }) },
 )
 
-abbrev pub sending : Seal → World → (from to : ℕ) → List ℕ → ℕ → Did Answer → World × Deeds
-sending seal w from to datagram tag d = sent_if w from to datagram tag (is_taken d.answer) (acted seal w from d)
+abbrev pub sending : Ciphers → World → (from to : ℕ) → List ℕ → ℕ → Did Answer → World × Deeds
+sending ciphers w from to datagram tag d = sent_if w from to datagram tag (is_taken d.answer) (acted ciphers w from d)
 
-abbrev pub sends_by : Seal → World → (from to : ℕ) → List ℕ → Node → Option ℕ → World × Deeds
-sends_by seal w from to datagram x None = (ran w, deeds (happened w said.NoAddress))
-sends_by seal w from to datagram x (Some address) =
-    sending seal w from to datagram (tag_of x)
+abbrev pub sends_by : Ciphers → World → (from to : ℕ) → List ℕ → Node → Option ℕ → World × Deeds
+sends_by ciphers w from to datagram x None = (ran w, deeds (happened w said.NoAddress))
+sends_by ciphers w from to datagram x (Some address) =
+    sending ciphers w from to datagram (tag_of x)
     (answering sent_word (acts x (Err sends.Halted) (λ m. of_line m (calls.send m.line address datagram (w.sends + 1) w.clock))))
 
-unfoldable pub send : Seal → World → (from to : ℕ) → List ℕ → Step
-send seal w from to datagram =
-    once_begun w (on_node w from (λ x. on_node w to (λ y. Ok (sends_by seal w from to datagram x (node_address y)))))
+unfoldable pub send : Ciphers → World → (from to : ℕ) → List ℕ → Step
+send ciphers w from to datagram =
+    once_begun w (on_node w from (λ x. on_node w to (λ y. Ok (sends_by ciphers w from to datagram x (node_address y)))))
 
-abbrev pub breaks_by : Seal → World → ℕ → Node → Option ℕ → World × Deeds
-breaks_by seal w number x None = (ran w, deeds (happened w said.NoAddress))
-breaks_by seal w number x (Some next) = acted seal w number (acts x said.Halted (λ m. changing said.Broken (with_line (calls.broke next m.line) m)))
+abbrev pub breaks_by : Ciphers → World → ℕ → Node → Option ℕ → World × Deeds
+breaks_by ciphers w number x None = (ran w, deeds (happened w said.NoAddress))
+breaks_by ciphers w number x (Some next) = acted ciphers w number (acts x said.Halted (λ m. changing said.Broken (with_line (calls.broke next m.line) m)))
 
-unfoldable pub breaks : Seal → World → ℕ → ℕ → Step
-breaks seal w number next =
-    once_begun w (on_node w number (λ x. on_node w next (λ y. Ok (breaks_by seal w number x (node_address y)))))
+unfoldable pub breaks : Ciphers → World → ℕ → ℕ → Step
+breaks ciphers w number next =
+    once_begun w (on_node w number (λ x. on_node w next (λ y. Ok (breaks_by ciphers w number x (node_address y)))))
 
 -- # deliver, inject
 
 -- what a node makes of a frame that it accepted, under a note, by its role
-abbrev pub hears : Node → Accepted → (cost note now : ℕ) → Did Reception
-hears x got cost note now = hears_by x.role
+abbrev pub hears : Ciphers → Node → Accepted → (cost note now : ℕ) → Did Reception
+hears ciphers x got cost note now = hears_by x.role
   where
     hears_by : Role → Did Reception
-    hears_by Coordinator = answering center_reception (acts x (Err drops.Store) (λ m. center.hear_center x.eui m got cost note now))
-    hears_by (Meter psk) = answering meter_reception (acts x (Err drops.Store) (λ m. meters.hear_meter (identity x psk) m got cost note now))
+    hears_by Coordinator = answering center_reception (acts x (Err drops.Store) (λ m. center.hear_center (record { eui = x.eui; ciphers = ciphers }) m got cost note now))
+    hears_by (Meter psk) = answering meter_reception (acts x (Err drops.Store) (λ m. meters.hear_meter (identity ciphers x psk) m got cost note now))
 
 -- the note of octets that a node accepted, and whether they are forged
 abbrev pub note_by : World → List ℕ → Path → ℕ
@@ -386,9 +387,9 @@ reception_deeds w number forged d = record {
   opened = d.opened;
 }
 
-abbrev pub received : Seal → World → ℕ → Bool → Did Reception → World × Deeds
-received seal w number forged d =
-    let told_world = told seal (ran w) number d in (
+abbrev pub received : Ciphers → World → ℕ → Bool → Did Reception → World × Deeds
+received ciphers w number forged d =
+    let told_world = told ciphers (ran w) number d in (
       record told_world {
         ups = number_if (is_some d.answer.up) w.ups;
         forged = number_if forged w.forged;
@@ -399,33 +400,33 @@ received seal w number forged d =
 
 -- a frame that was accepted is heard under its note; it is forged where it was sent by nobody, or a pair tag that was found right was
 -- made by nobody
-abbrev pub heard : Seal → World → ℕ → Node → List ℕ → Accepted → ℕ → World × Deeds
-heard seal w number x octets got cost =
-    let d = hears x got cost (note_by w octets got.path) w.clock in
-    received seal w number (forged_by w octets got.path || list_any (is_forged_tag w.made) d.opened) d
+abbrev pub heard : Ciphers → World → ℕ → Node → List ℕ → Accepted → ℕ → World × Deeds
+heard ciphers w number x octets got cost =
+    let d = hears ciphers x got cost (note_by w octets got.path) w.clock in
+    received ciphers w number (forged_by w octets got.path || list_any (is_forged_tag w.made) d.opened) d
 
-abbrev pub accepted_by : Seal → World → ℕ → List ℕ → ℕ → Did (Result Accepted FrameRefusal) → World × Deeds
-accepted_by seal w number octets cost d = by_answer d.answer
+abbrev pub accepted_by : Ciphers → World → ℕ → List ℕ → ℕ → Did (Result Accepted FrameRefusal) → World × Deeds
+accepted_by ciphers w number octets cost d = by_answer d.answer
   where
     by_answer : Result Accepted FrameRefusal → World × Deeds
-    by_answer (Ok got) = heard seal w number d.node octets got cost
-    by_answer (Err reason) = (told seal (ran w) number d, deeds (happened w (frame_word reason)))
+    by_answer (Ok got) = heard ciphers w number d.node octets got cost
+    by_answer (Err reason) = (told ciphers (ran w) number d, deeds (happened w (frame_word reason)))
 
 -- octets come to a node over a link of a cost
-unfoldable pub arrives : Seal → World → ℕ → Node → List ℕ → ℕ → World × Deeds
-arrives seal w number x octets cost =
-    accepted_by seal w number octets cost (acts x (Err frames.Halted) (λ m. of_line m (accept m.line x.eui (arrived seal octets))))
+unfoldable pub arrives : Ciphers → World → ℕ → Node → List ℕ → ℕ → World × Deeds
+arrives ciphers w number x octets cost =
+    accepted_by ciphers w number octets cost (acts x (Err frames.Halted) (λ m. of_line m (accept m.line x.eui (arrived ciphers octets))))
 
 -- a flight that was lost comes no more
 abbrev pub on_flight : World → ℕ → (Flight → Step) → Step
 on_flight w number step = option_map_or (λ f. if f.lost then Err faults.Flight else step f) (flight_at w number) (Err faults.Flight)
 
-unfoldable pub deliver : Seal → World → (flight number cost : ℕ) → Step
-deliver seal w flight number cost =
-    once_begun w (on_node w number (λ x. on_flight w flight (λ f. Ok (arrives seal w number x f.octets cost))))
+unfoldable pub deliver : Ciphers → World → (flight number cost : ℕ) → Step
+deliver ciphers w flight number cost =
+    once_begun w (on_node w number (λ x. on_flight w flight (λ f. Ok (arrives ciphers w number x f.octets cost))))
 
-unfoldable pub inject : Seal → World → (number cost : ℕ) → List ℕ → Step
-inject seal w number cost octets = once_begun w (on_node w number (λ x. Ok (arrives seal w number x octets cost)))
+unfoldable pub inject : Ciphers → World → (number cost : ℕ) → List ℕ → Step
+inject ciphers w number cost octets = once_begun w (on_node w number (λ x. Ok (arrives ciphers w number x octets cost)))
 
 unfoldable pub lose : World → ℕ → Step
 lose w number =
@@ -460,64 +461,64 @@ restart_word (Err bad) = said.BadStore
 abbrev pub restarts : Node → Did Answer
 restarts x = stays (record x { memory = memory_by (memory_of x.role x.store.records) }) (restart_word (memory_of x.role x.store.records))
 
-unfoldable pub restart : Seal → World → ℕ → Step
-restart seal w number = once_begun w (on_node w number (λ x. Ok (acted seal w number (restarts x))))
+unfoldable pub restart : Ciphers → World → ℕ → Step
+restart ciphers w number = once_begun w (on_node w number (λ x. Ok (acted ciphers w number (restarts x))))
 
-unfoldable pub cut : Seal → World → ℕ → ℕ → Bool → Step
-cut seal w number nth keeps_new =
+unfoldable pub cut : Ciphers → World → ℕ → ℕ → Bool → Step
+cut ciphers w number nth keeps_new =
     once_begun w (on_node w number (λ x.
-    Ok (acted seal w number (stays (record x { store = record x.store { cut = Some (record { nth = nth; keeps_new = keeps_new }) } }) said.Set))))
+    Ok (acted ciphers w number (stays (record x { store = record x.store { cut = Some (record { nth = nth; keeps_new = keeps_new }) } }) said.Set))))
 
 unfoldable pub show : World → ℕ → Step
 show w number = once_begun w (on_node w number (λ x. Ok (ran w, deeds (record (happened w said.Shown) { shown = Some (shown_of x) }))))
 
 -- # rekey, challenge, activate, kick
 
-abbrev pub by_center : {A : Type 0} → Seal → World → Node → Answer → (Memory → Plan Memory (Result A CoordRefusal)) → World × Deeds
-by_center seal w c answer order = acted seal w 0 (answering (ordered_word answer) (acts c (Err orders.Halted) order))
+abbrev pub by_center : {A : Type 0} → Ciphers → World → Node → Answer → (Memory → Plan Memory (Result A CoordRefusal)) → World × Deeds
+by_center ciphers w c answer order = acted ciphers w 0 (answering (ordered_word answer) (acts c (Err orders.Halted) order))
 
-unfoldable pub rekey : Seal → World → ℕ → Key → Step
-rekey seal w index key = once_begun w (at_center w (λ c. Ok (by_center seal w c said.Drawn (λ m. center.rekey m index key))))
+unfoldable pub rekey : Ciphers → World → ℕ → Key → Step
+rekey ciphers w index key = once_begun w (at_center w (λ c. Ok (by_center ciphers w c said.Drawn (λ m. center.rekey m index key))))
 
-unfoldable pub challenge : Seal → World → ℕ → Step
-challenge seal w number =
-    once_begun w (on_meter w number (λ x. at_center w (λ c. Ok (by_center seal w c said.Challenged (λ m. center.challenge c.eui m x.eui w.clock)))))
+unfoldable pub challenge : Ciphers → World → ℕ → Step
+challenge ciphers w number =
+    once_begun w (on_meter w number (λ x. at_center w (λ c. Ok (by_center ciphers w c said.Challenged (λ m. center.challenge c.eui m x.eui w.clock)))))
 
-abbrev pub activate_at : Seal → World → ℕ → ℕ → Node → Node → World × Deeds
-activate_at seal w number index x c =
-    if number == 0 then by_center seal w c said.Activated (λ m. center.activate_self m index)
-    else by_center seal w c said.Ordered (λ m. center.activate m x.eui index w.clock)
+abbrev pub activate_at : Ciphers → World → ℕ → ℕ → Node → Node → World × Deeds
+activate_at ciphers w number index x c =
+    if number == 0 then by_center ciphers w c said.Activated (λ m. center.activate_self m index)
+    else by_center ciphers w c said.Ordered (λ m. center.activate m x.eui index w.clock)
 
-unfoldable pub activate : Seal → World → ℕ → ℕ → Step
-activate seal w number index = once_begun w (on_node w number (λ x. at_center w (λ c. Ok (activate_at seal w number index x c))))
+unfoldable pub activate : Ciphers → World → ℕ → ℕ → Step
+activate ciphers w number index = once_begun w (on_node w number (λ x. at_center w (λ c. Ok (activate_at ciphers w number index x c))))
 
-unfoldable pub kick : Seal → World → ℕ → Step
-kick seal w number =
-    once_begun w (on_meter w number (λ x. at_center w (λ c. Ok (by_center seal w c said.Kicked (λ m. center.kick m x.eui)))))
+unfoldable pub kick : Ciphers → World → ℕ → Step
+kick ciphers w number =
+    once_begun w (on_meter w number (λ x. at_center w (λ c. Ok (by_center ciphers w c said.Kicked (λ m. center.kick m x.eui)))))
 
 -- # All kinds
 
-abbrev pub step : Seal → World → Event → Step
-step seal w (events.Coordinator eui key) = coordinator w eui key
-step seal w (events.Meter eui psk) = meter w eui psk
-step seal w (events.Depot node) = depot seal w node
-step seal w (events.Near a b cost) = near seal w a b cost
-step seal w (events.Counter node value) = preset seal w node (λ l. calls.preset_counter l value)
-step seal w (events.Number node value) = preset seal w node (λ l. calls.preset_number l value)
-step seal w (events.Allow node) = allow seal w node
-step seal w (events.Rand node value) = rand seal w node value
-step seal w (events.Join node agent) = join seal w node agent
-step seal w (events.Leave node) = leave seal w node
-step seal w (events.Send from to datagram) = send seal w from to datagram
-step seal w (events.Deliver flight node cost) = deliver seal w flight node cost
-step seal w (events.Inject node cost octets) = inject seal w node cost octets
-step seal w (events.Lose flight) = lose w flight
-step seal w (events.Break node next) = breaks seal w node next
-step seal w (events.Tick seconds) = tick w seconds
-step seal w (events.Restart node) = restart seal w node
-step seal w (events.Cut node nth keeps_new) = cut seal w node nth keeps_new
-step seal w (events.Rekey index key) = rekey seal w index key
-step seal w (events.Challenge node) = challenge seal w node
-step seal w (events.Activate node index) = activate seal w node index
-step seal w (events.Kick node) = kick seal w node
-step seal w (events.Show node) = show w node
+abbrev pub step : Ciphers → World → Event → Step
+step ciphers w (events.Coordinator eui key) = coordinator w eui key
+step ciphers w (events.Meter eui psk) = meter w eui psk
+step ciphers w (events.Depot node) = depot ciphers w node
+step ciphers w (events.Near a b cost) = near ciphers w a b cost
+step ciphers w (events.Counter node value) = preset ciphers w node (λ l. calls.preset_counter l value)
+step ciphers w (events.Number node value) = preset ciphers w node (λ l. calls.preset_number l value)
+step ciphers w (events.Allow node) = allow ciphers w node
+step ciphers w (events.Rand node value) = rand ciphers w node value
+step ciphers w (events.Join node agent) = join ciphers w node agent
+step ciphers w (events.Leave node) = leave ciphers w node
+step ciphers w (events.Send from to datagram) = send ciphers w from to datagram
+step ciphers w (events.Deliver flight node cost) = deliver ciphers w flight node cost
+step ciphers w (events.Inject node cost octets) = inject ciphers w node cost octets
+step ciphers w (events.Lose flight) = lose w flight
+step ciphers w (events.Break node next) = breaks ciphers w node next
+step ciphers w (events.Tick seconds) = tick w seconds
+step ciphers w (events.Restart node) = restart ciphers w node
+step ciphers w (events.Cut node nth keeps_new) = cut ciphers w node nth keeps_new
+step ciphers w (events.Rekey index key) = rekey ciphers w index key
+step ciphers w (events.Challenge node) = challenge ciphers w node
+step ciphers w (events.Activate node index) = activate ciphers w node index
+step ciphers w (events.Kick node) = kick ciphers w node
+step ciphers w (events.Show node) = show w node

@@ -1,5 +1,5 @@
 //! Runs of small scripts, computed: each carried by a function that does nothing.
-ghost use Rattle.node_rules.specs.Rows.{ARepeatIsRefused, DatagramsOfEverySize, DiscoveryOverTwoRelays, ABrokenRouteStaysBroken, ALostFlightComesNoMore, CostsAreSpent, NothingIsSentWhenSpent, AForgedFrameIsNamed, MaliciousFramesAreRefused, RotationAndKick, BadLinesHaveTheirReasons};
+ghost use Rattle.node_rules.specs.Rows.{ARepeatIsRefused, DatagramsOfEverySize, DiscoveryOverTwoRelays, ABrokenRouteStaysBroken, ALostFlightComesNoMore, CostsAreSpent, NothingIsSentWhenSpent, AForgedFrameIsNamed, MaliciousFramesAreRefused, RotationAndKick, AMeterJoinsOverTheAir, AnOldThirdPacketIsRefused, AMeterJoinsThroughAnAgent, AKickedMeterMayNotKnow, FramesAreSpelled, AFailedWriteHalts, BadLinesHaveTheirReasons};
 
 /// A datagram over one hop is handed up, and its repeat is refused.
 #[tactic(auto, using(crate::proofs::Witness::a_repeat_is_refused))]
@@ -59,6 +59,42 @@ pub fn malicious_frames_are_refused()
 #[tactic(auto, using(crate::proofs::Witness::rotation_and_kick))]
 pub fn rotation_and_kick()
     ensures { RotationAndKick }
+{}
+
+/// A meter joins at the coordinator, over the air.
+#[tactic(auto, using(crate::proofs::Witness::a_meter_joins_over_the_air))]
+pub fn a_meter_joins_over_the_air()
+    ensures { AMeterJoinsOverTheAir }
+{}
+
+/// The third packet of an earlier session is refused.
+#[tactic(auto, using(crate::proofs::Witness::an_old_third_packet_is_refused))]
+pub fn an_old_third_packet_is_refused()
+    ensures { AnOldThirdPacketIsRefused }
+{}
+
+/// A meter joins through another one that is joined.
+#[tactic(auto, using(crate::proofs::Witness::a_meter_joins_through_an_agent))]
+pub fn a_meter_joins_through_an_agent()
+    ensures { AMeterJoinsThroughAnAgent }
+{}
+
+/// A meter that was kicked without a route knows nothing of it.
+#[tactic(auto, using(crate::proofs::Witness::a_kicked_meter_may_not_know))]
+pub fn a_kicked_meter_may_not_know()
+    ensures { AKickedMeterMayNotKnow }
+{}
+
+/// The octets of frames are those of the formats.
+#[tactic(auto, using(crate::proofs::Witness::frames_are_spelled))]
+pub fn frames_are_spelled()
+    ensures { FramesAreSpelled }
+{}
+
+/// A node whose store write failed halts and sends nothing.
+#[tactic(auto, using(crate::proofs::Witness::a_failed_write_halts))]
+pub fn a_failed_write_halts()
+    ensures { AFailedWriteHalts }
 {}
 
 /// A line that is not taken has the first reason that holds.
