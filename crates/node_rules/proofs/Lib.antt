@@ -1,1 +1,3 @@
 pub mod Witness
+pub mod Writing
+pub mod Halting

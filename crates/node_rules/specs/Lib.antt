@@ -15,4 +15,5 @@ pub mod Worlds
 pub mod Showing
 pub mod Steps
 pub mod Runs
+pub mod Laws
 pub mod Scripts

@@ -6,11 +6,16 @@
 
 mod event;
 mod heard;
+mod laws;
 mod refusal;
 mod runs;
 
 pub use event::{Answer, Event, LineOctets, StepFault};
 pub use heard::{Accepted, CoordHeard, Heard, MeterHeard, Path, SentHow, Way};
+pub use laws::{
+    halted_does_nothing, halted_has_no_address, no_cut_no_failure, ringless_has_no_address,
+    writes_fail_cleanly,
+};
 pub use refusal::{
     CoordRefusal, Dropped, FrameRefusal, Halted, JoinRefusal, LeaveRefusal, PresetFault,
     RandomFault, SendRefusal,

@@ -1,0 +1,33 @@
+//! Laws of the rules: each carried by a function that does nothing.
+ghost use Rattle.node_rules.specs.Laws.{WritesFailCleanly, NoCutNoFailure, HaltedHasNoAddress, RinglessHasNoAddress, HaltedDoesNothing};
+
+/// Where the write of a plan fails, the writes in front of it are stored and those behind it are not; the failed one is stored as the
+/// loss of power says. The node answers the word of a failed write, and nothing is sent, made or kept in memory.
+#[tactic(auto, using(crate::proofs::Writing::clean))]
+pub fn writes_fail_cleanly<M, A>()
+    ensures { WritesFailCleanly M A }
+{}
+
+/// Without a loss of power to come no write fails.
+#[tactic(auto, using(crate::proofs::Writing::no_cut))]
+pub fn no_cut_no_failure<M, A>()
+    ensures { NoCutNoFailure M A }
+{}
+
+/// A halted node has no address and no route.
+#[tactic(auto, using(crate::proofs::Halting::halted))]
+pub fn halted_has_no_address()
+    ensures { HaltedHasNoAddress }
+{}
+
+/// A node without a ring has no address and no route.
+#[tactic(auto, using(crate::proofs::Halting::ringless))]
+pub fn ringless_has_no_address()
+    ensures { RinglessHasNoAddress }
+{}
+
+/// A halted node answers each call with the word for it, and does nothing else.
+#[tactic(auto, using(crate::proofs::Halting::does_nothing))]
+pub fn halted_does_nothing<A>()
+    ensures { HaltedDoesNothing A }
+{}
