@@ -1,9 +1,24 @@
 -- What holds of the rules whatever a node holds and whatever comes.
-use Rattle.std.specs.Prelude.{◌≡◌, ◌⊎◌, ℕ, ◌-◌, List, [], ◌∷◌, ◌++◌, length, Option, Some, None, if◌then◌else◌}
+use Rattle.std.specs.Prelude.{◌≡◌, ◌⊎◌, ℕ, ◌-◌, List, [], ◌∷◌, ◌++◌, length, Option, Some, None, Result, Err, if◌then◌else◌}
 use Rattle.std.specs.FinMap.{insert}
 use Rattle.plc_base.specs.declared.keeper.Cut.{Cut}
 use Rattle.plc_base.specs.Keeper.{Records, Write}
-use Rattle.node_rules.specs.Memory.{Memory, Node, node_address, node_route}
+use Rattle.plc_base.specs.declared.address.Eui.{Eui}
+use Rattle.plc_base.specs.declared.key.Key.{Key}
+use Rattle.node_rules.specs.declared.heard.Accepted.{Accepted}
+use Rattle.node_rules.specs.declared.refusal.Dropped.TheVariants as drops
+use Rattle.node_rules.specs.declared.refusal.FrameRefusal.TheVariants as frames
+use Rattle.node_rules.specs.declared.refusal.SendRefusal.TheVariants as sends
+use Rattle.node_rules.specs.declared.refusal.JoinRefusal.TheVariants as joins
+use Rattle.node_rules.specs.declared.refusal.LeaveRefusal.TheVariants as leaves
+use Rattle.node_rules.specs.declared.refusal.CoordRefusal.TheVariants as orders
+use Rattle.node_rules.specs.Frames.{Arrived}
+use Rattle.node_rules.specs.Accepting.{accept}
+use Rattle.node_rules.specs.Hearing.{hear}
+use Rattle.node_rules.specs.Calls as calls
+use Rattle.node_rules.specs.Meters as meters
+use Rattle.node_rules.specs.Coordinators as center
+use Rattle.node_rules.specs.Memory.{Line, Memory, Node, node_address, node_route}
 use Rattle.node_rules.specs.Plans.{Plan, Outcome, carry_out}
 use Rattle.node_rules.specs.Steps.{acts, stays}
 
@@ -63,3 +78,57 @@ RinglessHasNoAddress = (x : Node) (m : Memory) → x.memory ≡ Some m → m.lin
 -- a halted node answers each call with the word of halted nodes, and nothing changes, is sent, made or checked
 abbrev pub HaltedDoesNothing : Type 0 → Type 0
 HaltedDoesNothing A = (x : Node) (halted : A) (plan : Memory → Plan Memory A) → x.memory ≡ None → acts x halted plan ≡ stays x halted
+
+-- # Refusals
+
+-- A plan that changes nothing of a memory.
+pub record ChangesNothing {M A : Type 0} (m : M) (p : Plan M A) : Type 0 where
+  pub puts : p.puts ≡ []
+  pub memory : p.memory ≡ m
+  pub frames : p.frames ≡ []
+  pub made : p.made ≡ []
+  pub opened : p.opened ≡ []
+
+-- a plan that refuses changes nothing, and every plan answers this word where a store write fails
+abbrev pub RefusesCleanly : {M H E : Type 0} → E → M → Plan M (Result H E) → Type 0
+RefusesCleanly store m p = (p.failed ≡ Err store) × ((reason : _) → p.answer ≡ Err reason → ChangesNothing m p)
+
+-- a frame that is not accepted changes nothing
+abbrev pub AFrameRefusedChangesNothing : Type 0
+AFrameRefusedChangesNothing = (l : Line) (own : Eui) (a : Option Arrived) → RefusesCleanly frames.Store l (accept l own a)
+
+-- a frame that is dropped changes nothing: of a station, of a meter, and of the coordinator
+abbrev pub ADropChangesNothing : Type 0
+ADropChangesNothing = (l : Line) (got : Accepted) (cost note now : ℕ) → RefusesCleanly drops.Store l (hear l got cost note now)
+
+abbrev pub AMetersDropChangesNothing : Type 0
+AMetersDropChangesNothing =
+    (x : meters.Identity) (m : Memory) (got : Accepted) (cost note now : ℕ) → RefusesCleanly drops.Store m (meters.hear_meter x m got cost note now)
+
+abbrev pub ACentersDropChangesNothing : Type 0
+ACentersDropChangesNothing =
+    (own : Eui) (m : Memory) (got : Accepted) (cost note now : ℕ) → RefusesCleanly drops.Store m (center.hear_center own m got cost note now)
+
+-- a send that is refused changes nothing
+abbrev pub ASendRefusedChangesNothing : Type 0
+ASendRefusedChangesNothing =
+    (l : Line) (to : ℕ) (octets : List ℕ) (note now : ℕ)
+    → RefusesCleanly sends.Store l (calls.send l to octets note now) × RefusesCleanly sends.Store l (calls.send_command l to octets now)
+
+-- joining and leaving that are refused change nothing
+abbrev pub AJoinRefusedChangesNothing : Type 0
+AJoinRefusedChangesNothing =
+    (x : meters.Identity) (m : Memory) (agent now : ℕ)
+    → RefusesCleanly joins.Halted m (meters.join x m agent now) × RefusesCleanly leaves.Store m (meters.leave m)
+
+-- an order that the coordinator refuses changes nothing
+abbrev pub AnOrderRefusedChangesNothing : Type 0
+AnOrderRefusedChangesNothing =
+    (own : Eui) (m : Memory) (eui : Eui) (key : Key) (index now : ℕ)
+    → RefusesCleanly orders.Store m (center.allow m eui key)
+    × RefusesCleanly orders.Store m (center.depot m eui key)
+    × RefusesCleanly orders.Store m (center.rekey m index key)
+    × RefusesCleanly orders.Store m (center.activate_self m index)
+    × RefusesCleanly orders.Store m (center.challenge own m eui now)
+    × RefusesCleanly orders.Store m (center.activate m eui index now)
+    × RefusesCleanly orders.Store m (center.kick m eui)

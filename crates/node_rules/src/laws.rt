@@ -1,5 +1,5 @@
 //! Laws of the rules: each carried by a function that does nothing.
-ghost use Rattle.node_rules.specs.Laws.{WritesFailCleanly, NoCutNoFailure, HaltedHasNoAddress, RinglessHasNoAddress, HaltedDoesNothing};
+ghost use Rattle.node_rules.specs.Laws.{WritesFailCleanly, NoCutNoFailure, HaltedHasNoAddress, RinglessHasNoAddress, HaltedDoesNothing, AFrameRefusedChangesNothing, ADropChangesNothing, AMetersDropChangesNothing, ACentersDropChangesNothing, ASendRefusedChangesNothing, AJoinRefusedChangesNothing, AnOrderRefusedChangesNothing};
 
 /// Where the write of a plan fails, the writes in front of it are stored and those behind it are not; the failed one is stored as the
 /// loss of power says. The node answers the word of a failed write, and nothing is sent, made or kept in memory.
@@ -30,4 +30,46 @@ pub fn ringless_has_no_address()
 #[tactic(auto, using(crate::proofs::Halting::does_nothing))]
 pub fn halted_does_nothing<A>()
     ensures { HaltedDoesNothing A }
+{}
+
+/// A frame that a node does not accept changes nothing, and nothing is sent or checked for it.
+#[tactic(auto, using(crate::proofs::Refusals::frames_refused))]
+pub fn a_frame_refused_changes_nothing()
+    ensures { AFrameRefusedChangesNothing }
+{}
+
+/// A frame that a station drops changes nothing: nothing is stored, sent, made or found right.
+#[tactic(auto, using(crate::proofs::Refusals::drops))]
+pub fn a_drop_changes_nothing()
+    ensures { ADropChangesNothing }
+{}
+
+/// A frame that a meter drops changes nothing of all that it holds in memory.
+#[tactic(auto, using(crate::proofs::Refusals::meters_drops))]
+pub fn a_meters_drop_changes_nothing()
+    ensures { AMetersDropChangesNothing }
+{}
+
+/// A frame that the coordinator drops changes nothing of all that it holds in memory.
+#[tactic(auto, using(crate::proofs::Refusals::centers_drops))]
+pub fn a_centers_drop_changes_nothing()
+    ensures { ACentersDropChangesNothing }
+{}
+
+/// A send of a datagram or a command that is refused changes nothing.
+#[tactic(auto)]
+pub fn a_send_refused_changes_nothing()
+    ensures { ASendRefusedChangesNothing }
+{}
+
+/// Joining and leaving that a meter refuses change nothing.
+#[tactic(auto)]
+pub fn a_join_refused_changes_nothing()
+    ensures { AJoinRefusedChangesNothing }
+{}
+
+/// An order that the coordinator refuses changes nothing.
+#[tactic(auto)]
+pub fn an_order_refused_changes_nothing()
+    ensures { AnOrderRefusedChangesNothing }
 {}

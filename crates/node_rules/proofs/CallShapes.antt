@@ -1,0 +1,77 @@
+-- The plans of accepting and sending are of a shape.
+use Rattle.std.proofs.Common.{◌≡◌, ℕ, Bool, true, false, List, [], ◌∷◌, Option, Some, None, Result, Ok, Err, refl}
+use Rattle.std.specs.Prelude.{if◌then◌else◌}
+use Rattle.std.specs.Option.{option_map_or}
+use Rattle.plc_base.specs.declared.address.Eui.{Eui}
+use Rattle.plc_base.specs.declared.key.Key.{Key}
+use Rattle.mac_frames.specs.declared.head.MacHead.{MacHead}
+use Rattle.mac_frames.specs.declared.head.MacHead.TheVariants as heads
+use Rattle.frame_counters.specs.declared.fault.PeerFault.{PeerFault}
+use Rattle.frame_counters.specs.PeerMarks as marks
+use Rattle.group_keys.specs.KeyRing as ring
+use Rattle.node_rules.specs.declared.heard.Accepted.{Accepted}
+use Rattle.node_rules.specs.declared.refusal.FrameRefusal.{FrameRefusal}
+use Rattle.node_rules.specs.declared.refusal.FrameRefusal.TheVariants.{Malformed, NotForMe, Store}
+use Rattle.node_rules.specs.declared.refusal.SendRefusal.TheVariants as sends
+use Rattle.node_rules.specs.Frames.{Arrived}
+use Rattle.node_rules.specs.Memory.{Line, address_of, next_hop, Load, Datagram, Command}
+use Rattle.node_rules.specs.Plans.{Plan, resting}
+use Rattle.node_rules.specs.Accepting.{Accepting, refuse, marking, admitted, admit, open_sealed, with_key, is_for_me, accept_head, accept}
+use Rattle.node_rules.specs.Doings.{Doing, Ends, alone, begun, sealed, checked, choose, refused, sets_out}
+use Rattle.node_rules.specs.Calls.{Sending, sending_ends, send_from, send, command_from, send_command}
+use Rattle.node_rules.specs.Laws.{ChangesNothing, RefusesCleanly}
+use Rattle.node_rules.proofs.Shapes.{Shape, Rests, Keeps, Ended, rests_shape, checked_shape, choose_shape, sealed_shape, sealing_shape, option_shape}
+use Rattle.node_rules.proofs.Words.{IsDone, leaves, any}
+
+-- # Accepting
+
+-- a frame is accepted and its counter kept, or nothing changes
+pub data AcceptShape (l : Line) : Accepting → Type 0 where
+  Stays : (answer : Result Accepted FrameRefusal) → AcceptShape l (resting l answer (Err Store))
+  Marks : (from counter : ℕ) (accepted : Accepted) → AcceptShape l (marking l from counter accepted)
+
+module _ (l : Line) where
+  admitted_shape : (from counter : ℕ) (accepted : Accepted) (room : Result (Unit {0}) PeerFault) → AcceptShape l (admitted l from counter accepted room)
+  admitted_shape from counter accepted (Ok u) = Marks from counter accepted
+  admitted_shape from counter accepted (Err fault) = Stays _
+
+  open_shape : (to from counter : ℕ) (key : Key) (payload : Option (List ℕ)) → AcceptShape l (open_sealed l to from counter key payload)
+  open_shape to from counter key None = Stays _
+  open_shape to from counter key (Some payload) = admitted_shape from counter _ (marks.room_for l.marks from counter)
+
+  key_shape : (a : Arrived) (to from counter : ℕ) (key : Option Key) → AcceptShape l (with_key l a to from counter key)
+  key_shape a to from counter None = Stays _
+  key_shape a to from counter (Some key) = open_shape to from counter key (a.opened key)
+
+  head_shape : (a : Arrived) (head : MacHead) → AcceptShape l (accept_head l a head)
+  head_shape a (heads.Sealed ack seq pan to from counter index) = key_shape a to from counter (ring.key_in_ring l.ring index)
+  head_shape a (heads.Up ack version seq pan to from) = Stays _
+  head_shape a (heads.Down ack version seq pan to from) = Stays _
+
+  for_me_shape : (b : Bool) (a : Arrived) → AcceptShape l (if b then accept_head l a a.head else refuse l NotForMe)
+  for_me_shape true a = head_shape a a.head
+  for_me_shape false a = Stays _
+
+  pub accept_shape : (own : Eui) (a : Option Arrived) → AcceptShape l (accept l own a)
+  accept_shape own None = Stays _
+  accept_shape own (Some a) = for_me_shape (is_for_me l own a.head) a
+
+  pub accepts_cleanly : (p : Accepting) → AcceptShape l p → RefusesCleanly Store l p
+  unfolding resting marking
+  accepts_cleanly p (Stays answer) = (refl, λ reason e. record { puts = refl; memory = refl; frames = refl; made = refl; opened = refl })
+  accepts_cleanly p (Marks from counter accepted) = (refl, λ reason e. absurd (cc))
+
+  -- # Sending
+
+  abbrev SendShape : Sending → Type 0
+  SendShape p = Shape alone sending_ends l (IsDone l) p
+
+  pub send_shape : (to : ℕ) (datagram : List ℕ) (note now : ℕ) → SendShape (send l to datagram note now)
+  send_shape to datagram note now = option_shape _ _ _ _ (λ own. send_from l own to datagram note now) (address_of l) (refused sending_ends l sends.NotJoined)
+      (λ own. checked_shape _ _ _ _ _ _ (sealed_shape _ _ _ _ _ _ (any l _)))
+      (Rests _)
+
+  pub send_command_shape : (to : ℕ) (octets : List ℕ) (now : ℕ) → SendShape (send_command l to octets now)
+  send_command_shape to octets now = option_shape _ _ _ _ (λ own. command_from l own to octets now) (address_of l) (refused sending_ends l sends.NotJoined)
+      (λ own. checked_shape _ _ _ _ _ _ (sealed_shape _ _ _ _ _ _ (any l _)))
+      (Rests _)
