@@ -1,6 +1,9 @@
 -- The plans of accepting and sending are of a shape.
-use Rattle.std.proofs.Common.{◌≡◌, ℕ, Bool, true, false, List, [], ◌∷◌, Option, Some, None, Result, Ok, Err, refl}
-use Rattle.std.specs.Prelude.{if◌then◌else◌}
+use Rattle.std.proofs.Common.{◌≡◌, ℕ, Bool, true, false, List, [], ◌∷◌, length, ◌≤◌, Option, Some, None, Result, Ok, Err, refl, arith}
+use Rattle.std.specs.Prelude.{if◌then◌else◌, nat_le, nat_lt, ◌==◌, ◌||◌}
+use Rattle.std.proofs.lemmas.Bool.{ltb-false, or_parts}
+use Rattle.octet_fields.specs.Faults.{◌then◌, ◌when◌}
+use Rattle.std.specs.Option.{option_map}
 use Rattle.std.specs.Option.{option_map_or}
 use Rattle.plc_base.specs.declared.address.Eui.{Eui}
 use Rattle.plc_base.specs.declared.key.Key.{Key}
@@ -16,12 +19,13 @@ use Rattle.node_rules.specs.declared.refusal.SendRefusal.TheVariants as sends
 use Rattle.node_rules.specs.Frames.{Arrived}
 use Rattle.node_rules.specs.Memory.{Line, address_of, next_hop, Load, Datagram, Command}
 use Rattle.node_rules.specs.Plans.{Plan, resting}
-use Rattle.node_rules.specs.Accepting.{Accepting, refuse, marking, admitted, admit, open_sealed, with_key, is_for_me, accept_head, accept}
-use Rattle.node_rules.specs.Doings.{Doing, Ends, alone, begun, sealed, checked, choose, refused, sets_out}
-use Rattle.node_rules.specs.Calls.{Sending, sending_ends, send_from, send, command_from, send_command}
+use Rattle.node_rules.specs.Accepting.{is_own, Accepting, refuse, marking, admitted, admit, open_sealed, with_key, is_for_me, accept_head, accept}
+use Rattle.node_rules.specs.Doings.{Doing, Ends, alone, begun, sealed, checked, choose, refused, sets_out, tagged, lack}
+use Rattle.node_rules.specs.Calls.{Sending, sending_ends, send_from, send, command_from, send_command, tag_taken, send_fault, how, lacking}
 use Rattle.node_rules.specs.Laws.{ChangesNothing, RefusesCleanly}
-use Rattle.node_rules.proofs.Shapes.{Shape, Rests, Keeps, Ended, rests_shape, checked_shape, choose_shape, sealed_shape, sealing_shape, option_shape}
-use Rattle.node_rules.proofs.Words.{IsDone, leaves, any}
+use Rattle.node_rules.proofs.Shapes.{checked_by, Shape, Rests, Keeps, Ended, rests_shape, checked_shape, choose_shape, sealed_shape, sealing_shape, option_shape}
+use Rattle.node_rules.proofs.Words.{IsDone, Fits, begun_fits, tagged_fits, sets_out_fits}
+use Rattle.node_rules.proofs.Sizes.{load_bound}
 
 -- # Accepting
 
@@ -66,12 +70,40 @@ module _ (l : Line) where
   abbrev SendShape : Sending → Type 0
   SendShape p = Shape alone sending_ends l (IsDone l) p
 
+  -- nothing goes out before the body, so what waits does not count
+  abbrev alone_line : Line
+  alone_line = record l { waiting = [] }
+
+  sends_done : (d : Doing Line) → Fits alone_line 4 3 d → IsDone l d
+  sends_done d f = let n = f.count in record { few = λ h. omega arith; turns = f.turns }
+
+  -- the tag is taken where the datagram is cut
+  tag_fits : (octets : List ℕ) → Fits alone_line 0 2 (tag_taken octets (begun l))
+  tag_fits octets = by_size (nat_le (length octets) 375)
+    where
+      by_size : (b : Bool) → Fits alone_line 0 2 (if b then begun l else tagged (begun l))
+      by_size true = begun_fits alone_line 2 l
+      by_size false = tagged_fits alone_line (begun l) (begun_fits alone_line 1 l)
+
+  -- a send without a fault is of at most 1,280 octets
+  short : (to : ℕ) (datagram : List ℕ) → send_fault l to datagram ≡ None → length datagram ≤ 1280
+  short to datagram e = by_size ((length datagram == 0) || nat_lt 1280 (length datagram)) refl e
+    where
+      by_size : (b : Bool) → ((length datagram == 0) || nat_lt 1280 (length datagram)) ≡ b
+          → (Some sends.BadSize when b then Some sends.ToSelf when is_own l to then option_map lacking (lack l to (length datagram))) ≡ None → length datagram ≤ 1280
+      by_size true t h = absurd (cc)
+      by_size false t h = ltb-false _ _ (or_parts _ _ t).1
+
+  from_shape : (own to : ℕ) (datagram : List ℕ) (note now : ℕ) → SendShape (send_from l own to datagram note now)
+  from_shape own to datagram note now = checked_by _ _ _ _ (send_fault l to datagram) _ (λ e.
+      sealed_shape alone sending_ends l (IsDone l) (sets_out own to note (Datagram datagram l.next_tag) now (tag_taken datagram (begun l))) (how l to)
+      (sends_done _ (sets_out_fits alone_line 4 own to note (Datagram datagram l.next_tag) now (tag_taken datagram (begun l)) (omega arith) (load_bound (Datagram datagram l.next_tag) (short to datagram e)).1 (tag_fits datagram))))
+
   pub send_shape : (to : ℕ) (datagram : List ℕ) (note now : ℕ) → SendShape (send l to datagram note now)
   send_shape to datagram note now = option_shape _ _ _ _ (λ own. send_from l own to datagram note now) (address_of l) (refused sending_ends l sends.NotJoined)
-      (λ own. checked_shape _ _ _ _ _ _ (sealed_shape _ _ _ _ _ _ (any l _)))
-      (Rests _)
+      (λ own. from_shape own to datagram note now) (Rests _)
 
   pub send_command_shape : (to : ℕ) (octets : List ℕ) (now : ℕ) → SendShape (send_command l to octets now)
   send_command_shape to octets now = option_shape _ _ _ _ (λ own. command_from l own to octets now) (address_of l) (refused sending_ends l sends.NotJoined)
-      (λ own. checked_shape _ _ _ _ _ _ (sealed_shape _ _ _ _ _ _ (any l _)))
+      (λ own. checked_shape _ _ _ _ _ _ (sealed_shape alone sending_ends l (IsDone l) (sets_out own to 0 (Command octets) now (begun l)) (how l to) (sends_done _ (sets_out_fits alone_line 4 own to 0 (Command octets) now (begun l) (omega arith) (omega arith) (begun_fits alone_line 2 l)))))
       (Rests _)

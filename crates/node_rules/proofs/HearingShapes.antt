@@ -12,6 +12,7 @@ use Rattle.loadng_messages.specs.declared.message.Message.{Message}
 use Rattle.loadng_messages.specs.declared.message.Message.TheVariants.{Rreq, Rrep, Rerr}
 use Rattle.loadng_messages.specs.Reading.{message_in}
 use Rattle.routing_set.specs.declared.rank.Rank.{Rank}
+use Rattle.routing_set.specs.RoutingSet as routing
 use Rattle.fragment_buffers.specs.Reassembly.{PlacedPiece, Reassembly, placed, begun as piece_begun, datagram_of, repeats, overlaps}
 use Rattle.fragment_buffers.specs.Taking as pieces
 use Rattle.node_rules.specs.declared.heard.Accepted.{Accepted}
@@ -26,7 +27,7 @@ use Rattle.node_rules.specs.Plans.{Plan, resting}
 use Rattle.node_rules.specs.Doings.{Doing, Ends, alone, begun, sealed, checked, choose, goes}
 use Rattle.node_rules.specs.Hearing.{Hearing, dropped, drop_it, hear_request, hear_reply_for, hear_reply, hear_error, tells_on, loses, forward_by, forward, report_by, gathered, gather, hear_message, hear_message_in, hear_command, hear_over_mesh, hear_sealed, hear_plain, is_joining, hear_unit, hear_unit_in, hear}
 use Rattle.node_rules.proofs.Shapes.{Shape, Rests, Keeps, Ended, rests_shape, checked_shape, choose_shape, sealed_shape, sealing_shape}
-use Rattle.node_rules.proofs.Words.{IsDone, leaves}
+use Rattle.node_rules.proofs.Words.{IsDone, leaves, error_done, error_on_done}
 
 abbrev pub LineShape : Line → Hearing → Type 0
 LineShape l p = Shape alone dropped l (IsDone l) p
@@ -91,8 +92,12 @@ module _ (l : Line) where
   reply_shape : (own by origin to : ℕ) (rank : Rank) (now : ℕ) → LineShape l (hear_reply l own by origin to rank now)
   reply_shape own by origin to rank now = search (words, reply_for_shape own by origin to rank now (next_hop l to)) depth 16
 
+  tells_on_done : (lost to by : ℕ) (hop : Option ℕ) → IsDone l (tells_on lost to hop (loses lost by l))
+  tells_on_done lost to by None = error_done l (λ r. routing.without_next_to r lost by)
+  tells_on_done lost to by (Some hop) = error_on_done l hop _ 0 (λ r. routing.without_next_to r lost by)
+
   error_shape : (own by lost to : ℕ) → LineShape l (hear_error l own by lost to)
-  error_shape own by lost to = search words depth 16
+  error_shape own by lost to = sealed_shape _ _ _ _ _ _ (tells_on_done lost to by _)
 
   report_shape : (mesh : Mesh) (hop : Option ℕ) → LineShape l (report_by l mesh hop)
   report_shape mesh None = search words depth 16

@@ -1,6 +1,7 @@
 pub mod Witness
 pub mod Writing
 pub mod Halting
+pub mod Sizes
 pub mod Words
 pub mod Shapes
 pub mod HearingShapes
@@ -9,3 +10,4 @@ pub mod HoldingShapes
 pub mod MeterShapes
 pub mod CenterShapes
 pub mod Refusals
+pub mod Bounds

@@ -32,11 +32,11 @@ use Rattle.node_rules.specs.Joining.{grant_of, peer_for, second_packet, identifi
 use Rattle.node_rules.specs.Holding.{with_line, in_memory, on_line, remembered, goes_down, oldest, Unread, unread, packet_fault}
 use Rattle.node_rules.specs.Meters.{Hearing, Identity, drop_it, ends, carry_up, carries_down, carry_down, reply_with, reply, take_with, take_by, take, takes, replies, challenged, declined, kicked, activated, hear_near, hear_order, hear_join, hear_join_in, heard_by, hear_meter, joining_ends, join, leaving_ends, leave}
 use Rattle.node_rules.proofs.Shapes.{Shape, Rests, Keeps, Ended, rests_shape, checked_shape, choose_shape, sealed_shape, sealing_shape, option_shape}
-use Rattle.node_rules.proofs.Words.{IsDone, leaves, any}
+use Rattle.node_rules.proofs.Words.{IsDone, memory_leaves, down_done, begun_fits}
 use Rattle.node_rules.proofs.HearingShapes.{LineShape, hear_shape}
 use Rattle.node_rules.proofs.HoldingShapes.{MemoryShape, within_shape}
 
-ruleset words = (rests_shape, checked_shape, choose_shape, sealed_shape, sealing_shape, leaves)
+ruleset words = (rests_shape, checked_shape, choose_shape, sealed_shape, sealing_shape, memory_leaves)
 
 module _ (x : Identity) (m : Memory) where
   abbrev IsRule : Hearing → Type 0
@@ -55,11 +55,11 @@ module _ (x : Identity) (m : Memory) where
   by_option f o p s t = option_shape in_memory dropped m (IsDone m.line) f o p s t
 
   carry_up_shape : (from : Eui) (join : JoinMessage) (b : JoinBody) (now : ℕ) → IsRule (carry_up m from join b now)
-  carry_up_shape from join (body.Join eap) now = chosen _ _ _ (passed _ _ (ended _ _ (any m.line _))) (Rests _)
+  carry_up_shape from join (body.Join eap) now = search words depth 16
   carry_up_shape from join _ now = Rests _
 
   carries_down_shape : (join : JoinMessage) → IsRule (carries_down m join)
-  carries_down_shape join = by_option (λ own. ends m (goes_down own join (begun m)) heard.Carried) (address_of m.line) (drop_it m BadUnit) (λ own. ended _ _ (any m.line _)) (Rests _)
+  carries_down_shape join = by_option (λ own. ends m (goes_down own join (begun m)) heard.Carried) (address_of m.line) (drop_it m BadUnit) (λ own. ended _ _ (down_done m.line own join (begun m) (begun_fits m.line 1 m))) (Rests _)
 
   carry_down_shape : (join : JoinMessage) (b : JoinBody) → IsRule (carry_down m join b)
   carry_down_shape join (body.Challenge eap) = carries_down_shape join
@@ -68,7 +68,8 @@ module _ (x : Identity) (m : Memory) where
   carry_down_shape join _ = Rests _
 
   replies_shape : (course : Course) (peer : Peer) (join : JoinMessage) (now : ℕ) → IsRule (replies m course peer join now)
-  replies_shape course peer join now = passed _ _ (ended _ _ (any m.line _))
+  replies_shape (ByAgent agent) peer join now = search words depth 16
+  replies_shape ByCommand peer join now = search words depth 16
 
   reply_shape : (course : Course) (packet : List ℕ) (now : ℕ) → IsRule (reply x m course packet now)
   reply_shape course packet now = passed _ _
@@ -76,7 +77,8 @@ module _ (x : Identity) (m : Memory) where
       (λ value. passed _ _ (replies_shape course (peer_for x.eui value packet) (message x.eui (body.Join (second_packet x.psk (identifier_of packet) (peer_for x.eui value packet)))) now)) (Rests _))
 
   takes_shape : (course : Course) (peer : Peer) (identifier : ℕ) (granted : Granted) (join : JoinMessage) (now : ℕ) → IsRule (takes m course peer identifier granted join now)
-  takes_shape course peer identifier granted join now = passed _ _ (ended _ _ (any m.line _))
+  takes_shape (ByAgent agent) peer identifier granted join now = search words depth 16
+  takes_shape ByCommand peer identifier granted join now = search words depth 16
 
   take_with_shape : (course : Course) (packet : List ℕ) (now : ℕ) (peer : Peer) (granted : Option Granted) → IsRule (take_with x m course packet now peer granted)
   take_with_shape course packet now peer None = Rests _
@@ -94,16 +96,16 @@ module _ (x : Identity) (m : Memory) where
   challenged_shape course packet now = chosen _ _ _ (reply_shape course packet now) (take_shape course packet now)
 
   declined_shape : (agent : ℕ) → IsRule (declined m agent)
-  declined_shape agent = chosen _ _ _ (Rests _) (chosen _ _ _ (ended _ _ (any m.line _)) (Rests _))
+  declined_shape agent = search words depth 16
 
   kicked_shape : IsRule (kicked m)
-  kicked_shape = ended _ _ (any m.line _)
+  kicked_shape = search words depth 16
 
   activated_shape : (index : ℕ) → IsRule (activated m index)
-  activated_shape index = chosen _ _ _ (ended _ _ (any m.line _)) (Rests _)
+  activated_shape index = search words depth 16
 
   noted_shape : IsRule (ends m (begun m) heard.Noted)
-  noted_shape = ended _ _ (any m.line _)
+  noted_shape = search words depth 16
 
   near_shape : (agent : ℕ) (b : JoinBody) (now : ℕ) → IsRule (hear_near x m agent b now)
   near_shape agent (body.Challenge eap) now = challenged_shape (ByAgent agent) eap now

@@ -21,6 +21,11 @@ module _ {M H E : Type 0} (h : Holder M) (ends : Ends E) (m : M) (D : Doing M �
   checked_shape None p s = s
   checked_shape (Some reason) p s = Rests (Err reason)
 
+  pub checked_by : (fault : Option E) (p : Plan M (Result H E)) → (fault ≡ None → Shape h ends m D p) → Shape h ends m D (checked ends m fault p)
+  unfolding checked
+  checked_by None p s = s refl
+  checked_by (Some reason) p s = Rests (Err reason)
+
   pub choose_shape : (test : Bool) (p q : Plan M (Result H E)) → Shape h ends m D p → Shape h ends m D q → Shape h ends m D (choose test p q)
   unfolding choose
   choose_shape true p q s t = s

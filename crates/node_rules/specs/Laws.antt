@@ -1,5 +1,5 @@
 -- What holds of the rules whatever a node holds and whatever comes.
-use Rattle.std.specs.Prelude.{◌≡◌, ◌⊎◌, ℕ, ◌-◌, List, [], ◌∷◌, ◌++◌, length, Option, Some, None, Result, Err, if◌then◌else◌}
+use Rattle.std.specs.Prelude.{◌≡◌, ◌⊎◌, ℕ, ◌-◌, ◌≤◌, ◌==◌, All, List, [], ◌∷◌, ◌++◌, length, Option, Some, None, Result, Err, if◌then◌else◌}
 use Rattle.std.specs.FinMap.{insert}
 use Rattle.plc_base.specs.declared.keeper.Cut.{Cut}
 use Rattle.plc_base.specs.Keeper.{Records, Write}
@@ -18,7 +18,8 @@ use Rattle.node_rules.specs.Hearing.{hear}
 use Rattle.node_rules.specs.Calls as calls
 use Rattle.node_rules.specs.Meters as meters
 use Rattle.node_rules.specs.Coordinators as center
-use Rattle.node_rules.specs.Memory.{Line, Memory, Node, node_address, node_route}
+use Rattle.node_rules.specs.Doings.{blocks_waiting}
+use Rattle.node_rules.specs.Memory.{Line, Body, Load, Datagram, Command, Memory, Node, node_address, node_route}
 use Rattle.node_rules.specs.Plans.{Plan, Outcome, carry_out}
 use Rattle.node_rules.specs.Steps.{acts, stays}
 
@@ -132,3 +133,82 @@ AnOrderRefusedChangesNothing =
     × RefusesCleanly orders.Store m (center.challenge own m eui now)
     × RefusesCleanly orders.Store m (center.activate m eui index now)
     × RefusesCleanly orders.Store m (center.kick m eui)
+
+-- # How much is sent
+
+-- a datagram that waits has at most 1,280 octets
+abbrev pub IsShort : Load → Type 0
+IsShort (Datagram octets tag) = length octets ≤ 1280
+IsShort (Command octets) = Unit {0}
+
+-- What waits is within its sizes: at most 8 bodies, of at most 80 blocks.
+pub record IsWithinSizes (l : Line) : Type 0 where
+  pub bodies : length l.waiting ≤ 8
+  pub blocks : blocks_waiting l ≤ 80
+  pub datagrams : All (λ (b : Body). IsShort b.load) l.waiting
+
+-- a plan sends at most 24 frames
+abbrev pub SendsFew : {M A : Type 0} → Plan M A → Type 0
+SendsFew p = length p.frames ≤ 24
+
+-- # The order of writes
+
+-- the turn of a slot: that of the floors, those of ranks, the ring, the book and marks, the tag's, the own number's, the counter's
+abbrev pub turn_of : ℕ → ℕ
+turn_of slot = if slot == 5 then 0 else if slot == 4 then 2 else if slot == 3 then 3 else if slot == 2 then 4 else 1
+
+-- writes to slots whose turns do not fall, from a turn on
+abbrev pub InTurnFrom : ℕ → List Write → Type 0
+InTurnFrom turn [] = Unit {0}
+InTurnFrom turn (w ∷ rest) = (turn ≤ turn_of w.slot) × InTurnFrom (turn_of w.slot) rest
+
+-- the writes of a plan are made in turn
+abbrev pub WritesInTurn : {M A : Type 0} → Plan M A → Type 0
+WritesInTurn p = InTurnFrom 0 p.puts
+
+-- # What a plan does at most
+
+-- A plan whose writes are made in turn, and which sends at most 24 frames where what waits is within its sizes.
+pub record IsBounded {M A : Type 0} (l : Line) (p : Plan M A) : Type 0 where
+  pub frames : IsWithinSizes l → SendsFew p
+  pub writes : WritesInTurn p
+
+-- what a station, a meter and the coordinator make of a frame
+abbrev pub HearingIsBounded : Type 0
+HearingIsBounded = (l : Line) (got : Accepted) (cost note now : ℕ) → IsBounded l (hear l got cost note now)
+
+abbrev pub AMetersHearingIsBounded : Type 0
+AMetersHearingIsBounded =
+    (x : meters.Identity) (m : Memory) (got : Accepted) (cost note now : ℕ) → IsBounded m.line (meters.hear_meter x m got cost note now)
+
+abbrev pub ACentersHearingIsBounded : Type 0
+ACentersHearingIsBounded =
+    (own : Eui) (m : Memory) (got : Accepted) (cost note now : ℕ) → IsBounded m.line (center.hear_center own m got cost note now)
+
+-- a send, of any datagram and of any command
+abbrev pub ASendIsBounded : Type 0
+ASendIsBounded =
+    (l : Line) (to : ℕ) (octets : List ℕ) (note now : ℕ)
+    → IsBounded l (calls.send l to octets note now) × IsBounded l (calls.send_command l to octets now)
+
+-- joining and leaving
+abbrev pub AJoinIsBounded : Type 0
+AJoinIsBounded = (x : meters.Identity) (m : Memory) (agent now : ℕ) → IsBounded m.line (meters.join x m agent now) × IsBounded m.line (meters.leave m)
+
+-- the orders of the operator
+abbrev pub AnOrderIsBounded : Type 0
+AnOrderIsBounded =
+    (own : Eui) (m : Memory) (eui : Eui) (key : Key) (index now : ℕ)
+    → IsBounded m.line (center.allow m eui key)
+    × IsBounded m.line (center.depot m eui key)
+    × IsBounded m.line (center.rekey m index key)
+    × IsBounded m.line (center.activate_self m index)
+    × IsBounded m.line (center.challenge own m eui now)
+    × IsBounded m.line (center.activate m eui index now)
+    × IsBounded m.line (center.kick m eui)
+
+-- # Marks
+
+-- a write of a sender's mark
+abbrev pub IsMark : Write → Type 0
+IsMark w = (0x0100 ≤ w.slot) × (w.slot ≤ 0x013F)

@@ -1,5 +1,5 @@
 //! Laws of the rules: each carried by a function that does nothing.
-ghost use Rattle.node_rules.specs.Laws.{WritesFailCleanly, NoCutNoFailure, HaltedHasNoAddress, RinglessHasNoAddress, HaltedDoesNothing, AFrameRefusedChangesNothing, ADropChangesNothing, AMetersDropChangesNothing, ACentersDropChangesNothing, ASendRefusedChangesNothing, AJoinRefusedChangesNothing, AnOrderRefusedChangesNothing};
+ghost use Rattle.node_rules.specs.Laws.{WritesFailCleanly, NoCutNoFailure, HaltedHasNoAddress, RinglessHasNoAddress, HaltedDoesNothing, AFrameRefusedChangesNothing, ADropChangesNothing, AMetersDropChangesNothing, ACentersDropChangesNothing, ASendRefusedChangesNothing, AJoinRefusedChangesNothing, AnOrderRefusedChangesNothing, HearingIsBounded, AMetersHearingIsBounded, ACentersHearingIsBounded, ASendIsBounded, AJoinIsBounded, AnOrderIsBounded};
 
 /// Where the write of a plan fails, the writes in front of it are stored and those behind it are not; the failed one is stored as the
 /// loss of power says. The node answers the word of a failed write, and nothing is sent, made or kept in memory.
@@ -72,4 +72,41 @@ pub fn a_join_refused_changes_nothing()
 #[tactic(auto)]
 pub fn an_order_refused_changes_nothing()
     ensures { AnOrderRefusedChangesNothing }
+{}
+
+/// What a station makes of a frame sends at most 24 frames where what waits is within its sizes, and stores in turn: floors, a rank or
+/// the ring, the tag, the own number, and the counter last.
+#[tactic(auto)]
+pub fn hearing_is_bounded()
+    ensures { HearingIsBounded }
+{}
+
+/// So does what a meter makes of one.
+#[tactic(auto)]
+pub fn a_meters_hearing_is_bounded()
+    ensures { AMetersHearingIsBounded }
+{}
+
+/// So does what the coordinator makes of one, which stores a book entry first.
+#[tactic(auto)]
+pub fn a_centers_hearing_is_bounded()
+    ensures { ACentersHearingIsBounded }
+{}
+
+/// So does a send, of any datagram and of any command.
+#[tactic(auto)]
+pub fn a_send_is_bounded()
+    ensures { ASendIsBounded }
+{}
+
+/// So do joining and leaving.
+#[tactic(auto)]
+pub fn a_join_is_bounded()
+    ensures { AJoinIsBounded }
+{}
+
+/// So does each order of the operator.
+#[tactic(auto)]
+pub fn an_order_is_bounded()
+    ensures { AnOrderIsBounded }
 {}
