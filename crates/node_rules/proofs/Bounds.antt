@@ -1,16 +1,15 @@
 -- What plans send and store at most.
-use Rattle.std.proofs.Common.{◌≡◌, ℕ, suc, ◌+◌, ◌≤◌, List, [], ◌∷◌, ◌++◌, length, Option, Some, None, Result, Ok, Err, refl, sym, ap, ◌∙◌, arith}
+use Rattle.std.proofs.Common.{◌≡◌, ℕ, suc, ◌+◌, ◌≤◌, List, [], ◌∷◌, length, Option, Some, None, Result, refl, ap, arith}
 use Rattle.std.specs.Option.{option_map_or}
 use Rattle.std.proofs.lemmas.List.{length-append}
 use Rattle.plc_base.specs.declared.key.Key.{Key}
 use Rattle.plc_base.specs.Grant.{Granted}
 use Rattle.group_keys.specs.KeyRing as ring
-use Rattle.frame_counters.specs.SendCounter as counter
-use Rattle.node_rules.specs.Memory.{Line, Memory}
+use Rattle.node_rules.specs.Memory.{Line}
 use Rattle.node_rules.specs.Plans.{Plan, resting}
-use Rattle.node_rules.specs.Doings.{Doing, Holder, Ends, Outgoing, letters, sealed_by, sealing, sealing_key}
+use Rattle.node_rules.specs.Doings.{Holder, Ends, Outgoing, letters, sealed_by, sealing_key}
 use Rattle.node_rules.specs.Laws.{IsBounded, HearingIsBounded, AMetersHearingIsBounded, ACentersHearingIsBounded, ASendIsBounded, AJoinIsBounded, AnOrderIsBounded}
-use Rattle.node_rules.proofs.Sizes.{pending, pending_bound}
+use Rattle.node_rules.proofs.Sizes.{pending_bound}
 use Rattle.node_rules.proofs.Words.{IsDone, InTurn-append, in_turn, counter_turn}
 use Rattle.node_rules.proofs.Shapes.{Shape, Rests, Keeps, Ended}
 use Rattle.node_rules.proofs.HearingShapes.{hear_shape}

@@ -1,13 +1,12 @@
 -- The plan of each rule and each order of the coordinator is of a shape.
-use Rattle.std.proofs.Common.{◌≡◌, ℕ, Bool, true, false, ◌==◌, List, [], ◌∷◌, Option, Some, None, Result, Ok, Err, refl}
+use Rattle.std.proofs.Common.{◌≡◌, ℕ, Bool, true, false, List, [], ◌∷◌, Option, Some, None, Result, refl}
 use Rattle.std.specs.Prelude.{is_some, ◌&&◌, nat_lt, ◌+◌, if◌then◌else◌}
-use Rattle.std.specs.Option.{option_map, option_map_or}
+use Rattle.std.specs.Option.{option_map_or}
 use Rattle.plc_base.specs.declared.address.Eui.{Eui}
 use Rattle.plc_base.specs.declared.key.Key.{Key}
 use Rattle.plc_base.specs.declared.key.Rand.{Rand}
 use Rattle.plc_base.specs.Grant.{Granted}
 use Rattle.group_keys.specs.declared.key_book.BookEntry.{BookEntry}
-use Rattle.group_keys.specs.KeyRing as ring
 use Rattle.group_keys.specs.KeyBook as book
 use Rattle.joining_messages.specs.declared.message.JoinMessage.{JoinMessage}
 use Rattle.joining_messages.specs.declared.message.JoinBody.{JoinBody}
@@ -22,17 +21,16 @@ use Rattle.node_rules.specs.declared.heard.Way.{Way}
 use Rattle.node_rules.specs.declared.heard.Way.TheVariants.{Air, Near, Mesh}
 use Rattle.node_rules.specs.declared.refusal.Dropped.{Dropped}
 use Rattle.node_rules.specs.declared.refusal.Dropped.TheVariants as drops
-use Rattle.node_rules.specs.declared.refusal.CoordRefusal.{CoordRefusal}
 use Rattle.node_rules.specs.declared.refusal.CoordRefusal.TheVariants as refusal
-use Rattle.node_rules.specs.Memory.{Line, Memory, CenterSession, address_of, next_hop}
-use Rattle.node_rules.specs.Plans.{Plan, within}
-use Rattle.node_rules.specs.Doings.{counters_left, Doing, Ends, begun, refused, sealed, sealing, checked, choose}
+use Rattle.node_rules.specs.Memory.{Line, Memory, CenterSession, next_hop}
+use Rattle.node_rules.specs.Plans.{Plan}
+use Rattle.node_rules.specs.Doings.{counters_left, Doing, begun, refused, sealing, checked, choose}
 use Rattle.node_rules.specs.Hearing as station
 use Rattle.node_rules.specs.Hearing.{dropped}
 use Rattle.node_rules.specs.Joining.{message, server_for, rand_p_in}
-use Rattle.node_rules.specs.Holding.{remembered, is_commanded, with_line, in_memory, oldest, Unread, unread}
-use Rattle.node_rules.specs.Coordinators.{Hearing, drop_it, ends, session_of, allowed_entry, grant_for, declines, challenges, open_session, asked, keys_for, take_second, accepts, take_fourth, take_packet, answered, hear_join, hear_join_in, heard_by, hear_center, entered, changed, Ordering, orders, allow, depot_by, depot, rekey, activate_self, challenge_by, challenge_at, challenge, allowed_address, activate_at, activate_by, activate, kick_by, kick, changes, told_off, without_session}
-use Rattle.node_rules.proofs.Shapes.{Shape, Rests, Keeps, Ended, rests_shape, checked_shape, choose_shape, sealed_shape, sealing_shape, option_shape}
+use Rattle.node_rules.specs.Holding.{remembered, is_commanded, in_memory, oldest, Unread, unread}
+use Rattle.node_rules.specs.Coordinators.{Hearing, drop_it, ends, session_of, allowed_entry, grant_for, declines, challenges, open_session, asked, keys_for, take_second, accepts, take_fourth, take_packet, answered, hear_join, hear_join_in, heard_by, hear_center, entered, changed, Ordering, orders, allow, depot_by, depot, rekey, activate_self, challenge_by, challenge_at, challenge, allowed_address, activate_by, activate, kick_by, kick, changes, told_off, without_session}
+use Rattle.node_rules.proofs.Shapes.{Rests, rests_shape, checked_shape, choose_shape, sealed_shape, sealing_shape, option_shape}
 use Rattle.node_rules.proofs.Words.{IsDone, memory_leaves, Fits, begun_fits, commanded_done, remembered_fits, entered_fits, quiet_done}
 use Rattle.node_rules.proofs.HearingShapes.{LineShape, hear_shape}
 use Rattle.node_rules.proofs.HoldingShapes.{MemoryShape, within_shape}

@@ -1,7 +1,6 @@
 -- The plan of each rule of a station is of a shape.
-use Rattle.std.proofs.Common.{◌≡◌, ℕ, ◌+◌, Bool, true, false, ◌==◌, List, [], ◌∷◌, Option, Some, None, Result, Ok, Err, refl, sym, ap, ◌∙◌, subst}
-use Rattle.std.specs.Prelude.{if◌then◌else◌, ◌&&◌, ◌||◌, nat_lt, nat_le}
-use Rattle.std.specs.List.{list_any}
+use Rattle.std.proofs.Common.{ℕ, Bool, true, false, List, [], ◌∷◌, Option, Some, None, Err}
+use Rattle.std.specs.Prelude.{if◌then◌else◌}
 use Rattle.std.specs.Option.{option_map_or}
 use Rattle.mesh_header.specs.declared.unit.Mesh.{Mesh}
 use Rattle.mesh_header.specs.declared.unit.Unit.{Unit as MeshUnit}
@@ -13,20 +12,19 @@ use Rattle.loadng_messages.specs.declared.message.Message.TheVariants.{Rreq, Rre
 use Rattle.loadng_messages.specs.Reading.{message_in}
 use Rattle.routing_set.specs.declared.rank.Rank.{Rank}
 use Rattle.routing_set.specs.RoutingSet as routing
-use Rattle.fragment_buffers.specs.Reassembly.{PlacedPiece, Reassembly, placed, begun as piece_begun, datagram_of, repeats, overlaps}
+use Rattle.fragment_buffers.specs.Reassembly.{PlacedPiece, Reassembly, placed, begun as piece_begun, datagram_of, repeats}
 use Rattle.fragment_buffers.specs.Taking as pieces
 use Rattle.node_rules.specs.declared.heard.Accepted.{Accepted}
 use Rattle.node_rules.specs.declared.heard.Path.{Path}
 use Rattle.node_rules.specs.declared.heard.Path.TheVariants as paths
 use Rattle.node_rules.specs.declared.heard.Heard.{Heard}
 use Rattle.node_rules.specs.declared.heard.Heard.TheVariants as heard
-use Rattle.node_rules.specs.declared.refusal.Dropped.{Dropped}
-use Rattle.node_rules.specs.declared.refusal.Dropped.TheVariants.{BufferFull, BadUnit, Store}
+use Rattle.node_rules.specs.declared.refusal.Dropped.TheVariants.{BufferFull, BadUnit}
 use Rattle.node_rules.specs.Memory.{Line, address_of, next_hop}
-use Rattle.node_rules.specs.Plans.{Plan, resting}
-use Rattle.node_rules.specs.Doings.{Doing, Ends, alone, begun, sealed, checked, choose, goes}
+use Rattle.node_rules.specs.Plans.{resting}
+use Rattle.node_rules.specs.Doings.{alone}
 use Rattle.node_rules.specs.Hearing.{Hearing, dropped, drop_it, hear_request, hear_reply_for, hear_reply, hear_error, tells_on, loses, forward_by, forward, report_by, gathered, gather, hear_message, hear_message_in, hear_command, hear_over_mesh, hear_sealed, hear_plain, is_joining, hear_unit, hear_unit_in, hear}
-use Rattle.node_rules.proofs.Shapes.{Shape, Rests, Keeps, Ended, rests_shape, checked_shape, choose_shape, sealed_shape, sealing_shape}
+use Rattle.node_rules.proofs.Shapes.{Shape, Rests, Keeps, rests_shape, checked_shape, choose_shape, sealed_shape}
 use Rattle.node_rules.proofs.Words.{IsDone, leaves, error_done, error_on_done}
 
 abbrev pub LineShape : Line → Hearing → Type 0

@@ -1,11 +1,10 @@
 -- What a station's plan is over all that a node holds in memory.
-use Rattle.std.proofs.Common.{◌≡◌, ℕ, List, [], ◌∷◌, Option, Some, None, Result, Ok, Err, refl}
+use Rattle.std.proofs.Common.{Result, Ok, Err}
 use Rattle.node_rules.specs.declared.heard.Heard.{Heard}
 use Rattle.node_rules.specs.declared.refusal.Dropped.{Dropped}
-use Rattle.node_rules.specs.declared.refusal.Dropped.TheVariants as drops
 use Rattle.node_rules.specs.Memory.{Line, Memory}
 use Rattle.node_rules.specs.Plans.{Plan, resting, within}
-use Rattle.node_rules.specs.Doings.{Doing, Ends, alone, sealing}
+use Rattle.node_rules.specs.Doings.{Doing, Ends}
 use Rattle.node_rules.specs.Hearing.{dropped}
 use Rattle.node_rules.specs.Holding.{with_line, in_memory}
 use Rattle.node_rules.proofs.Shapes.{Shape, Rests, Keeps, Ended}

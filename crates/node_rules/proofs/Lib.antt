@@ -11,3 +11,4 @@ pub mod MeterShapes
 pub mod CenterShapes
 pub mod Refusals
 pub mod Bounds
+pub mod StepsOn

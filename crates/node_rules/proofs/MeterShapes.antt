@@ -1,16 +1,13 @@
 -- The plan of each rule of a meter is of a shape.
-use Rattle.std.proofs.Common.{◌≡◌, ℕ, Bool, true, false, ◌==◌, List, [], ◌∷◌, Option, Some, None, Result, Ok, Err, refl}
-use Rattle.std.specs.Prelude.{is_some}
+use Rattle.std.proofs.Common.{ℕ, Bool, List, Option, Some, None, Result}
 use Rattle.std.specs.Option.{option_map, option_map_or}
 use Rattle.plc_base.specs.declared.address.Eui.{Eui}
 use Rattle.plc_base.specs.Grant.{Granted}
-use Rattle.group_keys.specs.KeyRing as ring
 use Rattle.joining_messages.specs.declared.message.JoinMessage.{JoinMessage}
 use Rattle.joining_messages.specs.declared.message.JoinBody.{JoinBody}
 use Rattle.joining_messages.specs.declared.message.JoinBody.TheVariants as body
 use Rattle.joining_messages.specs.Reading.{join_in}
-use Rattle.eap_psk.specs.Keys.{keys_of}
-use Rattle.eap_psk.specs.Faults.{first_fault, third_fault}
+use Rattle.eap_psk.specs.Faults.{first_fault}
 use Rattle.eap_psk.specs.declared.peer.Peer.{Peer}
 use Rattle.node_rules.specs.declared.heard.Accepted.{Accepted}
 use Rattle.node_rules.specs.declared.heard.Heard.{Heard}
@@ -20,18 +17,15 @@ use Rattle.node_rules.specs.declared.heard.Way.{Way}
 use Rattle.node_rules.specs.declared.heard.Way.TheVariants.{Air, Near, Mesh}
 use Rattle.node_rules.specs.declared.refusal.Dropped.{Dropped}
 use Rattle.node_rules.specs.declared.refusal.Dropped.TheVariants.{BadUnit, NoSession, NoRandom}
-use Rattle.node_rules.specs.declared.refusal.JoinRefusal.TheVariants.{AlreadyJoined}
-use Rattle.node_rules.specs.declared.refusal.LeaveRefusal.TheVariants as leaving
 use Rattle.node_rules.specs.Memory.{Line, Memory, MeterSession, Course, ByAgent, ByCommand, address_of}
-use Rattle.node_rules.specs.Plans.{Plan, within}
-use Rattle.node_rules.specs.Accepting.{same_eui}
-use Rattle.node_rules.specs.Doings.{Doing, Ends, begun, refused, sealed, sealing, checked, choose}
+use Rattle.node_rules.specs.Plans.{Plan}
+use Rattle.node_rules.specs.Doings.{Doing, begun, checked, choose}
 use Rattle.node_rules.specs.Hearing as station
 use Rattle.node_rules.specs.Hearing.{dropped}
 use Rattle.node_rules.specs.Joining.{grant_of, peer_for, second_packet, identifier_of, message}
-use Rattle.node_rules.specs.Holding.{with_line, in_memory, on_line, remembered, goes_down, oldest, Unread, unread, packet_fault}
+use Rattle.node_rules.specs.Holding.{in_memory, goes_down, oldest, Unread, unread, packet_fault}
 use Rattle.node_rules.specs.Meters.{Hearing, Identity, drop_it, ends, carry_up, carries_down, carry_down, reply_with, reply, take_with, take_by, take, takes, replies, challenged, declined, kicked, activated, hear_near, hear_order, hear_join, hear_join_in, heard_by, hear_meter, joining_ends, join, leaving_ends, leave}
-use Rattle.node_rules.proofs.Shapes.{Shape, Rests, Keeps, Ended, rests_shape, checked_shape, choose_shape, sealed_shape, sealing_shape, option_shape}
+use Rattle.node_rules.proofs.Shapes.{Rests, rests_shape, checked_shape, choose_shape, sealed_shape, sealing_shape, option_shape}
 use Rattle.node_rules.proofs.Words.{IsDone, memory_leaves, down_done, begun_fits}
 use Rattle.node_rules.proofs.HearingShapes.{LineShape, hear_shape}
 use Rattle.node_rules.proofs.HoldingShapes.{MemoryShape, within_shape}

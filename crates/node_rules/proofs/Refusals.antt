@@ -1,6 +1,4 @@
 -- What refuses changes nothing.
-use Rattle.std.proofs.Common.{◌≡◌, ℕ, List, Option}
-use Rattle.node_rules.specs.Memory.{Line, Memory}
 use Rattle.node_rules.specs.Laws.{AFrameRefusedChangesNothing, ADropChangesNothing, AMetersDropChangesNothing, ACentersDropChangesNothing, ASendRefusedChangesNothing, AJoinRefusedChangesNothing, AnOrderRefusedChangesNothing}
 use Rattle.node_rules.proofs.Shapes.{refuses_cleanly}
 use Rattle.node_rules.proofs.HearingShapes.{hear_shape}

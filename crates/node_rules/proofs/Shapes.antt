@@ -1,10 +1,10 @@
 -- What the plan of a rule is: nothing changes, something is remembered, or a doing is carried to its end.
-use Rattle.std.proofs.Common.{◌≡◌, ℕ, Bool, true, false, List, [], ◌∷◌, Option, Some, None, Result, Ok, Err, refl}
-use Rattle.std.specs.Prelude.{if◌then◌else◌, nat_lt, length}
+use Rattle.std.proofs.Common.{◌≡◌, Bool, true, false, Option, Some, None, Result, Ok, Err, refl}
+use Rattle.std.specs.Prelude.{if◌then◌else◌}
 use Rattle.std.specs.Option.{option_map_or}
 use Rattle.node_rules.specs.Laws.{RefusesCleanly}
 use Rattle.node_rules.specs.Plans.{Plan, resting}
-use Rattle.node_rules.specs.Doings.{Doing, Holder, Ends, refused, sealing, sealed, checked, choose, counters_left}
+use Rattle.node_rules.specs.Doings.{Doing, Holder, Ends, refused, sealing, sealed, checked, choose}
 
 -- D holds of the doing
 pub data Shape {M H E : Type 0} (h : Holder M) (ends : Ends E) (m : M) (D : Doing M → Type 0) : Plan M (Result H E) → Type 0 where

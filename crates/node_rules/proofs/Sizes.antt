@@ -1,9 +1,9 @@
 -- How many units the bodies that wait are.
-use Rattle.std.proofs.Common.{◌≡◌, ℕ, suc, ◌+◌, ◌*◌, ◌/◌, ◌%◌, ◌<◌, ◌≤◌, Bool, true, false, not, List, [], ◌∷◌, ◌++◌, length, Option, Some, None, refl, sym, ap, ◌∙◌, subst, arith}
-use Rattle.std.specs.Prelude.{if◌then◌else◌, nat_le, map, min, All}
+use Rattle.std.proofs.Common.{◌≡◌, ℕ, suc, ◌+◌, ◌*◌, ◌<◌, ◌≤◌, Bool, true, false, not, List, [], ◌∷◌, length, refl, ◌∙◌, arith}
+use Rattle.std.specs.Prelude.{nat_le, All}
 use Rattle.std.specs.List.{filter, sum_by, flat_map}
 use Rattle.std.specs.Int.{div_ceil}
-use Rattle.std.proofs.lemmas.Bool.{leb-true, leb-false}
+use Rattle.std.proofs.lemmas.Bool.{leb-false}
 use Rattle.std.proofs.lemmas.List.{length-map}
 use Rattle.std.proofs.lemmas.List.Concat.{length-flat_map}
 use Rattle.std.proofs.lemmas.List.FromFn.{length-map-range_with_len}
@@ -12,7 +12,7 @@ use Rattle.std.proofs.lemmas.List.Sums.{sum_by-cons}
 use Rattle.fragment_buffers.specs.Cutting.{cut, pieces_of, piece_of}
 use Rattle.mesh_header.specs.declared.unit.Unit.{Unit as MeshUnit}
 use Rattle.node_rules.specs.Memory.{Line, Body, Load, Datagram, Command, load_octets}
-use Rattle.node_rules.specs.Doings.{Outgoing, units_of, all_go, waits_for, blocks, blocks_waiting}
+use Rattle.node_rules.specs.Doings.{Outgoing, units_of, all_go, waits_for, blocks}
 use Rattle.node_rules.specs.Laws.{IsShort, IsWithinSizes}
 
 -- the units of a load

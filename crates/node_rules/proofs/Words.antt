@@ -1,9 +1,9 @@
 -- What each word of a rule adds: units and plain frames, and writes in turn.
-use Rattle.std.proofs.Common.{◌≡◌, ℕ, zero, suc, ◌+◌, ◌-◌, ◌<◌, ◌≤◌, Bool, true, false, not, ◌==◌, List, [], ◌∷◌, ◌++◌, length, Option, Some, None, Result, Ok, Err, refl, sym, ap, ◌∙◌, subst, arith, nat_eq}
-use Rattle.std.specs.Prelude.{if◌then◌else◌, nat_lt, nat_le, is_some, map, unwrap_or}
+use Rattle.std.proofs.Common.{◌≡◌, ℕ, ◌+◌, ◌<◌, ◌≤◌, Bool, true, false, List, [], ◌∷◌, ◌++◌, length, Option, Some, None, refl, arith, nat_eq}
+use Rattle.std.specs.Prelude.{if◌then◌else◌, unwrap_or}
 use Rattle.std.specs.Option.{option_map_or}
 use Rattle.std.proofs.lemmas.Bool.{ne_eqb}
-use Rattle.std.proofs.lemmas.List.{length-append, length-map}
+use Rattle.std.proofs.lemmas.List.{length-append}
 use Rattle.plc_base.specs.declared.address.Eui.{Eui}
 use Rattle.plc_base.specs.declared.tags.PairTag.{PairTag}
 use Rattle.plc_base.specs.Keeper.{Write}
@@ -19,15 +19,15 @@ use Rattle.routing_set.specs.declared.entry.RoutingEntry.{RoutingEntry}
 use Rattle.routing_set.specs.declared.rank.Rank.{Rank}
 use Rattle.routing_set.specs.RoutingSet as routing
 use Rattle.routing_set.specs.OwnNumber as own_number
-use Rattle.node_rules.specs.Frames.{Sent, Up, Down}
-use Rattle.node_rules.specs.Memory.{Line, Body, Load, Datagram, Command, Memory, Course, ByAgent, ByCommand, address_of, next_hop}
-use Rattle.node_rules.specs.Doings.{Doing, Outgoing, begun, ranked, numbered, number_of, tagged, ringed, rerouted, goes, tells, units_of, all_go, body_goes, is_awaited, waits, seeks, seeks_once, sets_out, leave}
-use Rattle.node_rules.specs.Holding.{with_line, on_line, line_part, memory_part, remembered, tagged_with, goes_up, goes_down, is_commanded}
+use Rattle.node_rules.specs.Frames.{Up, Down}
+use Rattle.node_rules.specs.Memory.{Line, Load, Command, Memory, address_of, next_hop}
+use Rattle.node_rules.specs.Doings.{Doing, begun, ranked, numbered, tagged, ringed, rerouted, goes, units_of, all_go, body_goes, is_awaited, waits, seeks, seeks_once, sets_out, leave}
+use Rattle.node_rules.specs.Holding.{with_line, on_line, line_part, remembered, tagged_with, goes_up, goes_down, is_commanded}
 use Rattle.node_rules.specs.Joining.{command_of}
 use Rattle.node_rules.specs.Calls.{idled}
 use Rattle.node_rules.specs.Coordinators.{entered}
-use Rattle.node_rules.specs.Laws.{turn_of, InTurnFrom, IsShort}
-use Rattle.node_rules.proofs.Sizes.{units_in, length-units_of, length-all_go, pending, leaving_units, load_bound}
+use Rattle.node_rules.specs.Laws.{turn_of, InTurnFrom}
+use Rattle.node_rules.proofs.Sizes.{units_in, length-units_of, length-all_go, pending, leaving_units}
 
 -- # Turns
 

@@ -1,5 +1,5 @@
 -- What holds of the rules whatever a node holds and whatever comes.
-use Rattle.std.specs.Prelude.{◌≡◌, ◌⊎◌, ℕ, ◌-◌, ◌≤◌, ◌==◌, All, List, [], ◌∷◌, ◌++◌, length, Option, Some, None, Result, Err, if◌then◌else◌}
+use Rattle.std.specs.Prelude.{◌≡◌, ◌⊎◌, ℕ, ◌-◌, ◌≤◌, ◌==◌, All, List, [], ◌∷◌, ◌++◌, length, Option, Some, None, Result, Ok, Err, true, ◌+◌, if◌then◌else◌}
 use Rattle.std.specs.FinMap.{insert}
 use Rattle.plc_base.specs.declared.keeper.Cut.{Cut}
 use Rattle.plc_base.specs.Keeper.{Records, Write}
@@ -12,7 +12,10 @@ use Rattle.node_rules.specs.declared.refusal.SendRefusal.TheVariants as sends
 use Rattle.node_rules.specs.declared.refusal.JoinRefusal.TheVariants as joins
 use Rattle.node_rules.specs.declared.refusal.LeaveRefusal.TheVariants as leaves
 use Rattle.node_rules.specs.declared.refusal.CoordRefusal.TheVariants as orders
-use Rattle.node_rules.specs.Frames.{Arrived}
+use Rattle.node_rules.specs.declared.event.Event.{Event}
+use Rattle.plc_base.specs.declared.tags.PairTag.{PairTag}
+use Rattle.node_rules.specs.Worlds.{World, Flight, Deeds}
+use Rattle.node_rules.specs.Frames.{Arrived, Seal}
 use Rattle.node_rules.specs.Accepting.{accept}
 use Rattle.node_rules.specs.Hearing.{hear}
 use Rattle.node_rules.specs.Calls as calls
@@ -21,7 +24,7 @@ use Rattle.node_rules.specs.Coordinators as center
 use Rattle.node_rules.specs.Doings.{blocks_waiting}
 use Rattle.node_rules.specs.Memory.{Line, Body, Load, Datagram, Command, Memory, Node, node_address, node_route}
 use Rattle.node_rules.specs.Plans.{Plan, Outcome, carry_out}
-use Rattle.node_rules.specs.Steps.{acts, stays}
+use Rattle.node_rules.specs.Steps.{acts, stays, step}
 
 -- # Store writes that fail
 
@@ -207,8 +210,54 @@ AnOrderIsBounded =
     × IsBounded m.line (center.activate m eui index now)
     × IsBounded m.line (center.kick m eui)
 
--- # Marks
+-- # Accepting
 
 -- a write of a sender's mark
 abbrev pub IsMark : Write → Type 0
 IsMark w = (0x0100 ≤ w.slot) × (w.slot ≤ 0x013F)
+
+-- no write, or one of a mark
+abbrev pub MarksAtMost : List Write → Type 0
+MarksAtMost [] = Unit {0}
+MarksAtMost (w ∷ []) = IsMark w
+MarksAtMost (w ∷ v ∷ rest) = ⊥
+
+-- A plan that stores at most a mark, and sends, makes and checks nothing.
+pub record OnlyMarks {M A : Type 0} (p : Plan M A) : Type 0 where
+  pub puts : MarksAtMost p.puts
+  pub frames : p.frames ≡ []
+  pub made : p.made ≡ []
+  pub opened : p.opened ≡ []
+
+-- accepting a frame stores at most the mark of its sender, at a table of at most 64 senders
+abbrev pub AcceptingOnlyMarks : Type 0
+AcceptingOnlyMarks = (l : Line) (own : Eui) (a : Option Arrived) → length l.marks ≤ 64 → OnlyMarks (accept l own a)
+
+-- # Steps of the world
+
+-- A flight as it was, lost or not; one that was lost stays so.
+pub record SameFlight (f g : Flight) : Type 0 where
+  pub from : g.from ≡ f.from
+  pub octets : g.octets ≡ f.octets
+  pub key : g.key ≡ f.key
+  pub note : g.note ≡ f.note
+  pub lost : f.lost ≡ true → g.lost ≡ true
+
+-- the flights of the one list stand in front of the other, but for what was lost since
+abbrev pub KeepsFlights : List Flight → List Flight → Type 0
+KeepsFlights [] later = Unit {0}
+KeepsFlights (f ∷ flights) [] = ⊥
+KeepsFlights (f ∷ flights) (g ∷ later) = SameFlight f g × KeepsFlights flights later
+
+-- A world one event later: nothing that was sent or made is taken back, no node goes, and the clock does not fall.
+pub record GoesOn (w v : World) : Type 0 where
+  pub events : v.events ≡ w.events + 1
+  pub clock : w.clock ≤ v.clock
+  pub running : w.running ≡ true → v.running ≡ true
+  pub nodes : length w.nodes ≤ length v.nodes
+  pub flights : KeepsFlights w.flights v.flights
+  pub made : (more : List PairTag) × (v.made ≡ w.made ++ more)
+
+-- every event that is taken leads one event on
+abbrev pub StepsGoOn : Type 0
+StepsGoOn = (seal : Seal) (w v : World) (event : Event) (d : Deeds) → step seal w event ≡ Ok (v, d) → GoesOn w v
