@@ -1,5 +1,6 @@
 -- What holds of the rules whatever a node holds and whatever comes.
-use Rattle.std.specs.Prelude.{◌≡◌, ◌⊎◌, ℕ, ◌-◌, ◌≤◌, ◌==◌, All, List, [], ◌∷◌, ◌++◌, length, Option, Some, None, Result, Ok, Err, true, ◌+◌, if◌then◌else◌}
+use Rattle.std.specs.Option.{option_map}
+use Rattle.std.specs.Prelude.{IfSome, ◌<◌, ◌≡◌, ◌⊎◌, ℕ, ◌-◌, ◌≤◌, ◌==◌, All, List, [], ◌∷◌, ◌++◌, length, Option, Some, None, Result, Ok, Err, true, ◌+◌, if◌then◌else◌}
 use Rattle.std.specs.FinMap.{insert}
 use Rattle.plc_base.specs.declared.keeper.Cut.{Cut}
 use Rattle.plc_base.specs.Keeper.{Records, Write}
@@ -33,8 +34,14 @@ abbrev pub all_put : List Write → Records → Records
 all_put [] records = records
 all_put (w ∷ rest) records = all_put rest (insert records w.slot w.octets)
 
--- A plan that was carried out to its end.
-pub record IsWhole {M A : Type 0} (records : Records) (p : Plan M A) (o : Outcome M A) : Type 0 where
+-- the loss of power that is still to come after so many writes
+abbrev pub nearer_by : ℕ → Cut → Cut
+nearer_by count cut = record cut { nth = cut.nth - count }
+
+-- A plan that was carried out to its end: the loss of power was to come behind its writes.
+pub record IsWhole {M A : Type 0} (records : Records) (cut : Option Cut) (p : Plan M A) (o : Outcome M A) : Type 0 where
+  pub spared : IfSome cut (λ c. (p.puts ≡ []) ⊎ (length p.puts < c.nth))
+  pub cut_left : o.cut ≡ option_map (nearer_by (length p.puts)) cut
   pub answer : o.answer ≡ p.answer
   pub left : o.records ≡ all_put p.puts records
   pub memory : o.memory ≡ Some p.memory
@@ -63,11 +70,11 @@ pub record IsCutOff {M A : Type 0} (records : Records) (cut : Option Cut) (p : P
 abbrev pub WritesFailCleanly : Type 0 → Type 0 → Type 0
 WritesFailCleanly M A =
     (records : Records) (cut : Option Cut) (p : Plan M A)
-    → IsWhole records p (carry_out records cut p) ⊎ IsCutOff records cut p (carry_out records cut p)
+    → IsWhole records cut p (carry_out records cut p) ⊎ IsCutOff records cut p (carry_out records cut p)
 
--- where no loss of power is to come, every plan is carried out whole, and none is to come after it
+-- where no loss of power is to come, every plan is carried out whole, and none is to come after it either
 abbrev pub NoCutNoFailure : Type 0 → Type 0 → Type 0
-NoCutNoFailure M A = (records : Records) (p : Plan M A) → IsWhole records p (carry_out records None p) × ((carry_out records None p).cut ≡ None)
+NoCutNoFailure M A = (records : Records) (p : Plan M A) → IsWhole records None p (carry_out records None p)
 
 -- # Halted nodes
 

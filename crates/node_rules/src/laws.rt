@@ -2,13 +2,14 @@
 ghost use Rattle.node_rules.specs.Laws.{WritesFailCleanly, NoCutNoFailure, HaltedHasNoAddress, RinglessHasNoAddress, HaltedDoesNothing, AFrameRefusedChangesNothing, ADropChangesNothing, AMetersDropChangesNothing, ACentersDropChangesNothing, ASendRefusedChangesNothing, AJoinRefusedChangesNothing, AnOrderRefusedChangesNothing, HearingIsBounded, AMetersHearingIsBounded, ACentersHearingIsBounded, ASendIsBounded, AJoinIsBounded, AnOrderIsBounded, AcceptingOnlyMarks, StepsGoOn};
 
 /// Where the write of a plan fails, the writes in front of it are stored and those behind it are not; the failed one is stored as the
-/// loss of power says. The node answers the word of a failed write, and nothing is sent, made or kept in memory.
+/// loss of power says. The node answers the word of a failed write, and nothing is sent, made or kept in memory. A plan whose writes are
+/// all in front of the loss is carried out whole.
 #[tactic(auto, using(crate::proofs::Writing::clean))]
 pub fn writes_fail_cleanly<M, A>()
     ensures { WritesFailCleanly M A }
 {}
 
-/// Without a loss of power to come no write fails.
+/// Without a loss of power to come no write fails, and every plan is carried out whole.
 #[tactic(auto, using(crate::proofs::Writing::no_cut))]
 pub fn no_cut_no_failure<M, A>()
     ensures { NoCutNoFailure M A }
@@ -74,38 +75,39 @@ pub fn an_order_refused_changes_nothing()
     ensures { AnOrderRefusedChangesNothing }
 {}
 
-/// What a station makes of a frame sends at most 24 frames where what waits is within its sizes, and stores in turn: floors, a rank or
-/// the ring, the tag, the own number, and the counter last.
+/// A station that hears a frame sends at most 24 frames, where at most 8 bodies of 80 blocks wait, and stores in this order: the
+/// floors, a rank, the own number, and last the counter.
 #[tactic(auto)]
 pub fn hearing_is_bounded()
     ensures { HearingIsBounded }
 {}
 
-/// So does what a meter makes of one.
+/// A meter that hears a frame sends at most 24 frames, and stores in order: floors, a rank or the ring, the own number, the counter.
 #[tactic(auto)]
 pub fn a_meters_hearing_is_bounded()
     ensures { AMetersHearingIsBounded }
 {}
 
-/// So does what the coordinator makes of one, which stores a book entry first.
+/// The coordinator that hears a frame sends at most 24 frames, and stores in order: floors, a rank or a book entry, the own number,
+/// the counter.
 #[tactic(auto)]
 pub fn a_centers_hearing_is_bounded()
     ensures { ACentersHearingIsBounded }
 {}
 
-/// So does a send, of any datagram and of any command.
+/// A send of a datagram or of a command sends at most 24 frames, and stores in order: the tag, the own number, the counter.
 #[tactic(auto)]
 pub fn a_send_is_bounded()
     ensures { ASendIsBounded }
 {}
 
-/// So do joining and leaving.
+/// A meter that joins or leaves sends at most 24 frames, and stores in order: the ring, the counter.
 #[tactic(auto)]
 pub fn a_join_is_bounded()
     ensures { AJoinIsBounded }
 {}
 
-/// So does each order of the operator.
+/// An order of the operator sends at most 24 frames, and stores in order: the ring or book entries, the own number, the counter.
 #[tactic(auto)]
 pub fn an_order_is_bounded()
     ensures { AnOrderIsBounded }
