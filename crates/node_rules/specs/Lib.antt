@@ -16,5 +16,6 @@ pub mod Worlds
 pub mod Showing
 pub mod Steps
 pub mod Runs
+pub mod Laws
 pub mod Scripts
 pub mod Rows
