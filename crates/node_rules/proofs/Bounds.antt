@@ -15,6 +15,7 @@ use Rattle.node_rules.proofs.Shapes.{Shape, Rests, Keeps, Ended}
 use Rattle.node_rules.proofs.HearingShapes.{hear_shape}
 use Rattle.node_rules.proofs.CallShapes.{send_shape, send_command_shape}
 use Rattle.node_rules.proofs.MeterShapes.{meter_shape, joins_shape, leaves_shape}
+use Rattle.node_rules.specs.Ciphers.{network}
 use Rattle.node_rules.proofs.CenterShapes.{center_shape, allow_shape, depot_shape, rekey_shape, activate_self_shape, challenge_shape, activate_shape, kick_shape}
 
 -- # Letters
@@ -64,11 +65,11 @@ joins_bounded x m agent now = (bounded _ _ m m.line _ (joins_shape x m agent now
 
 pub orders_bounded : AnOrderIsBounded
 orders_bounded own m eui key index now = (
-  bounded _ _ m m.line _ (allow_shape own m eui key),
-  bounded _ _ m m.line _ (depot_shape own m eui key),
-  bounded _ _ m m.line _ (rekey_shape own m index key),
-  bounded _ _ m m.line _ (activate_self_shape own m index),
-  bounded _ _ m m.line _ (challenge_shape own m eui now),
-  bounded _ _ m m.line _ (activate_shape own m eui index now),
-  bounded _ _ m m.line _ (kick_shape own m eui),
+  bounded _ _ m m.line _ (allow_shape (record { eui = own; ciphers = network }) m eui key),
+  bounded _ _ m m.line _ (depot_shape (record { eui = own; ciphers = network }) m eui key),
+  bounded _ _ m m.line _ (rekey_shape (record { eui = own; ciphers = network }) m index key),
+  bounded _ _ m m.line _ (activate_self_shape (record { eui = own; ciphers = network }) m index),
+  bounded _ _ m m.line _ (challenge_shape (record { eui = own; ciphers = network }) m eui now),
+  bounded _ _ m m.line _ (activate_shape (record { eui = own; ciphers = network }) m eui index now),
+  bounded _ _ m m.line _ (kick_shape (record { eui = own; ciphers = network }) m eui),
 )

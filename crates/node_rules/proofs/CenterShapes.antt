@@ -29,7 +29,7 @@ use Rattle.node_rules.specs.Hearing as station
 use Rattle.node_rules.specs.Hearing.{dropped}
 use Rattle.node_rules.specs.Joining.{message, server_for, rand_p_in}
 use Rattle.node_rules.specs.Holding.{remembered, is_commanded, in_memory, oldest, Unread, unread}
-use Rattle.node_rules.specs.Coordinators.{Hearing, drop_it, ends, session_of, allowed_entry, grant_for, declines, challenges, open_session, asked, keys_for, take_second, accepts, take_fourth, take_packet, answered, hear_join, hear_join_in, heard_by, hear_center, entered, changed, Ordering, orders, allow, depot_by, depot, rekey, activate_self, challenge_by, challenge_at, challenge, allowed_address, activate_by, activate, kick_by, kick, changes, told_off, without_session}
+use Rattle.node_rules.specs.Coordinators.{Center, Hearing, drop_it, ends, session_of, allowed_entry, grant_for, declines, challenges, open_session, asked, keys_for, take_second, accepts, take_fourth, take_packet, answered, hear_join, hear_join_in, heard_by, hear_center, entered, changed, Ordering, orders, allow, depot_by, depot, rekey, activate_self, challenge_by, challenge_at, challenge, allowed_address, activate_by, activate, kick_by, kick, changes, told_off, without_session}
 use Rattle.node_rules.proofs.Shapes.{Rests, rests_shape, checked_shape, choose_shape, sealed_shape, sealing_shape, option_shape}
 use Rattle.node_rules.proofs.Words.{IsDone, memory_leaves, Fits, begun_fits, commanded_done, remembered_fits, entered_fits, quiet_done}
 use Rattle.node_rules.proofs.HearingShapes.{LineShape, hear_shape}
@@ -37,7 +37,7 @@ use Rattle.node_rules.proofs.HoldingShapes.{MemoryShape, within_shape}
 
 ruleset words = (rests_shape, checked_shape, choose_shape, sealed_shape, sealing_shape, memory_leaves)
 
-module _ (own : Eui) (m : Memory) where
+module _ (own : Center) (m : Memory) where
   abbrev IsRule : Hearing → Type 0
   IsRule p = MemoryShape dropped m p
 
@@ -67,25 +67,25 @@ module _ (own : Eui) (m : Memory) where
 
   open_shape : (way : Way) (eui : Eui) (now : ℕ) → IsRule (open_session own m way eui now)
   open_shape way eui now = passed _ _
-      (by_option (λ value. challenges m way (server_for eui own value) now) (oldest m) (drop_it m drops.NoRandom) (λ value. challenges_shape way (server_for eui own value) now) (Rests _))
+      (by_option (λ value. challenges m way (server_for eui own.eui value) now) (oldest m) (drop_it m drops.NoRandom) (λ value. challenges_shape way (server_for eui own.eui value) now) (Rests _))
 
   asked_shape : (way : Way) (eui : Eui) (now : ℕ) → IsRule (asked own m way eui now)
   asked_shape way eui now = chosen _ _ _ (open_shape way eui now) (declines_shape way _ now)
 
-  keys_shape : (s : CenterSession) (e : BookEntry) (rand_p : Rand) (granted : Granted) (now : ℕ) → IsRule (keys_for m s e rand_p granted now)
+  keys_shape : (s : CenterSession) (e : BookEntry) (rand_p : Rand) (granted : Granted) (now : ℕ) → IsRule (keys_for own m s e rand_p granted now)
   keys_shape s e rand_p granted now = by_way s.way refl
     where
-      by_way : (way : Way) → s.way ≡ way → IsRule (keys_for m s e rand_p granted now)
+      by_way : (way : Way) → s.way ≡ way → IsRule (keys_for own m s e rand_p granted now)
       by_way (Air eui) is = rw is (search words depth 16)
       by_way (Near agent) is = rw is (search words depth 16)
       by_way (Mesh origin) is = rw is (search words depth 16)
 
-  second_shape : (s : CenterSession) (e : BookEntry) (packet : List ℕ) (now : ℕ) → IsRule (take_second m s e packet now)
+  second_shape : (s : CenterSession) (e : BookEntry) (packet : List ℕ) (now : ℕ) → IsRule (take_second own m s e packet now)
   second_shape s e packet now = passed _ _
-      (by_option (λ granted. keys_for m s e (rand_p_in packet) granted now) (grant_for m s.server.eui) (drop_it m drops.NotAllowed)
+      (by_option (λ granted. keys_for own m s e (rand_p_in packet) granted now) (grant_for m s.server.eui) (drop_it m drops.NotAllowed)
       (λ granted. keys_shape s e _ granted now) (Rests _))
 
-  fourth_shape : (s : CenterSession) (e : BookEntry) (packet : List ℕ) (rand_p : Rand) (now : ℕ) → IsRule (take_fourth m s e packet rand_p now)
+  fourth_shape : (s : CenterSession) (e : BookEntry) (packet : List ℕ) (rand_p : Rand) (now : ℕ) → IsRule (take_fourth own m s e packet rand_p now)
   fourth_shape s e packet rand_p now = passed _ _ (by_way s.way refl)
     where
       by_way : (way : Way) → s.way ≡ way → IsRule (accepts m s rand_p now)
@@ -93,12 +93,12 @@ module _ (own : Eui) (m : Memory) where
       by_way (Near agent) is = rw is (search words depth 16)
       by_way (Mesh origin) is = rw is (search words depth 16)
 
-  packet_shape : (e : BookEntry) (packet : List ℕ) (now : ℕ) (s : CenterSession) → IsRule (take_packet m e packet now s)
-  packet_shape e packet now s = by_option (λ rand_p. take_fourth m s e packet rand_p now) s.server.rand_p (take_second m s e packet now) (λ rand_p. fourth_shape s e packet rand_p now) (second_shape s e packet now)
+  packet_shape : (e : BookEntry) (packet : List ℕ) (now : ℕ) (s : CenterSession) → IsRule (take_packet own m e packet now s)
+  packet_shape e packet now s = by_option (λ rand_p. take_fourth own m s e packet rand_p now) s.server.rand_p (take_second own m s e packet now) (λ rand_p. fourth_shape s e packet rand_p now) (second_shape s e packet now)
 
-  answered_shape : (eui : Eui) (packet : List ℕ) (now : ℕ) → IsRule (answered m eui packet now)
-  answered_shape eui packet now = by_option (λ e. option_map_or (take_packet m e packet now) (session_of m eui) (drop_it m drops.NoSession)) (allowed_entry m eui) (drop_it m drops.NotAllowed)
-      (λ e. by_option (take_packet m e packet now) (session_of m eui) (drop_it m drops.NoSession) (λ s. packet_shape e packet now s) (Rests _)) (Rests _)
+  answered_shape : (eui : Eui) (packet : List ℕ) (now : ℕ) → IsRule (answered own m eui packet now)
+  answered_shape eui packet now = by_option (λ e. option_map_or (take_packet own m e packet now) (session_of m eui) (drop_it m drops.NoSession)) (allowed_entry m eui) (drop_it m drops.NotAllowed)
+      (λ e. by_option (take_packet own m e packet now) (session_of m eui) (drop_it m drops.NoSession) (λ s. packet_shape e packet now s) (Rests _)) (Rests _)
 
   join_shape : (way : Way) (eui : Eui) (b : JoinBody) (now : ℕ) → IsRule (hear_join own m way eui b now)
   join_shape way eui (body.Join []) now = asked_shape way eui now
@@ -159,15 +159,15 @@ module _ (own : Eui) (m : Memory) where
   pub activate_self_shape : (index : ℕ) → MemoryShape orders m (activate_self m index)
   activate_self_shape index = search words depth 16
 
-  challenge_by_shape : (to now : ℕ) (server : Server) → MemoryShape orders m (challenge_by own m to now server)
+  challenge_by_shape : (to now : ℕ) (server : Server) → MemoryShape orders m (challenge_by own.eui m to now server)
   challenge_by_shape to now server = search words depth 16
 
-  challenge_at_shape : (eui : Eui) (now to : ℕ) → MemoryShape orders m (challenge_at own m eui now to)
+  challenge_at_shape : (eui : Eui) (now to : ℕ) → MemoryShape orders m (challenge_at own.eui m eui now to)
   challenge_at_shape eui now to = checked_shape _ _ _ _ _ _
-      (by_part (λ value. challenge_by own m to now (server_for eui own value)) (oldest m) (refused orders m refusal.NoRandom) (λ value. challenge_by_shape to now (server_for eui own value)) (Rests _))
+      (by_part (λ value. challenge_by own.eui m to now (server_for eui own.eui value)) (oldest m) (refused orders m refusal.NoRandom) (λ value. challenge_by_shape to now (server_for eui own.eui value)) (Rests _))
 
-  pub challenge_shape : (eui : Eui) (now : ℕ) → MemoryShape orders m (challenge own m eui now)
-  challenge_shape eui now = by_part (challenge_at own m eui now) (allowed_address m eui) (refused orders m refusal.NotAllowed) (λ to. challenge_at_shape eui now to) (Rests _)
+  pub challenge_shape : (eui : Eui) (now : ℕ) → MemoryShape orders m (challenge own.eui m eui now)
+  challenge_shape eui now = by_part (challenge_at own.eui m eui now) (allowed_address m eui) (refused orders m refusal.NotAllowed) (λ to. challenge_at_shape eui now to) (Rests _)
 
   activate_by_shape : (e : BookEntry) (index now to : ℕ) → MemoryShape orders m (activate_by m e index now to)
   activate_by_shape e index now to = search words depth 16

@@ -22,7 +22,7 @@ use Rattle.node_rules.specs.Plans.{Plan}
 use Rattle.node_rules.specs.Doings.{Doing, begun, checked, choose}
 use Rattle.node_rules.specs.Hearing as station
 use Rattle.node_rules.specs.Hearing.{dropped}
-use Rattle.node_rules.specs.Joining.{grant_of, peer_for, second_packet, identifier_of, message}
+use Rattle.node_rules.specs.Joining.{peer_for, identifier_of, message}
 use Rattle.node_rules.specs.Holding.{in_memory, goes_down, oldest, Unread, unread, packet_fault}
 use Rattle.node_rules.specs.Meters.{Hearing, Identity, drop_it, ends, carry_up, carries_down, carry_down, reply_with, reply, take_with, take_by, take, takes, replies, challenged, declined, kicked, activated, hear_near, hear_order, hear_join, hear_join_in, heard_by, hear_meter, joining_ends, join, leaving_ends, leave}
 use Rattle.node_rules.proofs.Shapes.{Rests, rests_shape, checked_shape, choose_shape, sealed_shape, sealing_shape, option_shape}
@@ -68,7 +68,7 @@ module _ (x : Identity) (m : Memory) where
   reply_shape : (course : Course) (packet : List ℕ) (now : ℕ) → IsRule (reply x m course packet now)
   reply_shape course packet now = passed _ _
       (by_option (λ value. checked dropped m (option_map packet_fault (first_fault packet)) (reply_with x m course packet now value)) (oldest m) (drop_it m NoRandom)
-      (λ value. passed _ _ (replies_shape course (peer_for x.eui value packet) (message x.eui (body.Join (second_packet x.psk (identifier_of packet) (peer_for x.eui value packet)))) now)) (Rests _))
+      (λ value. passed _ _ (replies_shape course (peer_for x.eui value packet) (message x.eui (body.Join (x.ciphers.second x.psk (identifier_of packet) (peer_for x.eui value packet)))) now)) (Rests _))
 
   takes_shape : (course : Course) (peer : Peer) (identifier : ℕ) (granted : Granted) (join : JoinMessage) (now : ℕ) → IsRule (takes m course peer identifier granted join now)
   takes_shape (ByAgent agent) peer identifier granted join now = search words depth 16
@@ -80,7 +80,7 @@ module _ (x : Identity) (m : Memory) where
 
   take_by_shape : (course : Course) (packet : List ℕ) (now : ℕ) (peer : Option Peer) → IsRule (take_by x m course packet now peer)
   take_by_shape course packet now None = Rests _
-  take_by_shape course packet now (Some peer) = passed _ _ (take_with_shape course packet now peer (grant_of x.psk peer packet))
+  take_by_shape course packet now (Some peer) = passed _ _ (take_with_shape course packet now peer (x.ciphers.granted x.psk peer packet))
 
   take_shape : (course : Course) (packet : List ℕ) (now : ℕ) → IsRule (take x m course packet now)
   take_shape course packet now = passed _ _

@@ -4,6 +4,7 @@ use Rattle.node_rules.proofs.Shapes.{refuses_cleanly}
 use Rattle.node_rules.proofs.HearingShapes.{hear_shape}
 use Rattle.node_rules.proofs.CallShapes.{accept_shape, accepts_cleanly, send_shape, send_command_shape}
 use Rattle.node_rules.proofs.MeterShapes.{meter_shape, joins_shape, leaves_shape}
+use Rattle.node_rules.specs.Ciphers.{network}
 use Rattle.node_rules.proofs.CenterShapes.{center_shape, allow_shape, depot_shape, rekey_shape, activate_self_shape, challenge_shape, activate_shape, kick_shape}
 
 pub frames_refused : AFrameRefusedChangesNothing
@@ -26,11 +27,11 @@ joins_refused x m agent now = (refuses_cleanly _ _ m _ _ (joins_shape x m agent 
 
 pub orders_refused : AnOrderRefusedChangesNothing
 orders_refused own m eui key index now = (
-  refuses_cleanly _ _ m _ _ (allow_shape own m eui key),
-  refuses_cleanly _ _ m _ _ (depot_shape own m eui key),
-  refuses_cleanly _ _ m _ _ (rekey_shape own m index key),
-  refuses_cleanly _ _ m _ _ (activate_self_shape own m index),
-  refuses_cleanly _ _ m _ _ (challenge_shape own m eui now),
-  refuses_cleanly _ _ m _ _ (activate_shape own m eui index now),
-  refuses_cleanly _ _ m _ _ (kick_shape own m eui),
+  refuses_cleanly _ _ m _ _ (allow_shape (record { eui = own; ciphers = network }) m eui key),
+  refuses_cleanly _ _ m _ _ (depot_shape (record { eui = own; ciphers = network }) m eui key),
+  refuses_cleanly _ _ m _ _ (rekey_shape (record { eui = own; ciphers = network }) m index key),
+  refuses_cleanly _ _ m _ _ (activate_self_shape (record { eui = own; ciphers = network }) m index),
+  refuses_cleanly _ _ m _ _ (challenge_shape (record { eui = own; ciphers = network }) m eui now),
+  refuses_cleanly _ _ m _ _ (activate_shape (record { eui = own; ciphers = network }) m eui index now),
+  refuses_cleanly _ _ m _ _ (kick_shape (record { eui = own; ciphers = network }) m eui),
 )

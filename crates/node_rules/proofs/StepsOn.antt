@@ -17,7 +17,7 @@ use Rattle.node_rules.specs.declared.heard.Accepted.{Accepted}
 use Rattle.node_rules.specs.declared.refusal.CoordRefusal.{CoordRefusal}
 use Rattle.node_rules.specs.declared.refusal.CoordRefusal.TheVariants as orders
 use Rattle.node_rules.specs.declared.refusal.FrameRefusal.{FrameRefusal}
-use Rattle.node_rules.specs.Frames.{Seal}
+use Rattle.node_rules.specs.Ciphers.{Ciphers}
 use Rattle.node_rules.specs.Memory.{Line, Node, node_address}
 use Rattle.node_rules.specs.Calls as calls
 use Rattle.node_rules.specs.Coordinators as center
@@ -54,9 +54,9 @@ set_up_goes w = record { events = refl; clock = omega arith; running = λ e. e; 
 ran_goes : (w : World) → GoesOn w (ran w)
 ran_goes w = record { events = refl; clock = omega arith; running = λ e. refl; nodes = omega arith; flights = same_flights w.flights; made = ([], sym (append-nil w.made)) }
 
-told_goes : {A : Type 0} (seal : Seal) (w v : World) (number : ℕ) (d : Did A) → GoesOn w v → GoesOn w (told seal v number d)
+told_goes : {A : Type 0} (ciphers : Ciphers) (w v : World) (number : ℕ) (d : Did A) → GoesOn w v → GoesOn w (told ciphers v number d)
 unfolding told
-told_goes seal w v number d g = record {
+told_goes ciphers w v number d g = record {
   events = g.events;
   clock = g.clock;
   running = g.running;
@@ -75,7 +75,7 @@ data StepShape (w : World) : Step → Type 0 where
   Fails : (fault : StepFault) → StepShape w (Err fault)
   Taken : (r : World × Deeds) → GoesOn w r.0 → StepShape w (Ok r)
 
-module _ (seal : Seal) (w : World) where
+module _ (ciphers : Ciphers) (w : World) where
   branch : (b : Bool) (p q : Step) → StepShape w p → StepShape w q → StepShape w (if b then p else q)
   branch true p q s t = s
   branch false p q s t = t
@@ -96,8 +96,8 @@ module _ (seal : Seal) (w : World) where
   at_meter : (number : ℕ) (f : Node → Step) → ((x : Node) → StepShape w (f x)) → StepShape w (on_meter w number f)
   at_meter number f h = branch (number == 0) (Err faults.Node) (on_node w number f) (Fails faults.Node) (at_node number f h)
 
-  acted_goes : (number : ℕ) (d : Did Answer) → GoesOn w (acted seal w number d).0
-  acted_goes number d = told_goes seal w (ran w) number d (ran_goes w)
+  acted_goes : (number : ℕ) (d : Did Answer) → GoesOn w (acted ciphers w number d).0
+  acted_goes number d = told_goes ciphers w (ran w) number d (ran_goes w)
 
   made_goes : (x : Node) → GoesOn w (made_node w x).0
   made_goes x =
@@ -115,51 +115,51 @@ module _ (seal : Seal) (w : World) where
   unfolding meter
   meter_shape eui psk = branch (not (takes_setup w) || (nat_lt 999 (length w.nodes) || is_known w eui)) _ _ (Fails faults.Setup) (Taken _ (made_goes _))
 
-  depot_by_shape : (number : ℕ) (x : Node) (d : Did (Result Granted CoordRefusal)) → StepShape w (depot_by seal w number x d)
+  depot_by_shape : (number : ℕ) (x : Node) (d : Did (Result Granted CoordRefusal)) → StepShape w (depot_by ciphers w number x d)
   depot_by_shape number x d = by_answer d.answer refl
     where
-      by_answer : (r : Result Granted CoordRefusal) → d.answer ≡ r → StepShape w (depot_by seal w number x d)
-      by_answer (Ok g) e = rw e (Taken (provisioned seal (told seal (set_up w) 0 (record d { answer = Ok g })) number x g) (told_goes seal w _ number _ (told_goes seal w _ 0 _ (set_up_goes w))))
+      by_answer : (r : Result Granted CoordRefusal) → d.answer ≡ r → StepShape w (depot_by ciphers w number x d)
+      by_answer (Ok g) e = rw e (Taken (provisioned ciphers (told ciphers (set_up w) 0 (record d { answer = Ok g })) number x g) (told_goes ciphers w _ number _ (told_goes ciphers w _ 0 _ (set_up_goes w))))
       by_answer (Err reason) e = rw e (Fails faults.Setup)
 
-  depot_shape : (number : ℕ) → StepShape w (depot seal w number)
+  depot_shape : (number : ℕ) → StepShape w (depot ciphers w number)
   unfolding depot
   depot_shape number = setup _ (at_node number _ (λ x. at_node 0 _ (λ c. branch ((number == 0) || is_some (node_address x)) _ _ (Fails faults.Setup)
-      (by_option (λ psk. depot_by seal w number x (acts c (Err orders.Halted) (λ m. center.depot m x.eui psk))) (psk_of x) _ (λ psk. depot_by_shape number x _) (Fails faults.Setup)))))
+      (by_option (λ psk. depot_by ciphers w number x (acts c (Err orders.Halted) (λ m. center.depot m x.eui psk))) (psk_of x) _ (λ psk. depot_by_shape number x _) (Fails faults.Setup)))))
 
-  near_by_shape : (a b cost : ℕ) (x y : Node) (p q : Option ℕ) → StepShape w (near_by seal w a b cost x y p q)
+  near_by_shape : (a b cost : ℕ) (x y : Node) (p q : Option ℕ) → StepShape w (near_by ciphers w a b cost x y p q)
   near_by_shape a b cost x y None q = Fails faults.Setup
   near_by_shape a b cost x y (Some p) None = Fails faults.Setup
-  near_by_shape a b cost x y (Some p) (Some q) = branch _ _ _ (Fails faults.Setup) (Taken _ (told_goes seal w _ b _ (told_goes seal w _ a _ (set_up_goes w))))
+  near_by_shape a b cost x y (Some p) (Some q) = branch _ _ _ (Fails faults.Setup) (Taken _ (told_goes ciphers w _ b _ (told_goes ciphers w _ a _ (set_up_goes w))))
 
-  near_shape : (a b cost : ℕ) → StepShape w (near seal w a b cost)
+  near_shape : (a b cost : ℕ) → StepShape w (near ciphers w a b cost)
   unfolding near
   near_shape a b cost = setup _ (at_node a _ (λ x. at_node b _ (λ y. near_by_shape a b cost x y (node_address x) (node_address y))))
 
-  preset_shape : (number : ℕ) (plan : Line → calls.Presetting) → StepShape w (preset seal w number plan)
-  preset_shape number plan = setup _ (at_node number _ (λ x. Taken _ (told_goes seal w _ number _ (set_up_goes w))))
+  preset_shape : (number : ℕ) (plan : Line → calls.Presetting) → StepShape w (preset ciphers w number plan)
+  preset_shape number plan = setup _ (at_node number _ (λ x. Taken _ (told_goes ciphers w _ number _ (set_up_goes w))))
 
   -- # The other kinds
 
-  allow_shape : (number : ℕ) → StepShape w (allow seal w number)
+  allow_shape : (number : ℕ) → StepShape w (allow ciphers w number)
   unfolding allow
   allow_shape number = once _ (at_meter number _ (λ x. at_node 0 _ (λ c.
-      by_option (λ psk. Ok (allowed seal w number (acts c (Err orders.Halted) (λ m. center.allow m x.eui psk)))) (psk_of x) _ (λ psk. Taken _ (told_goes seal w _ 0 _ (ran_goes w))) (Fails faults.Node))))
+      by_option (λ psk. Ok (allowed ciphers w number (acts c (Err orders.Halted) (λ m. center.allow m x.eui psk)))) (psk_of x) _ (λ psk. Taken _ (told_goes ciphers w _ 0 _ (ran_goes w))) (Fails faults.Node))))
 
-  rand_shape : (number : ℕ) (value : Rand) → StepShape w (rand seal w number value)
+  rand_shape : (number : ℕ) (value : Rand) → StepShape w (rand ciphers w number value)
   unfolding rand
   rand_shape number value = once _ (at_node number _ (λ x. Taken _ (acted_goes number _)))
 
-  joins_go : (number : ℕ) (x : Node) (agent : Option ℕ) (psk : Option Key) → GoesOn w (joins_by seal w number x agent psk).0
+  joins_go : (number : ℕ) (x : Node) (agent : Option ℕ) (psk : Option Key) → GoesOn w (joins_by ciphers w number x agent psk).0
   joins_go number x None psk = ran_goes w
   joins_go number x (Some agent) None = ran_goes w
   joins_go number x (Some agent) (Some psk) = acted_goes number _
 
-  join_shape : (number agent : ℕ) → StepShape w (join seal w number agent)
+  join_shape : (number agent : ℕ) → StepShape w (join ciphers w number agent)
   unfolding join
   join_shape number agent = once _ (at_meter number _ (λ x. at_node agent _ (λ y. Taken _ (joins_go number x (node_address y) (psk_of x)))))
 
-  leave_shape : (number : ℕ) → StepShape w (leave seal w number)
+  leave_shape : (number : ℕ) → StepShape w (leave ciphers w number)
   unfolding leave
   leave_shape number = once _ (at_meter number _ (λ x. Taken _ (acted_goes number _)))
 
@@ -167,35 +167,35 @@ module _ (seal : Seal) (w : World) where
   sent_goes from to datagram tag false r g = g
   sent_goes from to datagram tag true r g = counts_go w r.0 (r.0.sends + 1) r.0.ups r.0.forged r.0.done g
 
-  sends_go : (from to : ℕ) (datagram : List ℕ) (x : Node) (address : Option ℕ) → GoesOn w (sends_by seal w from to datagram x address).0
+  sends_go : (from to : ℕ) (datagram : List ℕ) (x : Node) (address : Option ℕ) → GoesOn w (sends_by ciphers w from to datagram x address).0
   sends_go from to datagram x None = ran_goes w
   sends_go from to datagram x (Some address) = sent_goes from to datagram _ _ _ (acted_goes from _)
 
-  send_shape : (from to : ℕ) (datagram : List ℕ) → StepShape w (send seal w from to datagram)
+  send_shape : (from to : ℕ) (datagram : List ℕ) → StepShape w (send ciphers w from to datagram)
   unfolding send
   send_shape from to datagram = once _ (at_node from _ (λ x. at_node to _ (λ y. Taken _ (sends_go from to datagram x (node_address y)))))
 
-  breaks_go : (number : ℕ) (x : Node) (next : Option ℕ) → GoesOn w (breaks_by seal w number x next).0
+  breaks_go : (number : ℕ) (x : Node) (next : Option ℕ) → GoesOn w (breaks_by ciphers w number x next).0
   breaks_go number x None = ran_goes w
   breaks_go number x (Some next) = acted_goes number _
 
-  breaks_shape : (number next : ℕ) → StepShape w (breaks seal w number next)
+  breaks_shape : (number next : ℕ) → StepShape w (breaks ciphers w number next)
   unfolding breaks
   breaks_shape number next = once _ (at_node number _ (λ x. at_node next _ (λ y. Taken _ (breaks_go number x (node_address y)))))
 
-  received_go : (number : ℕ) (forged : Bool) (d : Did Reception) → GoesOn w (received seal w number forged d).0
-  received_go number forged d = counts_go w _ _ _ _ _ (told_goes seal w (ran w) number d (ran_goes w))
+  received_go : (number : ℕ) (forged : Bool) (d : Did Reception) → GoesOn w (received ciphers w number forged d).0
+  received_go number forged d = counts_go w _ _ _ _ _ (told_goes ciphers w (ran w) number d (ran_goes w))
 
-  arrives_go : (number : ℕ) (x : Node) (octets : List ℕ) (cost : ℕ) → GoesOn w (arrives seal w number x octets cost).0
+  arrives_go : (number : ℕ) (x : Node) (octets : List ℕ) (cost : ℕ) → GoesOn w (arrives ciphers w number x octets cost).0
   unfolding arrives
   arrives_go number x octets cost = accepted_go _
     where
-      accepted_go : (d : Did (Result Accepted FrameRefusal)) → GoesOn w (accepted_by seal w number octets cost d).0
+      accepted_go : (d : Did (Result Accepted FrameRefusal)) → GoesOn w (accepted_by ciphers w number octets cost d).0
       accepted_go d = by_answer d.answer refl
         where
-          by_answer : (r : Result Accepted FrameRefusal) → d.answer ≡ r → GoesOn w (accepted_by seal w number octets cost d).0
+          by_answer : (r : Result Accepted FrameRefusal) → d.answer ≡ r → GoesOn w (accepted_by ciphers w number octets cost d).0
           by_answer (Ok got) e = rw e (received_go number _ _)
-          by_answer (Err reason) e = rw e (told_goes seal w (ran w) number _ (ran_goes w))
+          by_answer (Err reason) e = rw e (told_goes ciphers w (ran w) number _ (ran_goes w))
 
   at_flight : (number : ℕ) (f : Flight → Step) → ((x : Flight) → flight_at w number ≡ Some x → StepShape w (f x)) → StepShape w (on_flight w number f)
   at_flight number f h = by_flight (flight_at w number) refl
@@ -204,11 +204,11 @@ module _ (seal : Seal) (w : World) where
       by_flight None e = Fails faults.Flight
       by_flight (Some x) e = branch x.lost _ _ (Fails faults.Flight) (h x e)
 
-  deliver_shape : (flight number cost : ℕ) → StepShape w (deliver seal w flight number cost)
+  deliver_shape : (flight number cost : ℕ) → StepShape w (deliver ciphers w flight number cost)
   unfolding deliver
   deliver_shape flight number cost = once _ (at_node number _ (λ x. at_flight flight _ (λ f e. Taken _ (arrives_go number x f.octets cost))))
 
-  inject_shape : (number cost : ℕ) (octets : List ℕ) → StepShape w (inject seal w number cost octets)
+  inject_shape : (number cost : ℕ) (octets : List ℕ) → StepShape w (inject ciphers w number cost octets)
   unfolding inject
   inject_shape number cost octets = once _ (at_node number _ (λ x. Taken _ (arrives_go number x octets cost)))
 
@@ -234,11 +234,11 @@ module _ (seal : Seal) (w : World) where
       let g = ran_goes w in
       once _ (Taken _ (record { events = g.events; clock = omega arith; running = g.running; nodes = let same : length (map (ticked (w.clock + seconds)) w.nodes) ≡ length w.nodes = length-map w.nodes _ in omega arith; flights = g.flights; made = g.made }))
 
-  restart_shape : (number : ℕ) → StepShape w (restart seal w number)
+  restart_shape : (number : ℕ) → StepShape w (restart ciphers w number)
   unfolding restart
   restart_shape number = once _ (at_node number _ (λ x. Taken _ (acted_goes number _)))
 
-  cut_shape : (number nth : ℕ) (keeps_new : Bool) → StepShape w (cut seal w number nth keeps_new)
+  cut_shape : (number nth : ℕ) (keeps_new : Bool) → StepShape w (cut ciphers w number nth keeps_new)
   unfolding cut
   cut_shape number nth keeps_new = once _ (at_node number _ (λ x. Taken _ (acted_goes number _)))
 
@@ -246,11 +246,11 @@ module _ (seal : Seal) (w : World) where
   unfolding show
   show_shape number = once _ (at_node number _ (λ x. Taken _ (ran_goes w)))
 
-  rekey_shape : (index : ℕ) (key : Key) → StepShape w (rekey seal w index key)
+  rekey_shape : (index : ℕ) (key : Key) → StepShape w (rekey ciphers w index key)
   unfolding rekey
   rekey_shape index key = once _ (at_node 0 _ (λ c. Taken _ (acted_goes 0 _)))
 
-  challenge_shape : (number : ℕ) → StepShape w (challenge seal w number)
+  challenge_shape : (number : ℕ) → StepShape w (challenge ciphers w number)
   unfolding challenge
   challenge_shape number = once _ (at_meter number _ (λ x. at_node 0 _ (λ c. Taken _ (acted_goes 0 _))))
 
@@ -258,18 +258,18 @@ module _ (seal : Seal) (w : World) where
   either_goes true p q g h = g
   either_goes false p q g h = h
 
-  activates_go : (number index : ℕ) (x c : Node) → GoesOn w (activate_at seal w number index x c).0
+  activates_go : (number index : ℕ) (x c : Node) → GoesOn w (activate_at ciphers w number index x c).0
   activates_go number index x c = either_goes (number == 0) _ _ (acted_goes 0 _) (acted_goes 0 _)
 
-  activate_shape : (number index : ℕ) → StepShape w (activate seal w number index)
+  activate_shape : (number index : ℕ) → StepShape w (activate ciphers w number index)
   unfolding activate
   activate_shape number index = once _ (at_node number _ (λ x. at_node 0 _ (λ c. Taken _ (activates_go number index x c))))
 
-  kick_shape : (number : ℕ) → StepShape w (kick seal w number)
+  kick_shape : (number : ℕ) → StepShape w (kick ciphers w number)
   unfolding kick
   kick_shape number = once _ (at_meter number _ (λ x. at_node 0 _ (λ c. Taken _ (acted_goes 0 _))))
 
-  step_shape : (event : Event) → StepShape w (step seal w event)
+  step_shape : (event : Event) → StepShape w (step ciphers w event)
   step_shape (events.Coordinator eui key) = coordinator_shape eui key
   step_shape (events.Meter eui psk) = meter_shape eui psk
   step_shape (events.Depot node) = depot_shape node
@@ -304,4 +304,4 @@ module _ (seal : Seal) (w : World) where
   holds s (Taken r g) = g
 
 pub steps : StepsGoOn
-steps seal w v event d e = subst (Holds seal w) e (holds seal w _ (step_shape seal w event))
+steps ciphers w v event d e = subst (Holds ciphers w) e (holds ciphers w _ (step_shape ciphers w event))

@@ -1,5 +1,5 @@
 -- What a station does by itself: sending, time, its ring, and the settings of the workshop.
-use Rattle.std.specs.Prelude.{ℕ, ◌+◌, ◌-◌, Bool, true, false, not, ◌==◌, ◌&&◌, ◌||◌, nat_lt, nat_le, List, [], ◌∷◌, length, is_some, Option, Some, None, Result, Ok, Err, if◌then◌else◌}
+use Rattle.std.specs.Prelude.{ℕ, ◌+◌, Bool, not, ◌==◌, ◌||◌, nat_lt, nat_le, List, [], length, is_some, Option, Some, None, Result, Ok, Err, if◌then◌else◌}
 use Rattle.std.specs.List.{filter}
 use Rattle.std.specs.Option.{option_map, option_map_or}
 use Rattle.octet_fields.specs.Faults.{◌then◌, ◌when◌}
@@ -20,10 +20,10 @@ use Rattle.node_rules.specs.declared.refusal.SendRefusal.{SendRefusal}
 use Rattle.node_rules.specs.declared.refusal.SendRefusal.TheVariants.{NotJoined, BadSize, ToSelf, WaitingFull, SeqSpent, CounterSpent, Store}
 use Rattle.node_rules.specs.declared.refusal.PresetFault.{PresetFault}
 use Rattle.node_rules.specs.declared.refusal.PresetFault.TheVariants as presets
-use Rattle.node_rules.specs.Memory.{Line, Body, Load, Datagram, Command, address_of, next_hop}
+use Rattle.node_rules.specs.Memory.{Line, Body, Datagram, Command, address_of, next_hop}
 use Rattle.node_rules.specs.Plans.{Plan, resting}
 use Rattle.node_rules.specs.Accepting.{is_own}
-use Rattle.node_rules.specs.Doings.{Doing, Ends, Lack, OfRoom, OfNumbers, alone, begun, ranked, ringed, tagged, sets_out, lack, refused, sealing, sealed, checked, choose}
+use Rattle.node_rules.specs.Doings.{Doing, Ends, Lack, OfRoom, OfNumbers, alone, begun, ranked, ringed, tagged, sets_out, lack, is_awaited, counters_left, refused, sealing, sealed, checked, choose}
 
 -- # Sending
 
@@ -69,10 +69,18 @@ command_from l own to octets now =
 abbrev pub send_command : Line → ℕ → List ℕ → ℕ → Sending
 send_command l to octets now = option_map_or (λ own. command_from l own to octets now) (address_of l) (refused sending_ends l NotJoined)
 
--- what a command of so many octets would be refused for
-abbrev pub room_by : Result SentHow SendRefusal → Result (Unit {0}) SendRefusal
-room_by (Ok s) = Ok tt
-room_by (Err reason) = Err reason
+-- how many frames a command for an address needs: one by its route, and one to seek a route that nothing seeks yet
+abbrev pub command_frames : Line → ℕ → ℕ
+command_frames l to = if is_some (next_hop l to) then 1 else (if is_awaited l to then 0 else 1)
+
+abbrev pub room_fault : Line → ℕ → ℕ → Option SendRefusal
+room_fault l to octets =
+    option_map lacking (lack l to octets)
+    then Some CounterSpent when nat_lt (counters_left l) (command_frames l to)
+
+-- what a command of so many octets for an address would be refused for
+abbrev pub room : Line → ℕ → ℕ → Option SendRefusal
+room l to octets = option_map_or (λ _. room_fault l to octets) (address_of l) (Some NotJoined)
 
 -- # Routes and time
 

@@ -1,14 +1,15 @@
 -- What the coordinator does: letting meters in, answering their messages, and handing out keys.
-use Rattle.std.specs.Prelude.{ℕ, ◌+◌, Bool, true, false, not, ◌==◌, ◌&&◌, ◌||◌, nat_lt, nat_le, List, [], ◌∷◌, ◌++◌, length, set, position, slice_get, is_some, Option, Some, None, Result, Ok, Err, if◌then◌else◌}
+use Rattle.std.specs.Prelude.{ℕ, ◌+◌, Bool, true, false, not, ◌==◌, ◌&&◌, nat_lt, List, [], ◌∷◌, ◌++◌, length, set, position, slice_get, is_some, Option, Some, None, Result, Ok, Err, if◌then◌else◌}
 use Rattle.std.specs.List.{filter}
 use Rattle.std.specs.Option.{option_map, option_map_or, option_and_then}
-use Rattle.octet_fields.specs.Faults.{◌then◌, ◌when◌, ◌unless◌}
+use Rattle.octet_fields.specs.Faults.{◌then◌, ◌when◌}
 use Rattle.plc_base.specs.declared.address.Eui.{Eui}
 use Rattle.plc_base.specs.declared.key.Key.{Key}
 use Rattle.plc_base.specs.declared.key.Rand.{Rand}
 use Rattle.plc_base.specs.Grant.{Granted}
 use Rattle.plc_base.specs.Writes.{puts_of}
 use Rattle.group_keys.specs.declared.fault.RingFault.{RingFault}
+use Rattle.group_keys.specs.declared.fault.RingFault.TheVariants.{Store}
 use Rattle.group_keys.specs.declared.key_book.BookEntry.{BookEntry}
 use Rattle.group_keys.specs.KeyRing as ring
 use Rattle.group_keys.specs.KeyBook as book
@@ -30,7 +31,7 @@ use Rattle.node_rules.specs.declared.refusal.Dropped.TheVariants as drops
 use Rattle.node_rules.specs.declared.refusal.CoordRefusal.{CoordRefusal}
 use Rattle.node_rules.specs.declared.refusal.CoordRefusal.TheVariants as refusal
 use Rattle.node_rules.specs.Ciphers.{Ciphers}
-use Rattle.node_rules.specs.Memory.{Line, Memory, CenterSession, address_of, next_hop}
+use Rattle.node_rules.specs.Memory.{Line, Memory, CenterSession, next_hop}
 use Rattle.node_rules.specs.Plans.{Plan, resting, within}
 use Rattle.node_rules.specs.Accepting.{same_eui}
 use Rattle.node_rules.specs.Doings.{Doing, Ends, Lack, OfRoom, OfNumbers, begun, ringed, counters_left, refused, sealing, sealed, checked, choose}
@@ -208,6 +209,14 @@ heard_by own m now p (Some u) = hear_join_in own m u.way (join_in u.body) now
 abbrev pub hear_center : Center → Memory → Accepted → (cost note now : ℕ) → Hearing
 hear_center own m got cost note now = let p = hear m.line got cost note now in heard_by own m now p (unread p.answer)
 
+-- # Beginning
+
+-- a coordinator without a ring installs this grant
+abbrev pub begin : Memory → Granted → Plan Memory (Result (Unit {0}) RingFault)
+begin m granted =
+    choose (is_some m.line.ring) (resting m (Ok tt) (Err Store))
+    (within (λ l. with_line l m) (λ r. r) (calls.install m.line granted))
+
 -- # Orders of the operator
 
 abbrev pub Ordering : Type 0 → Type 0
@@ -305,7 +314,8 @@ activate m eui index now =
     option_map_or (λ e. option_map_or (activate_by m e index now) (book.address_of m.book eui) (refused orders m refusal.NotAllowed))
     (allowed_entry m eui) (refused orders m refusal.NotAllowed)
 
--- a meter is shut out, its session ends, and it is told where there is a route and a counter for it
+-- a meter is shut out, its session ends, and it is told where there is a route and a counter for it; so the command never waits,
+-- and the time that it would wait from is no matter
 abbrev pub told_off : Memory → ℕ → JoinMessage → Doing Memory → Doing Memory
 told_off m to join d = if is_some (next_hop m.line to) && nat_lt 0 (counters_left m.line) then is_commanded to join 0 d else d
 

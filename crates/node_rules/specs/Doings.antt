@@ -1,6 +1,6 @@
 -- The words that rules are made of: each one phrase of what a node does on the line.
 use Rattle.std.specs.Prelude.{ℕ, ◌+◌, ◌-◌, ◌%◌, Bool, true, false, not, ◌==◌, nat_lt, nat_le, List, [], ◌∷◌, ◌++◌, length, map, drop, Option, Some, None, is_some, Result, Ok, Err, if◌then◌else◌}
-use Rattle.std.specs.List.{filter, list_any, sum_by, flat_map, range_with_len}
+use Rattle.std.specs.List.{filter, list_any, sum_by, flat_map}
 use Rattle.std.specs.Int.{div_ceil}
 use Rattle.std.specs.Option.{option_map_or}
 use Rattle.byteorder.specs.Endian.{big_bytes}
@@ -20,9 +20,9 @@ use Rattle.mesh_header.specs.declared.unit.Mesh.{Mesh}
 use Rattle.mesh_header.specs.declared.unit.Unit.{Unit}
 use Rattle.mesh_header.specs.declared.unit.Unit.TheVariants.{Whole, Part, Carried, Local}
 use Rattle.loadng_messages.specs.declared.message.Message.{Message}
-use Rattle.loadng_messages.specs.declared.message.Message.TheVariants.{Rreq, Rrep, Rerr}
+use Rattle.loadng_messages.specs.declared.message.Message.TheVariants.{Rreq}
 use Rattle.loadng_messages.specs.Grammar as messages
-use Rattle.node_rules.specs.Frames.{Letter, Sent, Sealed, to_all}
+use Rattle.node_rules.specs.Frames.{Sent, Sealed, to_all}
 use Rattle.node_rules.specs.Memory.{Line, Body, Load, Datagram, Command, load_octets, next_hop}
 use Rattle.node_rules.specs.Plans.{Plan, resting}
 

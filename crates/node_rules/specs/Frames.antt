@@ -1,5 +1,5 @@
 -- Frames as values, and the two words at the edge: what a frame spells, and what arrived octets are.
-use Rattle.std.specs.Prelude.{ℕ, ◌%◌, Bool, true, not, ◌==◌, List, [], ◌∷◌, ◌++◌, length, take, is_some, Option, Some, None, if◌then◌else◌}
+use Rattle.std.specs.Prelude.{ℕ, ◌%◌, true, not, ◌==◌, List, take, is_some, Option, Some, None, if◌then◌else◌}
 use Rattle.plc_base.specs.declared.address.TheConstants.{PAN}
 use Rattle.plc_base.specs.declared.address.Eui.{Eui}
 use Rattle.plc_base.specs.declared.key.Key.{Key}

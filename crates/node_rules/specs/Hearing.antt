@@ -1,5 +1,5 @@
 -- What a station makes of a frame that it accepted: route messages, units over the mesh, datagrams and pieces.
-use Rattle.std.specs.Prelude.{ℕ, ◌+◌, ◌-◌, Bool, true, false, not, ◌==◌, ◌&&◌, ◌||◌, nat_lt, List, [], ◌∷◌, is_some, Option, Some, None, Result, Ok, Err, if◌then◌else◌}
+use Rattle.std.specs.Prelude.{ℕ, ◌+◌, ◌-◌, Bool, true, false, not, ◌==◌, ◌||◌, nat_lt, List, Option, Some, None, Result, Ok, Err, if◌then◌else◌}
 use Rattle.std.specs.Option.{option_map_or}
 use Rattle.octet_fields.specs.Faults.{◌then◌, ◌when◌}
 use Rattle.mesh_header.specs.declared.unit.Mesh.{Mesh}
@@ -24,8 +24,7 @@ use Rattle.node_rules.specs.declared.refusal.Dropped.TheVariants.{BadUnit, NoRou
 use Rattle.node_rules.specs.Frames.{to_all}
 use Rattle.node_rules.specs.Memory.{Line, address_of, next_hop}
 use Rattle.node_rules.specs.Plans.{Plan, resting}
-use Rattle.node_rules.specs.Accepting.{is_own}
-use Rattle.node_rules.specs.Doings.{Doing, Ends, Lack, OfRoom, OfNumbers, alone, begun, ranked, numbered, number_of, rerouted, goes, tells, leave, numbers_spent, refused, sealed, checked, choose}
+use Rattle.node_rules.specs.Doings.{Doing, Ends, Lack, OfRoom, OfNumbers, alone, begun, ranked, numbered, rerouted, goes, tells, leave, numbers_spent, refused, sealed, checked, choose}
 
 abbrev pub Hearing : Type 0
 Hearing = Plan Line (Result Heard Dropped)
@@ -114,14 +113,14 @@ hear_reply l own by origin to rank now =
 abbrev pub loses : ℕ → ℕ → Line → Doing Line
 loses lost by l = rerouted (λ r. routing.without_next_to r lost by) (begun l)
 
--- and the error goes on by the hop that still leads to its target
+-- and the error goes on by the hop that still leads to its target, unless that is the lost one itself
 abbrev pub tells_on : ℕ → ℕ → Option ℕ → Doing Line → Doing Line
 tells_on lost to None d = d
 tells_on lost to (Some hop) d = tells hop (Rerr lost to) d
 
 abbrev pub hear_error : Line → (own by lost to : ℕ) → Hearing
 hear_error l own by lost to =
-    ends l (tells_on lost to (if to == own then None else next_hop (loses lost by l).memory to) (loses lost by l)) heard.Broken
+    ends l (tells_on lost to (if (to == own) || (to == lost) then None else next_hop (loses lost by l).memory to) (loses lost by l)) heard.Broken
 
 -- # Units over the mesh for other nodes
 
@@ -199,12 +198,6 @@ hear_over_mesh l own (units.Part mesh piece) note now =
 hear_over_mesh l own (units.Carried mesh body) note now =
     choose (mesh.to == own) (resting l (Ok (heard.Joining (ByMesh mesh.origin) body)) (Err Store)) (forward l own mesh (units.Carried (hop_less mesh) body) note)
 hear_over_mesh l own (units.Local code body) note now = drop_it l BadUnit
-
-abbrev pub is_local : Unit → Bool
-is_local (units.Local code body) = true
-is_local (units.Whole mesh octets) = false
-is_local (units.Part mesh piece) = false
-is_local (units.Carried mesh body) = false
 
 -- a sealed frame: a command for the neighbours, or a unit over the mesh, which may not go to all
 abbrev pub hear_sealed : Line → (own by : ℕ) → (all : Bool) → Unit → (cost note now : ℕ) → Hearing

@@ -1,10 +1,9 @@
 -- The same words over all that a meter or the coordinator holds in memory.
-use Rattle.std.specs.Prelude.{ℕ, Bool, List, [], ◌∷◌, ◌++◌, length, drop, nat_lt, Option, Some, None, Result, Ok, Err, slice_get}
+use Rattle.std.specs.Prelude.{ℕ, List, [], ◌∷◌, ◌++◌, length, drop, nat_lt, Option, Some, None, Result, Ok, Err, slice_get}
 use Rattle.std.specs.Option.{option_map, option_map_or}
 use Rattle.plc_base.specs.declared.address.Eui.{Eui}
 use Rattle.plc_base.specs.declared.key.Rand.{Rand}
 use Rattle.plc_base.specs.declared.tags.PairTag.{PairTag}
-use Rattle.plc_base.specs.Keeper.{Write}
 use Rattle.joining_messages.specs.declared.message.JoinMessage.{JoinMessage}
 use Rattle.eap_psk.specs.declared.fault.EapFault.{EapFault}
 use Rattle.eap_psk.specs.declared.fault.EapFault.TheVariants as eap
@@ -15,7 +14,7 @@ use Rattle.node_rules.specs.declared.refusal.Dropped.{Dropped}
 use Rattle.node_rules.specs.declared.refusal.Dropped.TheVariants as drops
 use Rattle.node_rules.specs.declared.refusal.RandomFault.{RandomFault}
 use Rattle.node_rules.specs.declared.refusal.RandomFault.TheVariants.{RandomsFull}
-use Rattle.node_rules.specs.Frames.{Sent, Up, Down}
+use Rattle.node_rules.specs.Frames.{Up, Down}
 use Rattle.node_rules.specs.Memory.{Line, Memory, Command, address_of}
 use Rattle.node_rules.specs.Plans.{Plan}
 use Rattle.node_rules.specs.Doings.{Doing, Holder, Ends, begun, refused, sealing, choose, sets_out, lack}

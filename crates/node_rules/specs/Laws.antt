@@ -16,7 +16,8 @@ use Rattle.node_rules.specs.declared.refusal.CoordRefusal.TheVariants as orders
 use Rattle.node_rules.specs.declared.event.Event.{Event}
 use Rattle.plc_base.specs.declared.tags.PairTag.{PairTag}
 use Rattle.node_rules.specs.Worlds.{World, Flight, Deeds}
-use Rattle.node_rules.specs.Frames.{Arrived, Seal}
+use Rattle.node_rules.specs.Ciphers.{Ciphers}
+use Rattle.node_rules.specs.Frames.{Arrived}
 use Rattle.node_rules.specs.Accepting.{accept}
 use Rattle.node_rules.specs.Hearing.{hear}
 use Rattle.node_rules.specs.Calls as calls
@@ -118,7 +119,7 @@ AMetersDropChangesNothing =
 
 abbrev pub ACentersDropChangesNothing : Type 0
 ACentersDropChangesNothing =
-    (own : Eui) (m : Memory) (got : Accepted) (cost note now : ℕ) → RefusesCleanly drops.Store m (center.hear_center own m got cost note now)
+    (own : center.Center) (m : Memory) (got : Accepted) (cost note now : ℕ) → RefusesCleanly drops.Store m (center.hear_center own m got cost note now)
 
 -- a send that is refused changes nothing
 abbrev pub ASendRefusedChangesNothing : Type 0
@@ -193,7 +194,7 @@ AMetersHearingIsBounded =
 
 abbrev pub ACentersHearingIsBounded : Type 0
 ACentersHearingIsBounded =
-    (own : Eui) (m : Memory) (got : Accepted) (cost note now : ℕ) → IsBounded m.line (center.hear_center own m got cost note now)
+    (own : center.Center) (m : Memory) (got : Accepted) (cost note now : ℕ) → IsBounded m.line (center.hear_center own m got cost note now)
 
 -- a send, of any datagram and of any command
 abbrev pub ASendIsBounded : Type 0
@@ -267,4 +268,4 @@ pub record GoesOn (w v : World) : Type 0 where
 
 -- every event that is taken leads one event on
 abbrev pub StepsGoOn : Type 0
-StepsGoOn = (seal : Seal) (w v : World) (event : Event) (d : Deeds) → step seal w event ≡ Ok (v, d) → GoesOn w v
+StepsGoOn = (ciphers : Ciphers) (w v : World) (event : Event) (d : Deeds) → step ciphers w event ≡ Ok (v, d) → GoesOn w v

@@ -1,5 +1,5 @@
 -- What a node is and holds.
-use Rattle.std.specs.Prelude.{ℕ, Bool, true, false, List, [], Option, Some, None}
+use Rattle.std.specs.Prelude.{ℕ, List, Option}
 use Rattle.std.specs.Option.{option_map, option_and_then}
 use Rattle.plc_base.specs.declared.address.Eui.{Eui}
 use Rattle.plc_base.specs.declared.key.Key.{Key}
@@ -46,7 +46,7 @@ pub record Line : Type 0 where
   pub marks : marks.Table
   -- kept ranks, floors and valid routes
   pub routing : routing.Routing
-  -- the number of the last route message that it began
+  -- the last own number, which route messages that it begins have
   pub own_number : own_number.Numbering
   -- the tag of the next datagram that is cut into pieces
   pub next_tag : ℕ
@@ -120,10 +120,3 @@ line_route l dest = option_and_then (λ _. next_hop l dest) l.ring
 
 abbrev pub node_route : Node → ℕ → Option ℕ
 node_route x dest = option_and_then (λ m. line_route m.line dest) x.memory
-
-abbrev pub is_halted : Node → Bool
-is_halted x = is_halted_by x.memory
-  where
-    is_halted_by : Option Memory → Bool
-    is_halted_by None = true
-    is_halted_by (Some m) = false

@@ -1,5 +1,5 @@
 -- What a meter does: joining, carrying the messages of others, leaving, and the keys that it is told to use.
-use Rattle.std.specs.Prelude.{ℕ, Bool, true, false, not, ◌==◌, ◌&&◌, ◌||◌, nat_le, List, [], ◌∷◌, ◌++◌, length, is_some, Option, Some, None, Result, Ok, Err, if◌then◌else◌}
+use Rattle.std.specs.Prelude.{ℕ, Bool, true, false, ◌==◌, List, [], ◌∷◌, is_some, Option, Some, None, Result, Ok, Err, if◌then◌else◌}
 use Rattle.std.specs.Option.{option_map, option_map_or}
 use Rattle.octet_fields.specs.Faults.{◌then◌, ◌when◌, ◌unless◌}
 use Rattle.plc_base.specs.declared.address.Eui.{Eui}
@@ -16,7 +16,6 @@ use Rattle.eap_psk.specs.Messages.{granting_text}
 use Rattle.eap_psk.specs.Faults.{first_fault}
 use Rattle.eap_psk.specs.Tags.{mac_p_tag, mac_s_tag, granting_tag, success_tag}
 use Rattle.eap_psk.specs.declared.peer.Peer.{Peer}
-use Rattle.eap_psk.specs.declared.server.Agreed.{Agreed}
 use Rattle.node_rules.specs.declared.heard.Accepted.{Accepted}
 use Rattle.node_rules.specs.declared.heard.Heard.{Heard}
 use Rattle.node_rules.specs.declared.heard.MeterHeard.{MeterHeard}
@@ -31,7 +30,7 @@ use Rattle.node_rules.specs.declared.refusal.LeaveRefusal.{LeaveRefusal}
 use Rattle.node_rules.specs.declared.refusal.LeaveRefusal.TheVariants as leaving
 use Rattle.node_rules.specs.Ciphers.{Ciphers}
 use Rattle.node_rules.specs.Memory.{Line, Memory, MeterSession, Course, ByAgent, ByCommand, address_of}
-use Rattle.node_rules.specs.Plans.{Plan, resting, within}
+use Rattle.node_rules.specs.Plans.{Plan, within}
 use Rattle.node_rules.specs.Accepting.{same_eui}
 use Rattle.node_rules.specs.Doings.{Doing, Ends, begun, ringed, refused, sealing, sealed, checked, choose}
 use Rattle.node_rules.specs.Hearing.{dropped, hear}
@@ -108,7 +107,8 @@ abbrev pub say_lack : Course → Memory → JoinMessage → Option Dropped
 say_lack (ByAgent agent) m join = None
 say_lack ByCommand m join = command_lack m 0 join
 
--- what is wrong with a challenge over the air, and in a command: nothing there, with a first packet
+-- what is wrong with a challenge over the air: the meter is joined, or no session runs by that agent. In a command a first packet needs
+-- no session, and any other one a session by command.
 abbrev pub air_fault : Memory → Course → Option Dropped
 air_fault m course = Some BadUnit when is_joined m then Some NoSession unless has_session m course
 

@@ -6,7 +6,6 @@ use Rattle.byteorder.specs.Endian.{big_number}
 use Rattle.plc_base.specs.Keeper.{Records}
 use Rattle.plc_base.specs.SlotTables as slots
 use Rattle.plc_base.specs.Grant.{Granted}
-use Rattle.plc_base.specs.Writes.{puts_of}
 use Rattle.plc_base.specs.declared.key.Key.{Key}
 use Rattle.plc_base.specs.declared.keeper.BadStore.{BadStore}
 use Rattle.frame_counters.specs.SendCounter as counter
@@ -57,7 +56,7 @@ memory_of Coordinator records = reading (line_of records) (λ l. reading (slots.
 abbrev pub blank_routing : routing.Routing
 blank_routing = record { entries = []; floors = map (λ _. 0) (range_with_len 0 16) }
 
--- the memory of a node that was never stored anything
+-- what a node holds on the line whose store has no record
 abbrev pub blank_line : Line
 blank_line = record {
   ring = None;

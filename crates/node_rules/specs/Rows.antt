@@ -1,23 +1,20 @@
 -- Scripts whose runs are computed, each with what the report says of it.
-use Rattle.std.specs.Prelude.{◌≡◌, ℕ, List, [], ◌∷◌, ◌++◌, length, map, replicate, true, false, Option, Some, None, Result, Ok, Err}
+use Rattle.std.specs.Prelude.{◌≡◌, ℕ, List, [], ◌∷◌, ◌++◌, replicate, true, false, Option, Some, None}
 use Rattle.byteorder.specs.Endian.{big_bytes}
 use Rattle.plc_base.specs.declared.key.Key.{Key}
 use Rattle.plc_base.specs.declared.key.Rand.{Rand as RandomValue}
-use Rattle.plc_base.specs.declared.out_frame.OutFrame.{OutFrame}
 use Rattle.mesh_header.specs.declared.unit.Unit.TheVariants.{Whole, Local}
 use Rattle.loadng_messages.specs.declared.message.Message.TheVariants.{Rreq}
 use Rattle.loadng_messages.specs.Grammar as messages
-use Rattle.node_rules.specs.declared.event.Answer.{Answer}
 use Rattle.node_rules.specs.declared.event.Answer.TheVariants as said
 use Rattle.node_rules.specs.declared.event.Event.{Event}
 use Rattle.node_rules.specs.declared.event.Event.TheVariants.{Coordinator, Meter, Depot, Near, Counter, Number, Allow, Rand, Join, Send, Deliver, Inject, Lose, Break, Tick, Cut, Rekey, Activate, Challenge, Kick, Show}
 use Rattle.node_rules.specs.declared.event.StepFault.TheVariants as faults
 use Rattle.node_rules.specs.Frames.{Sealed, spelled}
-use Rattle.node_rules.specs.Worlds.{Flight, World, Handed, start, flight_at}
-use Rattle.node_rules.specs.Runs.{Entry, run}
-use Rattle.node_rules.specs.Steps.{step}
+use Rattle.node_rules.specs.Worlds.{Flight, start, flight_at}
+use Rattle.node_rules.specs.Runs.{run}
 use Rattle.std.specs.Option.{option_map}
-use Rattle.node_rules.specs.Scripts.{plain, eui, group_key, pair_key, two_meters, three_meters, four_meters, answers_after, counts_of, Counted, fault_after, world_behind, handed_at_last, shown_at_last, forged_at_last, takers, doers, admissions}
+use Rattle.node_rules.specs.Scripts.{plain, eui, group_key, pair_key, two_meters, three_meters, four_meters, answers_after, counts_of, fault_after, world_behind, handed_at_last, shown_at_last, forged_at_last, takers, doers, admissions}
 
 -- # One hop
 

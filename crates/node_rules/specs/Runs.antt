@@ -1,23 +1,19 @@
 -- Runs of the world, and what is said of each of them.
-use Rattle.std.specs.Prelude.{◌≡◌, ◌≢◌, ◌⊎◌, ℕ, ◌+◌, ◌-◌, ◌<◌, ◌≤◌, ◌==◌, nat_lt, Bool, true, false, List, [], ◌∷◌, ◌++◌, length, All, AllPairs, Option, Some, None, Result, Ok, Err, IfSome, slice_get, if◌then◌else◌}
-use Rattle.std.specs.List.{sum_by}
-use Rattle.std.specs.Option.{option_map, option_map_or}
+use Rattle.std.specs.Prelude.{◌≡◌, ◌≢◌, ◌⊎◌, ℕ, ◌+◌, ◌-◌, ◌<◌, ◌≤◌, ◌==◌, nat_lt, Bool, true, false, List, [], ◌∷◌, ◌++◌, length, All, AllPairs, Option, Some, None, Ok, Err, IfSome, slice_get, if◌then◌else◌}
 use Rattle.plc_base.specs.declared.address.Eui.{Eui}
 use Rattle.plc_base.specs.declared.key.Key.{Key}
-use Rattle.plc_base.specs.declared.key.Rand.{Rand}
-use Rattle.plc_base.specs.Grant.{Granted, key_at}
+use Rattle.plc_base.specs.Grant.{Granted}
 use Rattle.fragment_buffers.specs.Taking.{blocks_held}
 use Rattle.mac_frames.specs.declared.head.MacHead.{MacHead}
 use Rattle.mac_frames.specs.declared.head.MacHead.TheVariants as heads
 use Rattle.mac_frames.specs.Reading.{head_in}
-use Rattle.node_rules.specs.declared.event.Answer.{Answer}
 use Rattle.node_rules.specs.declared.event.Answer.TheVariants as said
 use Rattle.node_rules.specs.declared.event.Event.{Event}
 use Rattle.node_rules.specs.declared.event.Event.TheVariants as events
 use Rattle.node_rules.specs.Ciphers.{Ciphers}
-use Rattle.node_rules.specs.Memory.{Line, Memory, Node, Role, Coordinator, Meter, Body, node_address, node_route}
+use Rattle.node_rules.specs.Memory.{Memory, Node, Role, Coordinator, Meter, node_address, node_route}
 use Rattle.node_rules.specs.Doings.{blocks_waiting}
-use Rattle.node_rules.specs.Worlds.{Flight, World, start, node_at, Handed, Happenings, Sending, Issued, Pairing, Deeds}
+use Rattle.node_rules.specs.Worlds.{Flight, World, node_at, Handed, Sending, Issued, Pairing, Deeds}
 use Rattle.node_rules.specs.Steps.{Step, step}
 
 -- # Runs
@@ -177,7 +173,7 @@ IsSafeAfter before (x ∷ xs) = x.deeds.happened.forged ≡ false → IsSafeAt b
 abbrev pub IsSafe : List Entry → Type 0
 IsSafe entries = IsSafeAfter [] entries
 
--- # Nonces and agreement
+-- # Nonces
 
 -- the address and the counter that stand in a sealed frame, which make its nonce
 pub record NonceParts : Type 0 where
@@ -200,6 +196,31 @@ CounterRises f g = f.from ≡ g.from → IfSome (nonce_parts f) (λ p. IfSome (n
 -- two flights under one key have different nonces
 abbrev pub HasAnotherNonce : Flight → Flight → Type 0
 HasAnotherNonce f g = f.key ≡ g.key → IfSome f.key (λ _. IfSome (nonce_parts f) (λ p. IfSome (nonce_parts g) (λ q. p ≢ q)))
+
+-- In every run, forged or not, the counters of the sealed flights of one node rise.
+abbrev pub CountersRise : List Entry → Type 0
+CountersRise entries = All (λ (x : Entry). AllPairs CounterRises x.after.flights) entries
+
+-- In every run, up to its first forged event, no two flights that were sealed under one key have one nonce.
+abbrev pub NoncesDiffer : List Entry → Type 0
+NoncesDiffer [] = Unit {0}
+NoncesDiffer (x ∷ xs) = x.deeds.happened.forged ≡ false → AllPairs HasAnotherNonce x.after.flights × NoncesDiffer xs
+
+-- # Every run, forged or not
+
+-- no table passes its size, and no step sends more than 24 frames
+abbrev pub IsAlwaysSized : List Entry → Type 0
+IsAlwaysSized entries = All (λ (x : Entry). IsSized x.after × (x.deeds.happened.flights ≤ 24)) entries
+
+-- a restart finds a store that has a reading
+abbrev pub is_restart : Event → Bool
+is_restart (events.Restart node) = true
+is_restart _ = false
+
+abbrev pub RestartsAreAnswered : List Entry → Type 0
+RestartsAreAnswered entries = All (λ (x : Entry). is_restart x.event ≡ true → x.deeds.happened.answer ≡ said.Restarted) entries
+
+-- # Agreement
 
 -- where a joining is done, the meter took it before with the same random values
 pub record WasTaken (done : Pairing) (before : List Pairing) : Type 0 where
@@ -256,4 +277,4 @@ NeverAllowed number entries = All (λ (x : Entry). is_allow_of number x.event �
 abbrev pub KickedStaysOut : List Entry → Type 0
 KickedStaysOut entries =
     (number : ℕ) (before after : List Entry) (kick : Entry) (key : Key) → entries ≡ before ++ kick ∷ after → NoneForged entries → IsKicked number kick
-    → NeverAllowed number after → NeverStood key (before ++ kick ∷ []) → All (λ (x : Entry). NodeHasKey x.after number key → ⊥) (kick ∷ after)
+    → NeverAllowed number after → NeverStood key (before ++ kick ∷ []) → All (λ (x : Entry). NodeHasKey x.after number key → ⊥) entries

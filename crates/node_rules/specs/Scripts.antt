@@ -1,5 +1,5 @@
 -- Words of small scripts that are computed, with plain ciphers in place of the network's.
-use Rattle.std.specs.Prelude.{ℕ, ◌-◌, ◌==◌, Bool, false, List, [], ◌∷◌, ◌++◌, length, map, take, drop, Option, Some, None, Result, Ok, Err, if◌then◌else◌}
+use Rattle.std.specs.Prelude.{ℕ, ◌-◌, ◌==◌, Bool, false, List, [], ◌∷◌, ◌++◌, length, map, take, drop, Option, Some, None, Ok, Err, if◌then◌else◌}
 use Rattle.std.specs.Str.{bytes_eq}
 use Rattle.byteorder.specs.Endian.{big_bytes}
 use Rattle.plc_base.specs.declared.address.Eui.{Eui}
@@ -15,7 +15,6 @@ use Rattle.eap_psk.specs.declared.fault.EapFault.{EapFault}
 use Rattle.eap_psk.specs.declared.fault.EapFault.TheVariants.{Form, OtherSession, BadMac, BadChannel, NoSuccess}
 use Rattle.eap_psk.specs.declared.server.Server.{Server}
 use Rattle.eap_psk.specs.declared.peer.Peer.{Peer}
-use Rattle.mac_frames.specs.declared.head.MacHead.{MacHead}
 use Rattle.node_rules.specs.declared.event.Answer.{Answer}
 use Rattle.node_rules.specs.declared.event.Event.{Event}
 use Rattle.node_rules.specs.declared.event.Event.TheVariants.{Coordinator, Meter, Depot}

@@ -1,10 +1,10 @@
 -- What is shown of a node.
-use Rattle.std.specs.Prelude.{ℕ, Bool, true, false, nat_lt, List, [], ◌∷◌, map, fold, Option, Some, None, if◌then◌else◌}
+use Rattle.std.specs.Prelude.{ℕ, true, false, nat_lt, List, [], ◌∷◌, map, replicate, None, if◌then◌else◌}
 use Rattle.std.specs.Option.{option_map, option_map_or, option_and_then}
 use Rattle.plc_base.specs.Grant.{Granted}
 use Rattle.frame_counters.specs.declared.peer_marks.Peer.{Peer}
 use Rattle.routing_set.specs.declared.entry.RoutingEntry.{RoutingEntry}
-use Rattle.node_rules.specs.Memory.{Line, Memory, Node, address_of}
+use Rattle.node_rules.specs.Memory.{Line, Node, address_of}
 use Rattle.node_rules.specs.Worlds.{Shown, ShownRoute, ShownPeer}
 
 -- # In the order of addresses
@@ -36,7 +36,7 @@ nothing_shown = record {
   key0 = None;
   key1 = None;
   routes = [];
-  floors = [];
+  floors = replicate 16 0;
   peers = [];
 }
 

@@ -1,5 +1,5 @@
 -- What an event does to the world, or why it is not taken.
-use Rattle.std.specs.Prelude.{ℕ, ◌+◌, ◌-◌, Bool, true, false, not, ◌==◌, ◌&&◌, ◌||◌, nat_lt, nat_le, List, [], ◌∷◌, ◌++◌, length, map, is_some, slice_set, position, Option, Some, None, Result, Ok, Err, if◌then◌else◌}
+use Rattle.std.specs.Prelude.{ℕ, ◌+◌, ◌-◌, Bool, true, false, not, ◌==◌, ◌&&◌, ◌||◌, nat_lt, List, [], ◌∷◌, ◌++◌, length, map, is_some, slice_set, position, Option, Some, None, Result, Ok, Err, if◌then◌else◌}
 use Rattle.std.specs.List.{list_any}
 use Rattle.std.specs.Option.{option_map, option_map_or}
 use Rattle.std.specs.FinMap as maps
@@ -31,7 +31,7 @@ use Rattle.node_rules.specs.declared.refusal.RandomFault.TheVariants as randoms
 use Rattle.node_rules.specs.declared.refusal.SendRefusal.TheVariants as sends
 use Rattle.node_rules.specs.Ciphers.{Ciphers}
 use Rattle.node_rules.specs.Frames.{Sent, spelled, arrived}
-use Rattle.node_rules.specs.Memory.{Line, Memory, Node, Role, Coordinator, Meter, Stored, node_address}
+use Rattle.node_rules.specs.Memory.{Line, Memory, Node, Role, Coordinator, Meter, node_address}
 use Rattle.node_rules.specs.Plans.{Plan, Outcome, carry_out, resting, within}
 use Rattle.node_rules.specs.Accepting.{accept}
 use Rattle.node_rules.specs.Calls as calls
@@ -39,9 +39,9 @@ use Rattle.node_rules.specs.Holding.{with_line, give_random}
 use Rattle.node_rules.specs.Meters as meters
 use Rattle.node_rules.specs.Coordinators as center
 use Rattle.node_rules.specs.Opening.{memory_of, remembering, blank_line, first_grant}
-use Rattle.node_rules.specs.Answers.{Reception, Up, Keying, Doneness, only, frame_word, sent_word, random_word, join_word, leave_word, ordered_word, meter_reception, center_reception}
+use Rattle.node_rules.specs.Answers.{Reception, Up, Keying, Doneness, frame_word, sent_word, random_word, join_word, leave_word, ordered_word, meter_reception, center_reception}
 use Rattle.node_rules.specs.Showing.{shown_of}
-use Rattle.node_rules.specs.Worlds.{Flight, World, node_at, flight_at, note_of, is_forged_frame, is_forged_tag, same_eui, Handed, Admission, Shown, Happenings, Sending, Issued, Pairing, Deeds}
+use Rattle.node_rules.specs.Worlds.{Flight, World, node_at, flight_at, note_of, is_forged_frame, is_forged_tag, same_eui, Handed, Admission, Happenings, Issued, Pairing, Deeds}
 
 -- what an event gives: the world after it and what it was, or why it was not taken
 abbrev pub Step : Type 0
@@ -165,7 +165,7 @@ abbrev pub blank_node : Role → Eui → Node
 blank_node role eui = record { role = role; eui = eui; store = record { records = maps.empty; cut = None }; memory = Some (remembering blank_line []) }
 
 abbrev pub center_node : Eui → Key → Node
-center_node eui key = (acts (blank_node Coordinator eui) (Ok tt) (λ m. of_line m (calls.install m.line (first_grant key)))).node
+center_node eui key = (acts (blank_node Coordinator eui) (Ok tt) (λ m. center.begin m (first_grant key))).node
 
 abbrev pub made_node : World → Node → World × Deeds
 made_node w x = (record (set_up w) { nodes = w.nodes ++ x ∷ [] }, deeds (happened w said.Made))

@@ -1,19 +1,15 @@
 -- The world: a line of nodes, what flew on it, and what its next step needs.
-use Rattle.std.specs.Prelude.{ℕ, ◌+◌, ◌-◌, Bool, true, false, not, ◌==◌, ◌&&◌, ◌||◌, nat_lt, List, [], ◌∷◌, ◌++◌, length, map, is_some, slice_get, Option, Some, None, Result, Ok, Err, if◌then◌else◌}
-use Rattle.std.specs.Cmp.Lexicographic.{pointwise}
+use Rattle.std.specs.Prelude.{ℕ, ◌-◌, Bool, false, not, ◌==◌, ◌&&◌, List, [], ◌∷◌, slice_get, Option, None, if◌then◌else◌}
 use Rattle.std.specs.List.{list_any}
-use Rattle.std.specs.Option.{option_map, option_map_or, option_eq}
+use Rattle.std.specs.Option.{option_map_or}
 use Rattle.std.specs.Str.{bytes_eq}
 use Rattle.plc_base.specs.declared.address.Eui.{Eui}
 use Rattle.plc_base.specs.declared.key.Key.{Key}
 use Rattle.plc_base.specs.declared.key.Rand.{Rand}
-use Rattle.plc_base.specs.declared.out_frame.OutFrame.{OutFrame}
 use Rattle.plc_base.specs.declared.tags.PairTag.{PairTag}
 use Rattle.plc_base.specs.declared.tags.PairTag.TheVariants as tags
-use Rattle.plc_base.specs.Grant.{Granted}
 use Rattle.eap_psk.specs.declared.server.Agreed.{Agreed}
 use Rattle.node_rules.specs.declared.event.Answer.{Answer}
-use Rattle.node_rules.specs.declared.event.StepFault.{StepFault}
 use Rattle.node_rules.specs.Memory.{Node}
 
 -- A frame that was sent. It may come any number of times, until it is lost; its octets stay.

@@ -146,7 +146,7 @@ pub enum Answer {
     Waiting,
     /// A flight is lost.
     Lost,
-    /// The routes over a link have ended.
+    /// The routes over a link have ended, or a route error was taken in.
     Broken,
     /// The clock has moved.
     Ticked,
@@ -212,7 +212,7 @@ pub enum Answer {
     IndexActive,
     /// The key at the index was not issued to the meter.
     NotIssued,
-    /// A record of the store has no reading.
+    /// A record of the store has no reading. No run of a line comes to it.
     BadStore,
     /// The octets are no MAC frame.
     Malformed,

@@ -31,7 +31,7 @@ pub enum Path {
 pub struct Accepted {
     /// The way on which it came.
     pub path: Path,
-    /// The octets of its unit.
+    /// The octets of its unit, unread.
     pub payload: FrameBuf,
 }
 
@@ -53,7 +53,7 @@ pub enum Heard {
     Up {
         /// The node that sent it first.
         from: Short,
-        /// The caller's number of the datagram, which came with the frame.
+        /// The caller's number of the datagram: that which came with its frame, or with the first of its pieces.
         note: u32,
         /// The datagram.
         octets: DatagramBuf,
@@ -108,7 +108,7 @@ pub enum MeterHeard {
     Carried,
     /// A challenge is answered.
     Replied,
-    /// The key challenge is taken: the meter has its grant.
+    /// The third message of the joining is taken: the meter has its grant.
     Took(Agreed),
     /// The acceptance is taken note of.
     Noted,

@@ -1,7 +1,7 @@
 //! Why a node refuses: the words of its answers, in the order in which they are tried.
 use thiserror::Error;
 
-/// The node is halted: a store write failed, or its store had no reading when it last restarted.
+/// The node is halted: a store write failed, its store had no reading when it last restarted, or it was told to halt.
 #[derive(Clone, Copy, Debug, PartialEq, Eq, Error)]
 #[error("the node is halted")]
 pub struct Halted;
@@ -15,7 +15,7 @@ pub enum FrameRefusal {
     /// The octets are no MAC frame.
     #[error("the octets are no MAC frame")]
     Malformed,
-    /// The frame has another PAN id, goes to another node, or comes from the node itself.
+    /// The frame has another PAN id, goes to another node or, being plain, to all, or comes from the node itself.
     #[error("the frame is for another node")]
     NotForMe,
     /// The frame is sealed, and the node holds no key at its index.
@@ -35,8 +35,8 @@ pub enum FrameRefusal {
     Store,
 }
 
-/// Why a node drops an accepted frame. They are tried in this order, but for Store, which comes last. After each of them but
-/// Store nothing has changed since the frame was accepted.
+/// Why a node drops an accepted frame. They are tried in this order. After each of them but Store nothing has changed since the
+/// frame was accepted.
 #[derive(Clone, Copy, Debug, PartialEq, Eq, Error)]
 pub enum Dropped {
     /// The payload is no unit, or a unit that may not come on this way.
