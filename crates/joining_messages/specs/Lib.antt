@@ -1,3 +1,4 @@
 pub mod Messages
 pub mod Faults
 pub mod Grants
+pub mod Reading

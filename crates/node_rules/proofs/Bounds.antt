@@ -1,0 +1,75 @@
+-- What plans send and store at most.
+use Rattle.std.proofs.Common.{◌≡◌, ℕ, suc, ◌+◌, ◌≤◌, List, [], ◌∷◌, length, Option, Some, None, Result, refl, ap, arith}
+use Rattle.std.specs.Option.{option_map_or}
+use Rattle.std.proofs.lemmas.List.{length-append}
+use Rattle.plc_base.specs.declared.key.Key.{Key}
+use Rattle.plc_base.specs.Grant.{Granted}
+use Rattle.group_keys.specs.KeyRing as ring
+use Rattle.node_rules.specs.Memory.{Line}
+use Rattle.node_rules.specs.Plans.{Plan, resting}
+use Rattle.node_rules.specs.Doings.{Holder, Ends, Outgoing, letters, sealed_by, sealing_key}
+use Rattle.node_rules.specs.Laws.{IsBounded, HearingIsBounded, AMetersHearingIsBounded, ACentersHearingIsBounded, ASendIsBounded, AJoinIsBounded, AnOrderIsBounded}
+use Rattle.node_rules.proofs.Sizes.{pending_bound}
+use Rattle.node_rules.proofs.Words.{IsDone, InTurn-append, in_turn, counter_turn}
+use Rattle.node_rules.proofs.Shapes.{Shape, Rests, Keeps, Ended}
+use Rattle.node_rules.proofs.HearingShapes.{hear_shape}
+use Rattle.node_rules.proofs.CallShapes.{send_shape, send_command_shape}
+use Rattle.node_rules.proofs.MeterShapes.{meter_shape, joins_shape, leaves_shape}
+use Rattle.node_rules.specs.Ciphers.{network}
+use Rattle.node_rules.proofs.CenterShapes.{center_shape, allow_shape, depot_shape, rekey_shape, activate_self_shape, challenge_shape, activate_shape, kick_shape}
+
+-- # Letters
+
+length-letters : (g : Granted) (key : Key) (first : ℕ) (units : List Outgoing) → length (letters g key first units) ≡ length units
+length-letters g key first [] = refl
+length-letters g key first (o ∷ rest) = ap suc (length-letters g key (first + 1) rest)
+
+with_key : (g : Granted) (key : Option Key) (first : ℕ) (units : List Outgoing) → length (option_map_or (λ k. letters g k first units) key []) ≤ length units
+with_key g None first units = omega arith
+with_key g (Some key) first units = let same = length-letters g key first units in omega arith
+
+sealed_few : (r : ring.Ring) (first : ℕ) (units : List Outgoing) → length (sealed_by r first units) ≤ length units
+sealed_few None first units = omega arith
+sealed_few (Some g) first units = with_key g (sealing_key g) first units
+
+-- # Plans
+
+module _ {M H E : Type 0} (h : Holder M) (ends : Ends E) (m : M) (l : Line) where
+  pub bounded : (p : Plan M (Result H E)) → Shape h ends m (IsDone l) p → IsBounded l p
+  unfolding resting
+  bounded p (Rests answer) = record { frames = λ w. omega arith; writes = tt }
+  bounded p (Keeps n answer) = record { frames = λ w. omega arith; writes = tt }
+  bounded p (Ended d answer f) = record {
+    frames = λ w.
+        let few = f.few (pending_bound l w) in
+        let letters_few = sealed_few (h.line d.memory).ring (h.line d.memory).counter.next d.units in
+        let both = length-append d.plain (sealed_by (h.line d.memory).ring (h.line d.memory).counter.next d.units) in
+        omega arith;
+    writes = in_turn 0 4 _ (InTurn-append 0 3 4 d.puts _ f.turns (counter_turn (h.line d.memory).counter (length d.units)));
+  }
+
+pub hears : HearingIsBounded
+hears l got cost note now = bounded _ _ l l _ (hear_shape l got cost note now)
+
+pub meters_hear : AMetersHearingIsBounded
+meters_hear x m got cost note now = bounded _ _ m m.line _ (meter_shape x m got cost note now)
+
+pub centers_hear : ACentersHearingIsBounded
+centers_hear own m got cost note now = bounded _ _ m m.line _ (center_shape own m got cost note now)
+
+pub sends_bounded : ASendIsBounded
+sends_bounded l to octets note now = (bounded _ _ l l _ (send_shape l to octets note now), bounded _ _ l l _ (send_command_shape l to octets now))
+
+pub joins_bounded : AJoinIsBounded
+joins_bounded x m agent now = (bounded _ _ m m.line _ (joins_shape x m agent now), bounded _ _ m m.line _ (leaves_shape x m))
+
+pub orders_bounded : AnOrderIsBounded
+orders_bounded own m eui key index now = (
+  bounded _ _ m m.line _ (allow_shape (record { eui = own; ciphers = network }) m eui key),
+  bounded _ _ m m.line _ (depot_shape (record { eui = own; ciphers = network }) m eui key),
+  bounded _ _ m m.line _ (rekey_shape (record { eui = own; ciphers = network }) m index key),
+  bounded _ _ m m.line _ (activate_self_shape (record { eui = own; ciphers = network }) m index),
+  bounded _ _ m m.line _ (challenge_shape (record { eui = own; ciphers = network }) m eui now),
+  bounded _ _ m m.line _ (activate_shape (record { eui = own; ciphers = network }) m eui index now),
+  bounded _ _ m m.line _ (kick_shape (record { eui = own; ciphers = network }) m eui),
+)

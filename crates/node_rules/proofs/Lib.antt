@@ -1,0 +1,14 @@
+pub mod Witness
+pub mod Writing
+pub mod Halting
+pub mod Sizes
+pub mod Words
+pub mod Shapes
+pub mod HearingShapes
+pub mod CallShapes
+pub mod HoldingShapes
+pub mod MeterShapes
+pub mod CenterShapes
+pub mod Refusals
+pub mod Bounds
+pub mod StepsOn

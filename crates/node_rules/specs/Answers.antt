@@ -1,0 +1,172 @@
+-- The words of the report for what the calls of a node answer.
+use Rattle.std.specs.Prelude.{ℕ, List, Option, Some, None, Result, Ok, Err}
+use Rattle.plc_base.specs.declared.address.Eui.{Eui}
+use Rattle.plc_base.specs.Grant.{Granted}
+use Rattle.eap_psk.specs.declared.server.Agreed.{Agreed}
+use Rattle.node_rules.specs.declared.event.Answer.{Answer}
+use Rattle.node_rules.specs.declared.event.Answer.TheVariants as said
+use Rattle.node_rules.specs.declared.refusal.FrameRefusal.{FrameRefusal}
+use Rattle.node_rules.specs.declared.refusal.FrameRefusal.TheVariants as frames
+use Rattle.node_rules.specs.declared.refusal.Dropped.{Dropped}
+use Rattle.node_rules.specs.declared.refusal.Dropped.TheVariants as drops
+use Rattle.node_rules.specs.declared.refusal.SendRefusal.{SendRefusal}
+use Rattle.node_rules.specs.declared.refusal.SendRefusal.TheVariants as sends
+use Rattle.node_rules.specs.declared.refusal.RandomFault.{RandomFault}
+use Rattle.node_rules.specs.declared.refusal.RandomFault.TheVariants as randoms
+use Rattle.node_rules.specs.declared.refusal.JoinRefusal.{JoinRefusal}
+use Rattle.node_rules.specs.declared.refusal.JoinRefusal.TheVariants as joins
+use Rattle.node_rules.specs.declared.refusal.LeaveRefusal.{LeaveRefusal}
+use Rattle.node_rules.specs.declared.refusal.LeaveRefusal.TheVariants as leaves
+use Rattle.node_rules.specs.declared.refusal.CoordRefusal.{CoordRefusal}
+use Rattle.node_rules.specs.declared.refusal.CoordRefusal.TheVariants as orders
+use Rattle.node_rules.specs.declared.heard.SentHow.{SentHow}
+use Rattle.node_rules.specs.declared.heard.SentHow.TheVariants as how
+use Rattle.node_rules.specs.declared.heard.Heard.{Heard}
+use Rattle.node_rules.specs.declared.heard.Heard.TheVariants as line
+use Rattle.node_rules.specs.declared.heard.MeterHeard.{MeterHeard}
+use Rattle.node_rules.specs.declared.heard.MeterHeard.TheVariants as meter
+use Rattle.node_rules.specs.declared.heard.CoordHeard.{CoordHeard}
+use Rattle.node_rules.specs.declared.heard.CoordHeard.TheVariants as center
+
+-- # Refusals
+
+abbrev pub frame_word : FrameRefusal → Answer
+frame_word frames.Halted = said.Halted
+frame_word frames.Malformed = said.Malformed
+frame_word frames.NotForMe = said.NotForMe
+frame_word frames.NoKey = said.NoKey
+frame_word frames.BadTag = said.BadTag
+frame_word frames.Replayed = said.Replayed
+frame_word frames.PeersFull = said.PeersFull
+frame_word frames.Store = said.Store
+
+abbrev pub drop_word : Dropped → Answer
+drop_word drops.BadUnit = said.BadUnit
+drop_word drops.NoRoute = said.NoRoute
+drop_word drops.HopsSpent = said.HopsSpent
+drop_word drops.NotBetter = said.NotBetter
+drop_word drops.CostSpent = said.CostSpent
+drop_word drops.RoutesFull = said.RoutesFull
+drop_word drops.NotAllowed = said.NotAllowed
+drop_word drops.NoSession = said.NoSession
+drop_word drops.SessionsFull = said.SessionsFull
+drop_word drops.NoRandom = said.NoRandom
+drop_word drops.Form = said.Form
+drop_word drops.OtherSession = said.OtherSession
+drop_word drops.BadMac = said.BadMac
+drop_word drops.BadChannel = said.BadChannel
+drop_word drops.NoSuccess = said.NoSuccess
+drop_word drops.NotHeld = said.NotHeld
+drop_word drops.BufferFull = said.BufferFull
+drop_word drops.SeqSpent = said.SeqSpent
+drop_word drops.CounterSpent = said.CounterSpent
+drop_word drops.Store = said.Store
+
+abbrev pub send_word : SendRefusal → Answer
+send_word sends.Halted = said.Halted
+send_word sends.NotJoined = said.NotJoined
+send_word sends.BadSize = said.BadSize
+send_word sends.ToSelf = said.ToSelf
+send_word sends.WaitingFull = said.WaitingFull
+send_word sends.SeqSpent = said.SeqSpent
+send_word sends.CounterSpent = said.CounterSpent
+send_word sends.Store = said.Store
+
+abbrev pub order_word : CoordRefusal → Answer
+order_word orders.Halted = said.Halted
+order_word orders.MetersFull = said.MetersFull
+order_word orders.NotAllowed = said.NotAllowed
+order_word orders.IndexActive = said.IndexActive
+order_word orders.NotHeld = said.NotHeld
+order_word orders.NotIssued = said.NotIssued
+order_word orders.SessionsFull = said.SessionsFull
+order_word orders.NoRandom = said.NoRandom
+order_word orders.WaitingFull = said.WaitingFull
+order_word orders.SeqSpent = said.SeqSpent
+order_word orders.CounterSpent = said.CounterSpent
+order_word orders.Store = said.Store
+
+-- # Answers of calls
+
+abbrev pub sent_word : Result SentHow SendRefusal → Answer
+sent_word (Ok how.Sent) = said.Sent
+sent_word (Ok how.Waiting) = said.Waiting
+sent_word (Err reason) = send_word reason
+
+abbrev pub random_word : Result (Unit {0}) RandomFault → Answer
+random_word (Ok u) = said.Given
+random_word (Err randoms.Halted) = said.Halted
+random_word (Err randoms.RandomsFull) = said.RandomsFull
+
+abbrev pub join_word : Result (Unit {0}) JoinRefusal → Answer
+join_word (Ok u) = said.Asked
+join_word (Err joins.Halted) = said.Halted
+join_word (Err joins.AlreadyJoined) = said.AlreadyJoined
+
+abbrev pub leave_word : Result (Unit {0}) LeaveRefusal → Answer
+leave_word (Ok u) = said.Left
+leave_word (Err leaves.Halted) = said.Halted
+leave_word (Err leaves.NotJoined) = said.NotJoined
+leave_word (Err leaves.Store) = said.Store
+
+-- of an order that was carried out
+abbrev pub ordered_word : {A : Type 0} → Answer → Result A CoordRefusal → Answer
+ordered_word word (Ok a) = word
+ordered_word word (Err reason) = order_word reason
+
+-- # What a node made of a frame
+
+-- A datagram that was handed up, under the note that came with it.
+pub record Up : Type 0 where
+  pub note : ℕ
+  pub octets : List ℕ
+
+-- A grant that went out to a meter, and a joining that is done with one.
+pub record Keying : Type 0 where
+  pub eui : Eui
+  pub granted : Granted
+
+pub record Doneness : Type 0 where
+  pub eui : Eui
+  pub agreed : Agreed
+
+pub record Reception : Type 0 where
+  pub answer : Answer
+  pub up : Option Up
+  pub keyed : Option Keying
+  pub took : Option Agreed
+  pub done : Option Doneness
+
+abbrev pub only : Answer → Reception
+only answer = record { answer = answer; up = None; keyed = None; took = None; done = None }
+
+-- a joining command is never left unread by a node, and no line of a script uses the commands 03, 04 and 05 yet
+abbrev pub line_reception : Heard → Reception
+line_reception (line.Up from note octets) = record (only said.Up) { up = Some (record { note = note; octets = octets }) }
+line_reception line.Held = only said.Held
+line_reception line.Relayed = only said.Relayed
+line_reception line.Answered = only said.Answered
+line_reception line.Learned = only said.Learned
+line_reception line.Broken = only said.Broken
+line_reception line.Reported = only said.Reported
+line_reception (line.Joining way body) = only said.BadUnit
+line_reception (line.Local from all code body) = only said.BadUnit
+
+abbrev pub meter_reception : Result MeterHeard Dropped → Reception
+meter_reception (Ok (meter.Line h)) = line_reception h
+meter_reception (Ok meter.Carried) = only said.Carried
+meter_reception (Ok meter.Replied) = only said.Replied
+meter_reception (Ok (meter.Took agreed)) = record (only said.Took) { took = Some agreed }
+meter_reception (Ok meter.Noted) = only said.Noted
+meter_reception (Ok meter.Declined) = only said.Declined
+meter_reception (Ok meter.Left) = only said.Left
+meter_reception (Ok meter.Activated) = only said.Activated
+meter_reception (Err reason) = only (drop_word reason)
+
+abbrev pub center_reception : Result CoordHeard Dropped → Reception
+center_reception (Ok (center.Line h)) = line_reception h
+center_reception (Ok center.Challenged) = only said.Challenged
+center_reception (Ok (center.Keyed eui granted)) = record (only said.Keyed) { keyed = Some (record { eui = eui; granted = granted }) }
+center_reception (Ok (center.Done eui agreed)) = record (only said.Done) { done = Some (record { eui = eui; agreed = agreed }) }
+center_reception (Ok center.Declined) = only said.Declined
+center_reception (Err reason) = only (drop_word reason)

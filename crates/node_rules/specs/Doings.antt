@@ -1,0 +1,252 @@
+-- The words that rules are made of: each one phrase of what a node does on the line.
+use Rattle.std.specs.Prelude.{ℕ, ◌+◌, ◌-◌, ◌%◌, Bool, true, false, not, ◌==◌, nat_lt, nat_le, List, [], ◌∷◌, ◌++◌, length, map, drop, Option, Some, None, is_some, Result, Ok, Err, if◌then◌else◌}
+use Rattle.std.specs.List.{filter, list_any, sum_by, flat_map}
+use Rattle.std.specs.Int.{div_ceil}
+use Rattle.std.specs.Option.{option_map_or}
+use Rattle.byteorder.specs.Endian.{big_bytes}
+use Rattle.octet_fields.specs.Faults.{◌then◌, ◌when◌}
+use Rattle.plc_base.specs.declared.tags.PairTag.{PairTag}
+use Rattle.plc_base.specs.declared.key.Key.{Key}
+use Rattle.plc_base.specs.Grant.{Granted, key_at}
+use Rattle.plc_base.specs.Keeper.{Write}
+use Rattle.plc_base.specs.Writes.{puts_of}
+use Rattle.frame_counters.specs.SendCounter as counter
+use Rattle.group_keys.specs.KeyRing as ring
+use Rattle.routing_set.specs.declared.rank.Rank.{Rank}
+use Rattle.routing_set.specs.RoutingSet as routing
+use Rattle.routing_set.specs.OwnNumber as own_number
+use Rattle.fragment_buffers.specs.Cutting as cutting
+use Rattle.mesh_header.specs.declared.unit.Mesh.{Mesh}
+use Rattle.mesh_header.specs.declared.unit.Unit.{Unit}
+use Rattle.mesh_header.specs.declared.unit.Unit.TheVariants.{Whole, Part, Carried, Local}
+use Rattle.loadng_messages.specs.declared.message.Message.{Message}
+use Rattle.loadng_messages.specs.declared.message.Message.TheVariants.{Rreq}
+use Rattle.loadng_messages.specs.Grammar as messages
+use Rattle.node_rules.specs.Frames.{Sent, Sealed, to_all}
+use Rattle.node_rules.specs.Memory.{Line, Body, Load, Datagram, Command, load_octets, next_hop}
+use Rattle.node_rules.specs.Plans.{Plan, resting}
+
+-- A unit on its way out, which is not sealed yet.
+pub record Outgoing : Type 0 where
+  pub to : ℕ
+  pub unit : Unit
+  pub note : ℕ
+
+-- What is being done, up to the sealing of its units, which comes last.
+pub record Doing (M : Type 0) : Type 0 where
+  -- the store writes so far, in order
+  pub puts : List Write
+  -- the memory that is left
+  pub memory : M
+  -- the units to be sealed, and the plain frames, in order
+  pub units : List Outgoing
+  pub plain : List Sent
+  pub made : List PairTag
+  pub opened : List PairTag
+
+-- nothing is done yet
+unfoldable pub begun : {M : Type 0} → M → Doing M
+begun m = record { puts = []; memory = m; units = []; plain = []; made = []; opened = [] }
+
+-- # Words of what is stored and kept
+
+-- the rank of an address is offered by a next hop: floors and rank are stored, and the route is valid
+unfoldable pub ranked : ℕ → Rank → ℕ → ℕ → Doing Line → Doing Line
+ranked dest rank by now d = record d {
+  puts = d.puts ++ routing.offer_writes d.memory.routing dest rank by now;
+  memory = record d.memory { routing = routing.offered d.memory.routing dest rank by now };
+}
+
+-- an own number is taken
+unfoldable pub numbered : Doing Line → Doing Line
+numbered d = record d {
+  puts = d.puts ++ puts_of (own_number.advance_write d.memory.own_number);
+  memory = record d.memory { own_number = own_number.advanced d.memory.own_number };
+}
+
+-- the number that is taken
+abbrev pub number_of : Doing Line → ℕ
+number_of d = d.memory.own_number.last + 1
+
+-- the slot of the next datagram tag
+abbrev pub tag_slot : ℕ
+tag_slot = 4
+
+abbrev pub tag_after : ℕ → ℕ
+tag_after tag = (tag + 1) % 65536
+
+-- the tag of a datagram is taken: the next one is stored
+unfoldable pub tagged : Doing Line → Doing Line
+tagged d = record d {
+  puts = d.puts ++ record { slot = tag_slot; octets = big_bytes 2 (tag_after d.memory.next_tag) } ∷ [];
+  memory = record d.memory { next_tag = tag_after d.memory.next_tag };
+}
+
+-- the ring is another one
+unfoldable pub ringed : ring.Ring → Doing Line → Doing Line
+ringed r d = record d { puts = d.puts ++ puts_of (ring.ring_write r); memory = record d.memory { ring = r } }
+
+-- the routes are other ones, of which nothing is stored
+unfoldable pub rerouted : (routing.Routing → routing.Routing) → Doing Line → Doing Line
+rerouted change d = record d { memory = record d.memory { routing = change d.memory.routing } }
+
+-- # Words of what goes out
+
+-- a unit goes to one node or to all
+unfoldable pub goes : ℕ → Unit → ℕ → Doing Line → Doing Line
+goes to unit note d = record d { units = d.units ++ record { to = to; unit = unit; note = note } ∷ [] }
+
+-- a route message goes to one node or to all
+abbrev pub tells : ℕ → Message → Doing Line → Doing Line
+tells to message d = goes to (Local 1 (messages.spelling message)) 0 d
+
+-- the mesh header of what a node sends itself: 14 hops are left to it
+abbrev pub own_mesh : ℕ → ℕ → Mesh
+own_mesh own to = record { hops = 14; origin = own; to = to }
+
+-- the units of a body: a datagram that fits goes whole, a longer one in pieces, and a command behind its code
+abbrev pub units_of : ℕ → ℕ → Load → List Unit
+units_of own to (Datagram octets tag) =
+    if nat_le (length octets) 375 then Whole (own_mesh own to) octets ∷ []
+    else map (λ piece. Part (own_mesh own to) piece) (cutting.cut octets tag)
+units_of own to (Command octets) = Carried (own_mesh own to) (drop 1 octets) ∷ []
+
+abbrev pub all_go : ℕ → ℕ → List Unit → List Outgoing
+all_go hop note units = map (λ unit. record { to = hop; unit = unit; note = note }) units
+
+-- a body goes to a next hop
+unfoldable pub body_goes : ℕ → ℕ → ℕ → ℕ → Load → Doing Line → Doing Line
+body_goes own hop to note load d = record d { units = d.units ++ all_go hop note (units_of own to load) }
+
+-- # Bodies that wait
+
+abbrev pub waits_for : ℕ → Body → Bool
+waits_for dest b = b.to == dest
+
+-- whether something waits for an address
+abbrev pub is_awaited : Line → ℕ → Bool
+is_awaited l dest = list_any (waits_for dest) l.waiting
+
+-- a body waits from now on
+unfoldable pub waits : ℕ → ℕ → Load → ℕ → Doing Line → Doing Line
+waits to note load now d =
+    record d { memory = record d.memory { waiting = d.memory.waiting ++ record { to = to; note = note; since = now; load = load } ∷ [] } }
+
+-- an own number is taken, and a request for the route to an address goes to all
+abbrev pub seeks : ℕ → ℕ → Doing Line → Doing Line
+seeks own dest d = tells to_all (Rreq (number_of d) 0 own dest) (numbered d)
+
+-- the route is sought unless something waits for it already
+unfoldable pub seeks_once : ℕ → ℕ → Doing Line → Doing Line
+seeks_once own dest d = if is_awaited d.memory dest then d else seeks own dest d
+
+-- a body goes on its way to an address: by the valid route, or it waits for one
+abbrev pub sets_out : ℕ → ℕ → ℕ → Load → ℕ → Doing Line → Doing Line
+sets_out own to note load now d = set_out_by (next_hop d.memory to)
+  where
+    set_out_by : Option ℕ → Doing Line
+    set_out_by None = waits to note load now (seeks_once own to d)
+    set_out_by (Some hop) = body_goes own hop to note load d
+
+-- the bodies that wait for an address leave by this hop, in the order of their arrival
+unfoldable pub leave : ℕ → ℕ → ℕ → Doing Line → Doing Line
+leave own dest hop d = record d {
+  units = d.units ++ flat_map (λ b. all_go hop b.note (units_of own b.to b.load)) (filter (waits_for dest) d.memory.waiting);
+  memory = record d.memory { waiting = filter (λ b. not (waits_for dest b)) d.memory.waiting };
+}
+
+-- # What stands in the way of a body
+
+-- There is no room for a body that waits, or an own number is needed and they are spent.
+pub data Lack : Type 0 where
+  OfRoom : Lack
+  OfNumbers : Lack
+
+-- blocks of 64 octets, rounded up
+abbrev pub blocks : ℕ → ℕ
+blocks octets = div_ceil octets 64
+
+abbrev pub blocks_waiting : Line → ℕ
+blocks_waiting l = sum_by (λ (b : Body). blocks (length (load_octets b.load))) l.waiting
+
+-- whether a body of so many octets more can't wait: 8 bodies wait, or their blocks pass 80
+abbrev pub no_room : Line → ℕ → Bool
+no_room l octets = if nat_lt (length l.waiting) 8 then nat_lt 80 (blocks_waiting l + blocks octets) else true
+
+abbrev pub numbers_spent : Line → Bool
+numbers_spent l = own_number.is_spent l.own_number
+
+-- what a body of so many octets for an address lacks, if it lacks something: with a route nothing
+unfoldable pub lack : Line → ℕ → ℕ → Option Lack
+lack l to octets =
+    if is_some (next_hop l to) then None
+    else (Some OfRoom when no_room l octets
+    then Some OfNumbers when (if is_awaited l to then false else numbers_spent l))
+
+-- # Sealing
+
+-- how many counters are left
+abbrev pub counters_left : Line → ℕ
+counters_left l = 4294967295 - l.counter.next
+
+-- the key that seals
+abbrev pub sealing_key : Granted → Option Key
+sealing_key g = key_at g g.active
+
+-- units as letters, with counters from the first on
+abbrev pub letters : Granted → Key → ℕ → List Outgoing → List Sent
+letters g key first [] = []
+letters g key first (o ∷ rest) =
+    Sealed (record { to = o.to; from = g.address; counter = first; index = g.active; key = key; unit = o.unit; note = o.note })
+    ∷ letters g key (first + 1) rest
+
+-- a node without a ring seals nothing
+abbrev pub sealed_by : ring.Ring → ℕ → List Outgoing → List Sent
+sealed_by None first units = []
+sealed_by (Some g) first units = option_map_or (λ key. letters g key first units) (sealing_key g) []
+
+-- where a memory holds what a node is on the line
+pub record Holder (M : Type 0) : Type 0 where
+  pub line : M → Line
+  pub with_line : Line → M → M
+
+-- the line alone
+abbrev pub alone : Holder Line
+alone = record { line = λ l. l; with_line = λ l m. l }
+
+-- the counters of so many frames are taken
+abbrev pub counted : {M : Type 0} → Holder M → ℕ → M → M
+counted h count m = h.with_line (record (h.line m) { counter = counter.reserved (h.line m).counter count }) m
+
+-- What refusals of a kind of answer say that the counters are spent, and that a store write failed.
+pub record Ends (E : Type 0) : Type 0 where
+  pub spent : E
+  pub store : E
+
+abbrev pub refused : {M H E : Type 0} → Ends E → M → E → Plan M (Result H E)
+refused ends m reason = resting m (Err reason) (Err ends.store)
+
+-- the doing is carried to its end: the counter of its letters is the last to be stored, and the ring that is left seals them
+abbrev pub sealing : {M H E : Type 0} → Holder M → Ends E → Doing M → H → Plan M (Result H E)
+sealing h ends d answer = record {
+  answer = Ok answer;
+  failed = Err ends.store;
+  puts = d.puts ++ puts_of (counter.reserve_write (h.line d.memory).counter (length d.units));
+  memory = counted h (length d.units) d.memory;
+  frames = d.plain ++ sealed_by (h.line d.memory).ring (h.line d.memory).counter.next d.units;
+  made = d.made;
+  opened = d.opened;
+}
+
+-- refused where fewer counters are left than units are to be sealed
+unfoldable pub sealed : {M H E : Type 0} → Holder M → Ends E → M → Doing M → H → Plan M (Result H E)
+sealed h ends m d answer = if nat_lt (counters_left (h.line m)) (length d.units) then refused ends m ends.spent else sealing h ends d answer
+
+-- the first fault refuses
+unfoldable pub checked : {M H E : Type 0} → Ends E → M → Option E → Plan M (Result H E) → Plan M (Result H E)
+checked ends m None plan = plan
+checked ends m (Some reason) plan = refused ends m reason
+
+-- a choice of two plans
+unfoldable pub choose : {M A : Type 0} → Bool → Plan M A → Plan M A → Plan M A
+choose test p q = if test then p else q

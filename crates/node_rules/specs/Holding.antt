@@ -1,0 +1,102 @@
+-- The same words over all that a meter or the coordinator holds in memory.
+use Rattle.std.specs.Prelude.{ℕ, List, [], ◌∷◌, ◌++◌, length, drop, nat_lt, Option, Some, None, Result, Ok, Err, slice_get}
+use Rattle.std.specs.Option.{option_map, option_map_or}
+use Rattle.plc_base.specs.declared.address.Eui.{Eui}
+use Rattle.plc_base.specs.declared.key.Rand.{Rand}
+use Rattle.plc_base.specs.declared.tags.PairTag.{PairTag}
+use Rattle.joining_messages.specs.declared.message.JoinMessage.{JoinMessage}
+use Rattle.eap_psk.specs.declared.fault.EapFault.{EapFault}
+use Rattle.eap_psk.specs.declared.fault.EapFault.TheVariants as eap
+use Rattle.node_rules.specs.declared.heard.Way.{Way}
+use Rattle.node_rules.specs.declared.heard.Heard.{Heard}
+use Rattle.node_rules.specs.declared.heard.Heard.TheVariants.{Joining}
+use Rattle.node_rules.specs.declared.refusal.Dropped.{Dropped}
+use Rattle.node_rules.specs.declared.refusal.Dropped.TheVariants as drops
+use Rattle.node_rules.specs.declared.refusal.RandomFault.{RandomFault}
+use Rattle.node_rules.specs.declared.refusal.RandomFault.TheVariants.{RandomsFull}
+use Rattle.node_rules.specs.Frames.{Up, Down}
+use Rattle.node_rules.specs.Memory.{Line, Memory, Command, address_of}
+use Rattle.node_rules.specs.Plans.{Plan}
+use Rattle.node_rules.specs.Doings.{Doing, Holder, Ends, begun, refused, sealing, choose, sets_out, lack}
+use Rattle.node_rules.specs.Hearing.{dropped_for}
+use Rattle.node_rules.specs.Joining.{command_of}
+
+abbrev pub with_line : Line → Memory → Memory
+with_line l m = record m { line = l }
+
+abbrev pub in_memory : Holder Memory
+in_memory = record { line = λ m. m.line; with_line = with_line }
+
+-- what is being done on the line, and the same back in the memory
+abbrev pub line_part : Doing Memory → Doing Line
+line_part d = record { puts = d.puts; memory = d.memory.line; units = d.units; plain = d.plain; made = d.made; opened = d.opened }
+
+abbrev pub memory_part : Doing Memory → Doing Line → Doing Memory
+memory_part d l = record { puts = l.puts; memory = with_line l.memory d.memory; units = l.units; plain = l.plain; made = l.made; opened = l.opened }
+
+-- a word of the line
+unfoldable pub on_line : (Doing Line → Doing Line) → Doing Memory → Doing Memory
+on_line word d = memory_part d (word (line_part d))
+
+-- a change of the memory beside the line, of which nothing is stored
+unfoldable pub remembered : (Memory → Memory) → Doing Memory → Doing Memory
+remembered change d = record d { memory = change d.memory }
+
+-- pair tags are made, and checked
+unfoldable pub tagged_with : List PairTag → List PairTag → Doing Memory → Doing Memory
+tagged_with made opened d = record d { made = d.made ++ made; opened = d.opened ++ opened }
+
+-- a plain frame goes up to an agent, or down to the node of its message
+unfoldable pub goes_up : ℕ → Eui → JoinMessage → Doing Memory → Doing Memory
+goes_up agent own message d = record d { plain = d.plain ++ Up agent own message ∷ [] }
+
+unfoldable pub goes_down : ℕ → JoinMessage → Doing Memory → Doing Memory
+goes_down own message d = record d { plain = d.plain ++ Down own message ∷ [] }
+
+-- a joining message sets out in a command, from the address of the ring that is left
+unfoldable pub is_commanded : ℕ → JoinMessage → ℕ → Doing Memory → Doing Memory
+is_commanded to message now d =
+    option_map_or (λ own. on_line (sets_out own to 0 (Command (command_of message)) now) d) (address_of d.memory.line) d
+
+-- what such a command lacks
+abbrev pub command_lack : Memory → ℕ → JoinMessage → Option Dropped
+command_lack m to message = option_map dropped_for (lack m.line to (length (command_of message)))
+
+-- # Random values
+
+-- the oldest random value, and the memory without it
+abbrev pub oldest : Memory → Option Rand
+oldest m = slice_get m.randoms 0
+
+abbrev pub without_oldest : Memory → Memory
+without_oldest m = record m { randoms = drop 1 m.randoms }
+
+abbrev pub given_ends : Ends RandomFault
+given_ends = record { spent = RandomsFull; store = RandomsFull }
+
+-- a random value more, of which 8 are held at most
+abbrev pub give_random : Memory → Rand → Plan Memory (Result (Unit {0}) RandomFault)
+give_random m value =
+    choose (nat_lt 7 (length m.randoms)) (refused given_ends m RandomsFull)
+    (sealing in_memory given_ends (remembered (λ n. record n { randoms = n.randoms ++ value ∷ [] }) (begun m)) tt)
+
+-- # Joining commands that the station hands on
+
+-- A joining command for this node, unread.
+pub record Unread : Type 0 where
+  pub way : Way
+  pub body : List ℕ
+
+-- whether a station's answer is one
+abbrev pub unread : Result Heard Dropped → Option Unread
+unread (Err reason) = None
+unread (Ok (Joining way body)) = Some (record { way = way; body = body })
+unread (Ok _) = None
+
+-- the faults of a packet among the reasons of a drop
+abbrev pub packet_fault : EapFault → Dropped
+packet_fault eap.Form = drops.Form
+packet_fault eap.OtherSession = drops.OtherSession
+packet_fault eap.BadMac = drops.BadMac
+packet_fault eap.BadChannel = drops.BadChannel
+packet_fault eap.NoSuccess = drops.NoSuccess

@@ -1,0 +1,271 @@
+-- What holds of the rules whatever a node holds and whatever comes.
+use Rattle.std.specs.Option.{option_map}
+use Rattle.std.specs.Prelude.{IfSome, ◌<◌, ◌≡◌, ◌⊎◌, ℕ, ◌-◌, ◌≤◌, ◌==◌, All, List, [], ◌∷◌, ◌++◌, length, Option, Some, None, Result, Ok, Err, true, ◌+◌, if◌then◌else◌}
+use Rattle.std.specs.FinMap.{insert}
+use Rattle.plc_base.specs.declared.keeper.Cut.{Cut}
+use Rattle.plc_base.specs.Keeper.{Records, Write}
+use Rattle.plc_base.specs.declared.address.Eui.{Eui}
+use Rattle.plc_base.specs.declared.key.Key.{Key}
+use Rattle.node_rules.specs.declared.heard.Accepted.{Accepted}
+use Rattle.node_rules.specs.declared.refusal.Dropped.TheVariants as drops
+use Rattle.node_rules.specs.declared.refusal.FrameRefusal.TheVariants as frames
+use Rattle.node_rules.specs.declared.refusal.SendRefusal.TheVariants as sends
+use Rattle.node_rules.specs.declared.refusal.JoinRefusal.TheVariants as joins
+use Rattle.node_rules.specs.declared.refusal.LeaveRefusal.TheVariants as leaves
+use Rattle.node_rules.specs.declared.refusal.CoordRefusal.TheVariants as orders
+use Rattle.node_rules.specs.declared.event.Event.{Event}
+use Rattle.plc_base.specs.declared.tags.PairTag.{PairTag}
+use Rattle.node_rules.specs.Worlds.{World, Flight, Deeds}
+use Rattle.node_rules.specs.Ciphers.{Ciphers}
+use Rattle.node_rules.specs.Frames.{Arrived}
+use Rattle.node_rules.specs.Accepting.{accept}
+use Rattle.node_rules.specs.Hearing.{hear}
+use Rattle.node_rules.specs.Calls as calls
+use Rattle.node_rules.specs.Meters as meters
+use Rattle.node_rules.specs.Coordinators as center
+use Rattle.node_rules.specs.Doings.{blocks_waiting}
+use Rattle.node_rules.specs.Memory.{Line, Body, Load, Datagram, Command, Memory, Node, node_address, node_route}
+use Rattle.node_rules.specs.Plans.{Plan, Outcome, carry_out}
+use Rattle.node_rules.specs.Steps.{acts, stays, step}
+
+-- # Store writes that fail
+
+-- the records with all these writes made, in order
+abbrev pub all_put : List Write → Records → Records
+all_put [] records = records
+all_put (w ∷ rest) records = all_put rest (insert records w.slot w.octets)
+
+-- the loss of power that is still to come after so many writes
+abbrev pub nearer_by : ℕ → Cut → Cut
+nearer_by count cut = record cut { nth = cut.nth - count }
+
+-- A plan that was carried out to its end: the loss of power was to come behind its writes.
+pub record IsWhole {M A : Type 0} (records : Records) (cut : Option Cut) (p : Plan M A) (o : Outcome M A) : Type 0 where
+  pub spared : IfSome cut (λ c. (p.puts ≡ []) ⊎ (length p.puts < c.nth))
+  pub cut_left : o.cut ≡ option_map (nearer_by (length p.puts)) cut
+  pub answer : o.answer ≡ p.answer
+  pub left : o.records ≡ all_put p.puts records
+  pub memory : o.memory ≡ Some p.memory
+  pub frames : o.frames ≡ p.frames
+  pub made : o.made ≡ p.made
+  pub opened : o.opened ≡ p.opened
+
+-- A plan one of whose writes failed: those in front of it were made, and the failed one as the loss of power says, which is over.
+pub record IsCutOff {M A : Type 0} (records : Records) (cut : Option Cut) (p : Plan M A) (o : Outcome M A) : Type 0 where
+  pub front : List Write
+  pub write : Write
+  pub rest : List Write
+  pub split : p.puts ≡ front ++ write ∷ rest
+  pub by : Cut
+  pub loss : cut ≡ Some by
+  pub place : length front ≡ by.nth - 1
+  pub left : o.records ≡ (if by.keeps_new then all_put (front ++ write ∷ []) records else all_put front records)
+  pub cut_left : o.cut ≡ None
+  pub answer : o.answer ≡ p.failed
+  pub memory : o.memory ≡ None
+  pub frames : o.frames ≡ []
+  pub made : o.made ≡ []
+  pub opened : o.opened ≡ p.opened
+
+-- a plan is carried out whole, or up to the one write that fails
+abbrev pub WritesFailCleanly : Type 0 → Type 0 → Type 0
+WritesFailCleanly M A =
+    (records : Records) (cut : Option Cut) (p : Plan M A)
+    → IsWhole records cut p (carry_out records cut p) ⊎ IsCutOff records cut p (carry_out records cut p)
+
+-- where no loss of power is to come, every plan is carried out whole, and none is to come after it either
+abbrev pub NoCutNoFailure : Type 0 → Type 0 → Type 0
+NoCutNoFailure M A = (records : Records) (p : Plan M A) → IsWhole records None p (carry_out records None p)
+
+-- # Halted nodes
+
+-- a halted node has no address and no route
+abbrev pub HaltedHasNoAddress : Type 0
+HaltedHasNoAddress = (x : Node) → x.memory ≡ None → (node_address x ≡ None) × ((dest : ℕ) → node_route x dest ≡ None)
+
+-- nor has one without a ring
+abbrev pub RinglessHasNoAddress : Type 0
+RinglessHasNoAddress = (x : Node) (m : Memory) → x.memory ≡ Some m → m.line.ring ≡ None → (node_address x ≡ None) × ((dest : ℕ) → node_route x dest ≡ None)
+
+-- a halted node answers each call with the word of halted nodes, and nothing changes, is sent, made or checked
+abbrev pub HaltedDoesNothing : Type 0 → Type 0
+HaltedDoesNothing A = (x : Node) (halted : A) (plan : Memory → Plan Memory A) → x.memory ≡ None → acts x halted plan ≡ stays x halted
+
+-- # Refusals
+
+-- A plan that changes nothing of a memory.
+pub record ChangesNothing {M A : Type 0} (m : M) (p : Plan M A) : Type 0 where
+  pub puts : p.puts ≡ []
+  pub memory : p.memory ≡ m
+  pub frames : p.frames ≡ []
+  pub made : p.made ≡ []
+  pub opened : p.opened ≡ []
+
+-- a plan that refuses changes nothing, and every plan answers this word where a store write fails
+abbrev pub RefusesCleanly : {M H E : Type 0} → E → M → Plan M (Result H E) → Type 0
+RefusesCleanly store m p = (p.failed ≡ Err store) × ((reason : _) → p.answer ≡ Err reason → ChangesNothing m p)
+
+-- a frame that is not accepted changes nothing
+abbrev pub AFrameRefusedChangesNothing : Type 0
+AFrameRefusedChangesNothing = (l : Line) (own : Eui) (a : Option Arrived) → RefusesCleanly frames.Store l (accept l own a)
+
+-- a frame that is dropped changes nothing: of a station, of a meter, and of the coordinator
+abbrev pub ADropChangesNothing : Type 0
+ADropChangesNothing = (l : Line) (got : Accepted) (cost note now : ℕ) → RefusesCleanly drops.Store l (hear l got cost note now)
+
+abbrev pub AMetersDropChangesNothing : Type 0
+AMetersDropChangesNothing =
+    (x : meters.Identity) (m : Memory) (got : Accepted) (cost note now : ℕ) → RefusesCleanly drops.Store m (meters.hear_meter x m got cost note now)
+
+abbrev pub ACentersDropChangesNothing : Type 0
+ACentersDropChangesNothing =
+    (own : center.Center) (m : Memory) (got : Accepted) (cost note now : ℕ) → RefusesCleanly drops.Store m (center.hear_center own m got cost note now)
+
+-- a send that is refused changes nothing
+abbrev pub ASendRefusedChangesNothing : Type 0
+ASendRefusedChangesNothing =
+    (l : Line) (to : ℕ) (octets : List ℕ) (note now : ℕ)
+    → RefusesCleanly sends.Store l (calls.send l to octets note now) × RefusesCleanly sends.Store l (calls.send_command l to octets now)
+
+-- joining and leaving that are refused change nothing
+abbrev pub AJoinRefusedChangesNothing : Type 0
+AJoinRefusedChangesNothing =
+    (x : meters.Identity) (m : Memory) (agent now : ℕ)
+    → RefusesCleanly joins.Halted m (meters.join x m agent now) × RefusesCleanly leaves.Store m (meters.leave m)
+
+-- an order that the coordinator refuses changes nothing
+abbrev pub AnOrderRefusedChangesNothing : Type 0
+AnOrderRefusedChangesNothing =
+    (own : Eui) (m : Memory) (eui : Eui) (key : Key) (index now : ℕ)
+    → RefusesCleanly orders.Store m (center.allow m eui key)
+    × RefusesCleanly orders.Store m (center.depot m eui key)
+    × RefusesCleanly orders.Store m (center.rekey m index key)
+    × RefusesCleanly orders.Store m (center.activate_self m index)
+    × RefusesCleanly orders.Store m (center.challenge own m eui now)
+    × RefusesCleanly orders.Store m (center.activate m eui index now)
+    × RefusesCleanly orders.Store m (center.kick m eui)
+
+-- # How much is sent
+
+-- a datagram that waits has at most 1,280 octets
+abbrev pub IsShort : Load → Type 0
+IsShort (Datagram octets tag) = length octets ≤ 1280
+IsShort (Command octets) = Unit {0}
+
+-- What waits is within its sizes: at most 8 bodies, of at most 80 blocks.
+pub record IsWithinSizes (l : Line) : Type 0 where
+  pub bodies : length l.waiting ≤ 8
+  pub blocks : blocks_waiting l ≤ 80
+  pub datagrams : All (λ (b : Body). IsShort b.load) l.waiting
+
+-- a plan sends at most 24 frames
+abbrev pub SendsFew : {M A : Type 0} → Plan M A → Type 0
+SendsFew p = length p.frames ≤ 24
+
+-- # The order of writes
+
+-- the turn of a slot: that of the floors, those of ranks, the ring, the book and marks, the tag's, the own number's, the counter's
+abbrev pub turn_of : ℕ → ℕ
+turn_of slot = if slot == 5 then 0 else if slot == 4 then 2 else if slot == 3 then 3 else if slot == 2 then 4 else 1
+
+-- writes to slots whose turns do not fall, from a turn on
+abbrev pub InTurnFrom : ℕ → List Write → Type 0
+InTurnFrom turn [] = Unit {0}
+InTurnFrom turn (w ∷ rest) = (turn ≤ turn_of w.slot) × InTurnFrom (turn_of w.slot) rest
+
+-- the writes of a plan are made in turn
+abbrev pub WritesInTurn : {M A : Type 0} → Plan M A → Type 0
+WritesInTurn p = InTurnFrom 0 p.puts
+
+-- # What a plan does at most
+
+-- A plan whose writes are made in turn, and which sends at most 24 frames where what waits is within its sizes.
+pub record IsBounded {M A : Type 0} (l : Line) (p : Plan M A) : Type 0 where
+  pub frames : IsWithinSizes l → SendsFew p
+  pub writes : WritesInTurn p
+
+-- what a station, a meter and the coordinator make of a frame
+abbrev pub HearingIsBounded : Type 0
+HearingIsBounded = (l : Line) (got : Accepted) (cost note now : ℕ) → IsBounded l (hear l got cost note now)
+
+abbrev pub AMetersHearingIsBounded : Type 0
+AMetersHearingIsBounded =
+    (x : meters.Identity) (m : Memory) (got : Accepted) (cost note now : ℕ) → IsBounded m.line (meters.hear_meter x m got cost note now)
+
+abbrev pub ACentersHearingIsBounded : Type 0
+ACentersHearingIsBounded =
+    (own : center.Center) (m : Memory) (got : Accepted) (cost note now : ℕ) → IsBounded m.line (center.hear_center own m got cost note now)
+
+-- a send, of any datagram and of any command
+abbrev pub ASendIsBounded : Type 0
+ASendIsBounded =
+    (l : Line) (to : ℕ) (octets : List ℕ) (note now : ℕ)
+    → IsBounded l (calls.send l to octets note now) × IsBounded l (calls.send_command l to octets now)
+
+-- joining and leaving
+abbrev pub AJoinIsBounded : Type 0
+AJoinIsBounded = (x : meters.Identity) (m : Memory) (agent now : ℕ) → IsBounded m.line (meters.join x m agent now) × IsBounded m.line (meters.leave m)
+
+-- the orders of the operator
+abbrev pub AnOrderIsBounded : Type 0
+AnOrderIsBounded =
+    (own : Eui) (m : Memory) (eui : Eui) (key : Key) (index now : ℕ)
+    → IsBounded m.line (center.allow m eui key)
+    × IsBounded m.line (center.depot m eui key)
+    × IsBounded m.line (center.rekey m index key)
+    × IsBounded m.line (center.activate_self m index)
+    × IsBounded m.line (center.challenge own m eui now)
+    × IsBounded m.line (center.activate m eui index now)
+    × IsBounded m.line (center.kick m eui)
+
+-- # Accepting
+
+-- a write of a sender's mark
+abbrev pub IsMark : Write → Type 0
+IsMark w = (0x0100 ≤ w.slot) × (w.slot ≤ 0x013F)
+
+-- no write, or one of a mark
+abbrev pub MarksAtMost : List Write → Type 0
+MarksAtMost [] = Unit {0}
+MarksAtMost (w ∷ []) = IsMark w
+MarksAtMost (w ∷ v ∷ rest) = ⊥
+
+-- A plan that stores at most a mark, and sends, makes and checks nothing.
+pub record OnlyMarks {M A : Type 0} (p : Plan M A) : Type 0 where
+  pub puts : MarksAtMost p.puts
+  pub frames : p.frames ≡ []
+  pub made : p.made ≡ []
+  pub opened : p.opened ≡ []
+
+-- accepting a frame stores at most the mark of its sender, at a table of at most 64 senders
+abbrev pub AcceptingOnlyMarks : Type 0
+AcceptingOnlyMarks = (l : Line) (own : Eui) (a : Option Arrived) → length l.marks ≤ 64 → OnlyMarks (accept l own a)
+
+-- # Steps of the world
+
+-- A flight as it was, lost or not; one that was lost stays so.
+pub record SameFlight (f g : Flight) : Type 0 where
+  pub from : g.from ≡ f.from
+  pub octets : g.octets ≡ f.octets
+  pub key : g.key ≡ f.key
+  pub note : g.note ≡ f.note
+  pub lost : f.lost ≡ true → g.lost ≡ true
+
+-- the flights of the one list stand in front of the other, but for what was lost since
+abbrev pub KeepsFlights : List Flight → List Flight → Type 0
+KeepsFlights [] later = Unit {0}
+KeepsFlights (f ∷ flights) [] = ⊥
+KeepsFlights (f ∷ flights) (g ∷ later) = SameFlight f g × KeepsFlights flights later
+
+-- A world one event later: nothing that was sent or made is taken back, no node goes, and the clock does not fall.
+pub record GoesOn (w v : World) : Type 0 where
+  pub events : v.events ≡ w.events + 1
+  pub clock : w.clock ≤ v.clock
+  pub running : w.running ≡ true → v.running ≡ true
+  pub nodes : length w.nodes ≤ length v.nodes
+  pub flights : KeepsFlights w.flights v.flights
+  pub made : (more : List PairTag) × (v.made ≡ w.made ++ more)
+
+-- every event that is taken leads one event on
+abbrev pub StepsGoOn : Type 0
+StepsGoOn = (ciphers : Ciphers) (w v : World) (event : Event) (d : Deeds) → step ciphers w event ≡ Ok (v, d) → GoesOn w v

@@ -1,0 +1,122 @@
+-- What a node is and holds.
+use Rattle.std.specs.Prelude.{ℕ, List, Option}
+use Rattle.std.specs.Option.{option_map, option_and_then}
+use Rattle.plc_base.specs.declared.address.Eui.{Eui}
+use Rattle.plc_base.specs.declared.key.Key.{Key}
+use Rattle.plc_base.specs.declared.key.Rand.{Rand}
+use Rattle.plc_base.specs.declared.keeper.Cut.{Cut}
+use Rattle.plc_base.specs.Keeper.{Records}
+use Rattle.frame_counters.specs.SendCounter as counter
+use Rattle.frame_counters.specs.PeerMarks as marks
+use Rattle.group_keys.specs.KeyRing as ring
+use Rattle.group_keys.specs.KeyBook as book
+use Rattle.routing_set.specs.RoutingSet as routing
+use Rattle.routing_set.specs.OwnNumber as own_number
+use Rattle.fragment_buffers.specs.Reassembly as reassembly
+use Rattle.eap_psk.specs.declared.server.Server.{Server}
+use Rattle.eap_psk.specs.declared.peer.Peer.{Peer}
+use Rattle.node_rules.specs.declared.heard.Way.{Way}
+
+-- # What waits for a route
+
+-- a datagram, with the tag that names its pieces where it has more than one, or the octets of a command, its code first
+pub data Load : Type 0 where
+  Datagram : (octets : List ℕ) → (tag : ℕ) → Load
+  Command : (octets : List ℕ) → Load
+
+abbrev pub load_octets : Load → List ℕ
+load_octets (Datagram octets tag) = octets
+load_octets (Command octets) = octets
+
+-- A body that waits for a route to an address, from a time on.
+pub record Body : Type 0 where
+  pub to : ℕ
+  pub note : ℕ
+  pub since : ℕ
+  pub load : Load
+
+-- # What a node on the line holds in memory
+
+pub record Line : Type 0 where
+  -- the grant that it joined with, with its later changes
+  pub ring : ring.Ring
+  -- the counter of the next sealed frame
+  pub counter : counter.Counting
+  -- the mark of each sender
+  pub marks : marks.Table
+  -- kept ranks, floors and valid routes
+  pub routing : routing.Routing
+  -- the last own number, which route messages that it begins have
+  pub own_number : own_number.Numbering
+  -- the tag of the next datagram that is cut into pieces
+  pub next_tag : ℕ
+  -- the datagrams that are gathered from pieces, in order
+  pub reassemblies : List reassembly.Reassembly
+  -- the bodies that wait for a route, in the order of their arrival
+  pub waiting : List Body
+
+-- the address of a node is its ring's
+abbrev pub address_of : Line → Option ℕ
+address_of l = option_map (λ g. g.address) l.ring
+
+-- the next hop of the valid route to an address
+unfoldable pub next_hop : Line → ℕ → Option ℕ
+next_hop l dest = option_map (λ t. t.next) (routing.route_of l.routing dest)
+
+-- # Sessions of a joining
+
+-- how a meter's session runs: by an agent over the air, or in commands over the mesh
+pub data Course : Type 0 where
+  ByAgent : (agent : ℕ) → Course
+  ByCommand : Course
+
+-- A meter's end of a joining. With a peer it awaits the third message, and else the first.
+pub record MeterSession : Type 0 where
+  pub course : Course
+  pub peer : Option Peer
+  pub since : ℕ
+
+-- The coordinator's end of a joining with the server's meter, whose answers go this way.
+pub record CenterSession : Type 0 where
+  pub server : Server
+  pub way : Way
+  pub since : ℕ
+
+-- # A node
+
+-- What a node that is not halted holds in memory. A meter has no session of the coordinator and no book, the coordinator no
+-- session of a meter.
+pub record Memory : Type 0 where
+  pub line : Line
+  -- the random values that it was given, the oldest first
+  pub randoms : List Rand
+  pub session : Option MeterSession
+  pub sessions : List CenterSession
+  pub book : book.Book
+
+-- what a node is made for: the coordinator, or a meter with its pair key
+pub data Role : Type 0 where
+  Coordinator : Role
+  Meter : (psk : Key) → Role
+
+-- the records that outlast a loss of power, and the loss of power that is still to come
+pub record Stored : Type 0 where
+  pub records : Records
+  pub cut : Option Cut
+
+-- A node. A halted one has no memory.
+pub record Node : Type 0 where
+  pub role : Role
+  pub eui : Eui
+  pub store : Stored
+  pub memory : Option Memory
+
+-- a halted node has no address and no route, like one without a ring
+abbrev pub node_address : Node → Option ℕ
+node_address x = option_and_then (λ m. address_of m.line) x.memory
+
+abbrev pub line_route : Line → ℕ → Option ℕ
+line_route l dest = option_and_then (λ _. next_hop l dest) l.ring
+
+abbrev pub node_route : Node → ℕ → Option ℕ
+node_route x dest = option_and_then (λ m. line_route m.line dest) x.memory

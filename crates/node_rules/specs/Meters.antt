@@ -1,0 +1,267 @@
+-- What a meter does: joining, carrying the messages of others, leaving, and the keys that it is told to use.
+use Rattle.std.specs.Prelude.{ℕ, Bool, true, false, ◌==◌, List, [], ◌∷◌, is_some, Option, Some, None, Result, Ok, Err, if◌then◌else◌}
+use Rattle.std.specs.Option.{option_map, option_map_or}
+use Rattle.octet_fields.specs.Faults.{◌then◌, ◌when◌, ◌unless◌}
+use Rattle.plc_base.specs.declared.address.Eui.{Eui}
+use Rattle.plc_base.specs.declared.key.Key.{Key}
+use Rattle.plc_base.specs.declared.key.Rand.{Rand}
+use Rattle.plc_base.specs.Grant.{Granted}
+use Rattle.group_keys.specs.declared.fault.RingFault.{RingFault}
+use Rattle.group_keys.specs.KeyRing as ring
+use Rattle.joining_messages.specs.declared.message.JoinMessage.{JoinMessage}
+use Rattle.joining_messages.specs.declared.message.JoinBody.{JoinBody}
+use Rattle.joining_messages.specs.declared.message.JoinBody.TheVariants as body
+use Rattle.joining_messages.specs.Reading.{join_in}
+use Rattle.eap_psk.specs.Messages.{granting_text}
+use Rattle.eap_psk.specs.Faults.{first_fault}
+use Rattle.eap_psk.specs.Tags.{mac_p_tag, mac_s_tag, granting_tag, success_tag}
+use Rattle.eap_psk.specs.declared.peer.Peer.{Peer}
+use Rattle.node_rules.specs.declared.heard.Accepted.{Accepted}
+use Rattle.node_rules.specs.declared.heard.Heard.{Heard}
+use Rattle.node_rules.specs.declared.heard.MeterHeard.{MeterHeard}
+use Rattle.node_rules.specs.declared.heard.MeterHeard.TheVariants as heard
+use Rattle.node_rules.specs.declared.heard.Way.{Way}
+use Rattle.node_rules.specs.declared.heard.Way.TheVariants.{Air, Near, Mesh}
+use Rattle.node_rules.specs.declared.refusal.Dropped.{Dropped}
+use Rattle.node_rules.specs.declared.refusal.Dropped.TheVariants.{BadUnit, NoSession, NoRandom, Form, NoSuccess, NotHeld}
+use Rattle.node_rules.specs.declared.refusal.JoinRefusal.{JoinRefusal}
+use Rattle.node_rules.specs.declared.refusal.JoinRefusal.TheVariants.{AlreadyJoined, Halted}
+use Rattle.node_rules.specs.declared.refusal.LeaveRefusal.{LeaveRefusal}
+use Rattle.node_rules.specs.declared.refusal.LeaveRefusal.TheVariants as leaving
+use Rattle.node_rules.specs.Ciphers.{Ciphers}
+use Rattle.node_rules.specs.Memory.{Line, Memory, MeterSession, Course, ByAgent, ByCommand, address_of}
+use Rattle.node_rules.specs.Plans.{Plan, within}
+use Rattle.node_rules.specs.Accepting.{same_eui}
+use Rattle.node_rules.specs.Doings.{Doing, Ends, begun, ringed, refused, sealing, sealed, checked, choose}
+use Rattle.node_rules.specs.Hearing.{dropped, hear}
+use Rattle.node_rules.specs.Calls as calls
+use Rattle.node_rules.specs.Joining.{peer_for, identifier_of, is_first, peer_agrees, message}
+use Rattle.node_rules.specs.Holding.{with_line, in_memory, on_line, remembered, tagged_with, goes_up, goes_down, is_commanded, command_lack, oldest, without_oldest, Unread, unread, packet_fault}
+
+abbrev pub Hearing : Type 0
+Hearing = Plan Memory (Result MeterHeard Dropped)
+
+-- A meter: its identity, the pair key, and what its packets are made with.
+pub record Identity : Type 0 where
+  pub eui : Eui
+  pub psk : Key
+  pub ciphers : Ciphers
+
+abbrev pub drop_it : Memory → Dropped → Hearing
+drop_it m reason = refused dropped m reason
+
+abbrev pub ends : Memory → Doing Memory → MeterHeard → Hearing
+ends m d answer = sealed in_memory dropped m d answer
+
+-- nothing is changed
+abbrev pub answers : Memory → MeterHeard → Hearing
+answers m answer = ends m (begun m) answer
+
+-- whether the meter is joined
+abbrev pub is_joined : Memory → Bool
+is_joined m = is_some m.line.ring
+
+-- # Sessions
+
+-- whether a session runs so
+abbrev pub same_course : Course → Course → Bool
+same_course (ByAgent a) (ByAgent b) = a == b
+same_course (ByAgent a) ByCommand = false
+same_course ByCommand (ByAgent b) = false
+same_course ByCommand ByCommand = true
+
+abbrev pub has_session : Memory → Course → Bool
+has_session m course = option_map_or (λ (s : MeterSession). same_course s.course course) m.session false
+
+abbrev pub with_session : Option MeterSession → Memory → Memory
+with_session session m = record m { session = session }
+
+-- # Carrying the messages of others
+
+-- up: a plain JOIN of its sender goes to the coordinator in a command
+abbrev pub carries_up : Memory → JoinMessage → ℕ → Hearing
+carries_up m join now = checked dropped m (command_lack m 0 join) (ends m (is_commanded 0 join now (begun m)) heard.Carried)
+
+abbrev pub carry_up : Memory → Eui → JoinMessage → JoinBody → ℕ → Hearing
+carry_up m from join (body.Join eap) now = choose (same_eui join.eui from) (carries_up m join now) (drop_it m BadUnit)
+carry_up m from join _ now = drop_it m BadUnit
+
+-- down: what the coordinator says to another node goes to it in a plain frame
+abbrev pub carries_down : Memory → JoinMessage → Hearing
+carries_down m join = option_map_or (λ own. ends m (goes_down own join (begun m)) heard.Carried) (address_of m.line) (drop_it m BadUnit)
+
+abbrev pub carry_down : Memory → JoinMessage → JoinBody → Hearing
+carry_down m join (body.Challenge eap) = carries_down m join
+carry_down m join (body.Accept identifier) = carries_down m join
+carry_down m join body.Decline = carries_down m join
+carry_down m join _ = drop_it m BadUnit
+
+-- # Challenges
+
+-- what the meter says goes back the same way
+abbrev pub says : Course → Eui → JoinMessage → ℕ → Doing Memory → Doing Memory
+says (ByAgent agent) own join now d = goes_up agent own join d
+says ByCommand own join now d = is_commanded 0 join now d
+
+abbrev pub say_lack : Course → Memory → JoinMessage → Option Dropped
+say_lack (ByAgent agent) m join = None
+say_lack ByCommand m join = command_lack m 0 join
+
+-- what is wrong with a challenge over the air: the meter is joined, or no session runs by that agent. In a command a first packet needs
+-- no session, and any other one a session by command.
+abbrev pub air_fault : Memory → Course → Option Dropped
+air_fault m course = Some BadUnit when is_joined m then Some NoSession unless has_session m course
+
+abbrev pub first_course_fault : Memory → Course → Option Dropped
+first_course_fault m (ByAgent agent) = air_fault m (ByAgent agent)
+first_course_fault m ByCommand = None
+
+abbrev pub third_course_fault : Memory → Course → Option Dropped
+third_course_fault m (ByAgent agent) = air_fault m (ByAgent agent)
+third_course_fault m ByCommand = Some NoSession unless has_session m ByCommand
+
+-- a first packet: the oldest random value is taken, the peer answers, and the session awaits the third message from now on
+abbrev pub replies : Memory → Course → Peer → JoinMessage → ℕ → Hearing
+replies m course peer join now =
+    checked dropped m (say_lack course m join)
+    (ends m
+    (says course peer.eui join now
+    (tagged_with (mac_p_tag peer.eui peer.id_s peer.rand_s peer.rand_p ∷ []) []
+    (remembered (λ n. with_session (Some (record { course = course; peer = Some peer; since = now })) (without_oldest n)) (begun m))))
+    heard.Replied)
+
+abbrev pub reply_with : Identity → Memory → Course → List ℕ → ℕ → Rand → Hearing
+reply_with x m course packet now value =
+    let peer = peer_for x.eui value packet in
+    replies m course peer (message x.eui (body.Join (x.ciphers.second x.psk (identifier_of packet) peer))) now
+
+abbrev pub reply : Identity → Memory → Course → List ℕ → ℕ → Hearing
+reply x m course packet now =
+    checked dropped m (first_course_fault m course)
+    (option_map_or (λ value. checked dropped m (option_map packet_fault (first_fault packet)) (reply_with x m course packet now value))
+    (oldest m) (drop_it m NoRandom))
+
+-- a third packet without a fault: the ring is installed from its grant, the session ends, and the peer answers under that ring
+abbrev pub takes : Memory → Course → Peer → ℕ → Granted → JoinMessage → ℕ → Hearing
+takes m course peer identifier granted join now =
+    checked dropped m (say_lack course m join)
+    (ends m
+    (says course peer.eui join now
+    (tagged_with (success_tag peer.eui identifier peer.rand_s peer.rand_p ∷ [])
+    (mac_s_tag peer.eui peer.id_s peer.rand_p ∷ granting_tag peer.eui identifier peer.rand_s peer.rand_p (granting_text granted) ∷ [])
+    (on_line (ringed (Some granted)) (remembered (with_session None) (begun m)))))
+    (heard.Took (peer_agrees peer)))
+
+abbrev pub take_with : Identity → Memory → Course → List ℕ → ℕ → Peer → Option Granted → Hearing
+take_with x m course packet now peer None = drop_it m NoSuccess
+take_with x m course packet now peer (Some granted) =
+    takes m course peer (identifier_of packet) granted (message x.eui (body.Join (x.ciphers.fourth x.psk (identifier_of packet) peer))) now
+
+abbrev pub take_by : Identity → Memory → Course → List ℕ → ℕ → Option Peer → Hearing
+take_by x m course packet now None = drop_it m Form
+take_by x m course packet now (Some peer) =
+    checked dropped m (option_map packet_fault (x.ciphers.third_fault x.psk peer packet)) (take_with x m course packet now peer (x.ciphers.granted x.psk peer packet))
+
+abbrev pub take : Identity → Memory → Course → List ℕ → ℕ → Hearing
+take x m course packet now =
+    checked dropped m (third_course_fault m course)
+    (option_map_or (λ (s : MeterSession). take_by x m course packet now s.peer) m.session (drop_it m NoSession))
+
+abbrev pub challenged : Identity → Memory → Course → List ℕ → ℕ → Hearing
+challenged x m course packet now = choose (is_first packet) (reply x m course packet now) (take x m course packet now)
+
+-- # What else the coordinator says
+
+-- a decline over the air ends a session by that agent
+abbrev pub declined : Memory → ℕ → Hearing
+declined m agent =
+    choose (is_joined m) (drop_it m BadUnit)
+    (choose (has_session m (ByAgent agent)) (ends m (remembered (with_session None) (begun m)) heard.Declined) (drop_it m NoSession))
+
+-- the ring is dropped; the routes, what is gathered, what waits and the session end
+abbrev pub leaves : Memory → Doing Memory
+leaves m = remembered (with_session None) (on_line (λ d. ringed None (record d { memory = calls.idled d.memory })) (begun m))
+
+abbrev pub kicked : Memory → Hearing
+kicked m = ends m (leaves m) heard.Left
+
+-- another key seals from now on
+abbrev pub activated : Memory → ℕ → Hearing
+activated m index =
+    choose (is_some (ring.key_in_ring m.line.ring index))
+    (ends m (on_line (ringed (ring.with_active m.line.ring index)) (begun m)) heard.Activated)
+    (drop_it m NotHeld)
+
+-- # A joining message
+
+-- on a plain frame down, from a neighbour
+abbrev pub hear_near : Identity → Memory → ℕ → JoinBody → ℕ → Hearing
+hear_near x m agent (body.Challenge eap) now = challenged x m (ByAgent agent) eap now
+hear_near x m agent (body.Accept identifier) now = answers m heard.Noted
+hear_near x m agent body.Decline now = declined m agent
+hear_near x m agent _ now = drop_it m BadUnit
+
+-- in a command from the coordinator, for this meter
+abbrev pub hear_order : Identity → Memory → JoinBody → ℕ → Hearing
+hear_order x m (body.Challenge eap) now = challenged x m ByCommand eap now
+hear_order x m (body.Accept identifier) now = answers m heard.Noted
+hear_order x m body.Kick now = kicked m
+hear_order x m (body.Activate index) now = activated m index
+hear_order x m _ now = drop_it m BadUnit
+
+abbrev pub hear_join : Identity → Memory → Way → JoinMessage → ℕ → Hearing
+hear_join x m (Air from) join now = carry_up m from join join.body now
+hear_join x m (Near agent) join now = choose (same_eui join.eui x.eui) (hear_near x m agent join.body now) (drop_it m BadUnit)
+hear_join x m (Mesh origin) join now =
+    choose (origin == 0)
+    (choose (same_eui join.eui x.eui) (hear_order x m join.body now) (carry_down m join join.body))
+    (drop_it m BadUnit)
+
+abbrev pub hear_join_in : Identity → Memory → Way → Option JoinMessage → ℕ → Hearing
+hear_join_in x m way None now = drop_it m BadUnit
+hear_join_in x m way (Some join) now = hear_join x m way join now
+
+-- # A frame that was accepted
+
+abbrev pub on_station : Result Heard Dropped → Result MeterHeard Dropped
+on_station (Ok h) = Ok (heard.Line h)
+on_station (Err reason) = Err reason
+
+abbrev pub heard_by : Identity → Memory → ℕ → Plan Line (Result Heard Dropped) → Option Unread → Hearing
+heard_by x m now p None = within (λ l. with_line l m) on_station p
+heard_by x m now p (Some u) = hear_join_in x m u.way (join_in u.body) now
+
+-- what a meter makes of an accepted frame, which came over a link of this cost under this note
+abbrev pub hear_meter : Identity → Memory → Accepted → (cost note now : ℕ) → Hearing
+hear_meter x m got cost note now =
+    let p = hear m.line got cost note now in heard_by x m now p (unread p.answer)
+
+-- # What a meter does by itself
+
+abbrev pub joining_ends : Ends JoinRefusal
+joining_ends = record { spent = Halted; store = Halted }
+
+-- a session by the agent begins, and JOIN without a packet goes to it
+abbrev pub join : Identity → Memory → ℕ → ℕ → Plan Memory (Result (Unit {0}) JoinRefusal)
+join x m agent now =
+    choose (is_joined m) (refused joining_ends m AlreadyJoined)
+    (sealing in_memory joining_ends
+    (goes_up agent x.eui (message x.eui (body.Join []))
+    (remembered (with_session (Some (record { course = ByAgent agent; peer = None; since = now }))) (begun m))) tt)
+
+abbrev pub leaving_ends : Ends LeaveRefusal
+leaving_ends = record { spent = leaving.Store; store = leaving.Store }
+
+abbrev pub leave : Memory → Plan Memory (Result (Unit {0}) LeaveRefusal)
+leave m = choose (is_joined m) (sealing in_memory leaving_ends (leaves m) tt) (refused leaving_ends m leaving.NotJoined)
+
+-- the grant of the workshop is installed
+abbrev pub provision : Memory → Granted → Plan Memory (Result (Unit {0}) RingFault)
+provision m granted = within (λ l. with_line l m) (λ r. r) (calls.install m.line granted)
+
+-- a session that began 120 seconds ago ends
+abbrev pub session_within : ℕ → MeterSession → Option MeterSession
+session_within now s = if calls.is_within 120 now s.since then Some s else None
+
+abbrev pub tick : ℕ → Memory → Memory
+tick now m = record m { line = calls.tick now m.line; session = option_map_or (session_within now) m.session None }

@@ -1,0 +1,59 @@
+-- What is shown of a node.
+use Rattle.std.specs.Prelude.{ℕ, true, false, nat_lt, List, [], ◌∷◌, map, replicate, None, if◌then◌else◌}
+use Rattle.std.specs.Option.{option_map, option_map_or, option_and_then}
+use Rattle.plc_base.specs.Grant.{Granted}
+use Rattle.frame_counters.specs.declared.peer_marks.Peer.{Peer}
+use Rattle.routing_set.specs.declared.entry.RoutingEntry.{RoutingEntry}
+use Rattle.node_rules.specs.Memory.{Line, Node, address_of}
+use Rattle.node_rules.specs.Worlds.{Shown, ShownRoute, ShownPeer}
+
+-- # In the order of addresses
+
+-- an item before the first one of a higher number
+abbrev pub placed_by : {A : Type 0} → (A → ℕ) → A → List A → List A
+placed_by number x [] = x ∷ []
+placed_by number x (y ∷ ys) = if nat_lt (number x) (number y) then x ∷ (y ∷ ys) else y ∷ placed_by number x ys
+
+abbrev pub ordered_by : {A : Type 0} → (A → ℕ) → List A → List A
+ordered_by number [] = []
+ordered_by number (x ∷ xs) = placed_by number x (ordered_by number xs)
+
+abbrev pub shown_route : RoutingEntry → ShownRoute
+shown_route e = record { dest = e.address; number = e.rank.number; cost = e.rank.cost; next = option_map (λ t. t.next) e.route }
+
+abbrev pub shown_peer : Peer → ShownPeer
+shown_peer p = record { from = p.address; mark = p.mark }
+
+-- # A node
+
+abbrev pub nothing_shown : Shown
+nothing_shown = record {
+  halted = true;
+  address = None;
+  active = None;
+  next_counter = 0;
+  last_number = 0;
+  key0 = None;
+  key1 = None;
+  routes = [];
+  floors = replicate 16 0;
+  peers = [];
+}
+
+abbrev pub shown_line : Line → Shown
+shown_line l = record {
+  halted = false;
+  address = address_of l;
+  active = option_map (λ (g : Granted). g.active) l.ring;
+  next_counter = l.counter.next;
+  last_number = l.own_number.last;
+  key0 = option_and_then (λ (g : Granted). g.key0) l.ring;
+  key1 = option_and_then (λ (g : Granted). g.key1) l.ring;
+  routes = map shown_route (ordered_by (λ (e : RoutingEntry). e.address) l.routing.entries);
+  floors = l.routing.floors;
+  peers = map shown_peer (ordered_by (λ (p : Peer). p.address) l.marks);
+}
+
+-- a halted node shows that it is halted, and nothing else
+abbrev pub shown_of : Node → Shown
+shown_of x = option_map_or (λ m. shown_line m.line) x.memory nothing_shown

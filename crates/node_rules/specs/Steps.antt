@@ -1,0 +1,524 @@
+-- What an event does to the world, or why it is not taken.
+use Rattle.std.specs.Prelude.{ℕ, ◌+◌, ◌-◌, Bool, true, false, not, ◌==◌, ◌&&◌, ◌||◌, nat_lt, List, [], ◌∷◌, ◌++◌, length, map, is_some, slice_set, position, Option, Some, None, Result, Ok, Err, if◌then◌else◌}
+use Rattle.std.specs.List.{list_any}
+use Rattle.std.specs.Option.{option_map, option_map_or}
+use Rattle.std.specs.FinMap as maps
+use Rattle.plc_base.specs.declared.address.Eui.{Eui}
+use Rattle.plc_base.specs.declared.key.Key.{Key}
+use Rattle.plc_base.specs.declared.key.Rand.{Rand}
+use Rattle.plc_base.specs.declared.keeper.BadStore.{BadStore}
+use Rattle.plc_base.specs.declared.out_frame.OutFrame.{OutFrame}
+use Rattle.plc_base.specs.declared.tags.PairTag.{PairTag}
+use Rattle.plc_base.specs.Grant.{Granted}
+use Rattle.routing_set.specs.RoutingSet as routing
+use Rattle.node_rules.specs.declared.event.Event.{Event}
+use Rattle.node_rules.specs.declared.event.Event.TheVariants as events
+use Rattle.node_rules.specs.declared.event.Answer.{Answer}
+use Rattle.node_rules.specs.declared.event.Answer.TheVariants as said
+use Rattle.node_rules.specs.declared.event.StepFault.{StepFault}
+use Rattle.node_rules.specs.declared.event.StepFault.TheVariants as faults
+use Rattle.node_rules.specs.declared.heard.Accepted.{Accepted}
+use Rattle.node_rules.specs.declared.heard.Path.{Path}
+use Rattle.node_rules.specs.declared.heard.Path.TheVariants as paths
+use Rattle.node_rules.specs.declared.refusal.CoordRefusal.{CoordRefusal}
+use Rattle.node_rules.specs.declared.refusal.CoordRefusal.TheVariants as orders
+use Rattle.node_rules.specs.declared.refusal.Dropped.TheVariants as drops
+use Rattle.node_rules.specs.declared.refusal.FrameRefusal.{FrameRefusal}
+use Rattle.node_rules.specs.declared.refusal.FrameRefusal.TheVariants as frames
+use Rattle.node_rules.specs.declared.refusal.JoinRefusal.TheVariants as joins
+use Rattle.node_rules.specs.declared.refusal.LeaveRefusal.TheVariants as leaves
+use Rattle.node_rules.specs.declared.refusal.RandomFault.TheVariants as randoms
+use Rattle.node_rules.specs.declared.refusal.SendRefusal.TheVariants as sends
+use Rattle.node_rules.specs.Ciphers.{Ciphers}
+use Rattle.node_rules.specs.Frames.{Sent, spelled, arrived}
+use Rattle.node_rules.specs.Memory.{Line, Memory, Node, Role, Coordinator, Meter, node_address}
+use Rattle.node_rules.specs.Plans.{Plan, Outcome, carry_out, resting, within}
+use Rattle.node_rules.specs.Accepting.{accept}
+use Rattle.node_rules.specs.Calls as calls
+use Rattle.node_rules.specs.Holding.{with_line, give_random}
+use Rattle.node_rules.specs.Meters as meters
+use Rattle.node_rules.specs.Coordinators as center
+use Rattle.node_rules.specs.Opening.{memory_of, remembering, blank_line, first_grant}
+use Rattle.node_rules.specs.Answers.{Reception, Up, Keying, Doneness, frame_word, sent_word, random_word, join_word, leave_word, ordered_word, meter_reception, center_reception}
+use Rattle.node_rules.specs.Showing.{shown_of}
+use Rattle.node_rules.specs.Worlds.{Flight, World, node_at, flight_at, note_of, is_forged_frame, is_forged_tag, same_eui, Handed, Admission, Happenings, Issued, Pairing, Deeds}
+
+-- what an event gives: the world after it and what it was, or why it was not taken
+abbrev pub Step : Type 0
+Step = Result (World × Deeds) StepFault
+
+-- # What a node did
+
+pub record Did (A : Type 0) : Type 0 where
+  pub node : Node
+  pub answer : A
+  pub frames : List Sent
+  pub made : List PairTag
+  pub opened : List PairTag
+
+abbrev pub stays : {A : Type 0} → Node → A → Did A
+stays x answer = record { node = x; answer = answer; frames = []; made = []; opened = [] }
+
+abbrev pub left_by : {A : Type 0} → Node → Outcome Memory A → Did A
+left_by x o = record {
+  node = record x { store = record { records = o.records; cut = o.cut }; memory = o.memory };
+  answer = o.answer;
+  frames = o.frames;
+  made = o.made;
+  opened = o.opened;
+}
+
+-- a node carries out a plan over its memory; a halted one answers so, and nothing changes
+unfoldable pub acts : {A : Type 0} → Node → A → (Memory → Plan Memory A) → Did A
+acts x halted plan = option_map_or (λ m. left_by x (carry_out x.store.records x.store.cut (plan m))) x.memory (stays x halted)
+
+-- a plan of the line as one of the memory
+abbrev pub of_line : {A : Type 0} → Memory → Plan Line A → Plan Memory A
+of_line m p = within (λ l. with_line l m) (λ a. a) p
+
+-- what a node did, its answer read as another
+abbrev pub answering : {A B : Type 0} → (A → B) → Did A → Did B
+answering reads d = record { node = d.node; answer = reads d.answer; frames = d.frames; made = d.made; opened = d.opened }
+
+-- a memory that changes without a store write
+abbrev pub changing : {A : Type 0} → A → Memory → Plan Memory A
+changing answer m = resting m answer answer
+
+-- # What it does to the world
+
+-- an event of a setup kind was taken, and one of another kind
+abbrev pub set_up : World → World
+set_up w = record w { events = w.events + 1 }
+
+abbrev pub ran : World → World
+ran w = record w { events = w.events + 1; running = true }
+
+abbrev pub flight_by : ℕ → OutFrame → Flight
+flight_by from f = record { from = from; octets = f.octets; key = f.key; note = f.note; lost = false }
+
+abbrev pub flights_of : {A : Type 0} → Ciphers → ℕ → Did A → List Flight
+flights_of ciphers number d = map (λ frame. flight_by number (spelled ciphers frame)) d.frames
+
+-- the node is the one that is left, its frames fly, and its pair tags are made
+unfoldable pub told : {A : Type 0} → Ciphers → World → ℕ → Did A → World
+told ciphers w number d = record w {
+  nodes = slice_set w.nodes number d.node;
+  flights = w.flights ++ flights_of ciphers number d;
+  made = w.made ++ d.made;
+}
+
+-- # What is said of an event
+
+abbrev pub happened : World → Answer → Happenings
+happened w answer = record {
+  answer = answer;
+  forged = false;
+  up = None;
+  grant = None;
+  took = None;
+  done = None;
+  shown = None;
+  first_flight = length w.flights + 1;
+  flights = 0;
+}
+
+abbrev pub deeds : Happenings → Deeds
+deeds h = record { happened = h; sent = None; issued = []; taken = None; done = None; made = []; opened = [] }
+
+-- what a node did is told, in the words of its answer
+abbrev pub spoken : World → Did Answer → Deeds
+spoken w d = record (deeds (record (happened w d.answer) { flights = length d.frames })) { made = d.made; opened = d.opened }
+
+abbrev pub acted : Ciphers → World → ℕ → Did Answer → World × Deeds
+acted ciphers w number d = (told ciphers (ran w) number d, spoken w d)
+
+-- # Which events are taken
+
+abbrev pub has_begun : World → Bool
+has_begun w = nat_lt 0 (length w.nodes)
+
+-- setup ends with the first event of another kind
+abbrev pub takes_setup : World → Bool
+takes_setup w = has_begun w && not w.running
+
+-- the first event makes the coordinator
+abbrev pub once_begun : World → Step → Step
+once_begun w step = if has_begun w then step else Err faults.Setup
+
+abbrev pub in_setup : World → Step → Step
+in_setup w step = if takes_setup w then step else Err faults.Setup
+
+abbrev pub on_node : World → ℕ → (Node → Step) → Step
+on_node w number step = option_map_or step (node_at w number) (Err faults.Node)
+
+-- node 0 is no meter
+abbrev pub on_meter : World → ℕ → (Node → Step) → Step
+on_meter w number step = if number == 0 then Err faults.Node else on_node w number step
+
+-- what the coordinator does about a meter
+abbrev pub at_center : World → (Node → Step) → Step
+at_center w step = on_node w 0 step
+
+-- # coordinator, meter
+
+abbrev pub blank_node : Role → Eui → Node
+blank_node role eui = record { role = role; eui = eui; store = record { records = maps.empty; cut = None }; memory = Some (remembering blank_line []) }
+
+abbrev pub center_node : Eui → Key → Node
+center_node eui key = (acts (blank_node Coordinator eui) (Ok tt) (λ m. center.begin m (first_grant key))).node
+
+abbrev pub made_node : World → Node → World × Deeds
+made_node w x = (record (set_up w) { nodes = w.nodes ++ x ∷ [] }, deeds (happened w said.Made))
+
+abbrev pub is_known : World → Eui → Bool
+is_known w eui = list_any (λ (x : Node). same_eui x.eui eui) w.nodes
+
+unfoldable pub coordinator : World → Eui → Key → Step
+coordinator w eui key = if has_begun w then Err faults.Setup else Ok (made_node w (center_node eui key))
+
+unfoldable pub meter : World → Eui → Key → Step
+meter w eui psk =
+    if not (takes_setup w) || (nat_lt 999 (length w.nodes) || is_known w eui) then Err faults.Setup
+    else Ok (made_node w (blank_node (Meter psk) eui))
+
+-- # depot
+
+-- the keys of a grant, as they are issued to a meter
+abbrev pub issued_at : Eui → ℕ → Option Key → List Issued
+issued_at eui index None = []
+issued_at eui index (Some key) = record { eui = eui; index = index; key = key } ∷ []
+
+abbrev pub issued_by : Eui → Granted → List Issued
+issued_by eui g = issued_at eui 0 g.key0 ++ issued_at eui 1 g.key1
+
+-- the pair key of a meter
+abbrev pub psk_of : Node → Option Key
+psk_of x = psk_by x.role
+  where
+    psk_by : Role → Option Key
+    psk_by Coordinator = None
+    psk_by (Meter psk) = Some psk
+
+-- the meter gets the grant that the coordinator has for it
+abbrev pub provisioned : Ciphers → World → ℕ → Node → Granted → World × Deeds
+provisioned ciphers w number x g = (
+  told ciphers w number (acts x (Ok tt) (λ m. meters.provision m g)),
+  record (deeds (happened w said.Joined)) { issued = issued_by x.eui g },
+)
+
+abbrev pub depot_by : Ciphers → World → ℕ → Node → Did (Result Granted CoordRefusal) → Step
+depot_by ciphers w number x d = by_answer d.answer
+  where
+    by_answer : Result Granted CoordRefusal → Step
+    by_answer (Ok g) = Ok (provisioned ciphers (told ciphers (set_up w) 0 d) number x g)
+    by_answer (Err reason) = Err faults.Setup
+
+abbrev pub depot_at : Ciphers → World → ℕ → Node → Node → Step
+depot_at ciphers w number x c =
+    if (number == 0) || is_some (node_address x) then Err faults.Setup
+    else option_map_or (λ psk. depot_by ciphers w number x (acts c (Err orders.Halted) (λ m. center.depot m x.eui psk))) (psk_of x) (Err faults.Setup)
+
+unfoldable pub depot : Ciphers → World → ℕ → Step
+depot ciphers w number = in_setup w (on_node w number (λ x. at_center w (λ c. depot_at ciphers w number x c)))
+
+-- # near
+
+-- what a node keeps of an address, and how many ranks it keeps
+abbrev pub keeps_rank : Node → ℕ → Bool
+keeps_rank x dest = option_map_or (λ (m : Memory). is_some (routing.rank_of m.line.routing dest)) x.memory false
+
+abbrev pub ranks_full : Node → Bool
+ranks_full x = option_map_or (λ (m : Memory). nat_lt 63 (length m.line.routing.entries)) x.memory false
+
+abbrev pub offered_near : Node → ℕ → ℕ → ℕ → Did (Unit {0})
+offered_near x to cost now = answering (λ _. tt) (acts x (Ok tt) (λ m. of_line m (calls.preset_near m.line to cost now)))
+
+abbrev pub near_by : Ciphers → World → (a b cost : ℕ) → Node → Node → Option ℕ → Option ℕ → Step
+near_by ciphers w a b cost x y None q = Err faults.Setup
+near_by ciphers w a b cost x y (Some p) None = Err faults.Setup
+near_by ciphers w a b cost x y (Some p) (Some q) =
+    if (a == b) || (keeps_rank x q || (ranks_full x || ranks_full y)) then Err faults.Setup
+    else Ok (told ciphers (told ciphers (set_up w) a (offered_near x q cost w.clock)) b (offered_near y p cost w.clock), deeds (happened w said.Set))
+
+unfoldable pub near : Ciphers → World → (a b cost : ℕ) → Step
+near ciphers w a b cost =
+    in_setup w (on_node w a (λ x. on_node w b (λ y. near_by ciphers w a b cost x y (node_address x) (node_address y))))
+
+-- # counter, number
+
+abbrev pub preset : Ciphers → World → ℕ → (Line → calls.Presetting) → Step
+preset ciphers w number plan =
+    in_setup w (on_node w number (λ x. Ok (told ciphers (set_up w) number (acts x (Ok tt) (λ m. of_line m (plan m.line))), deeds (happened w said.Set))))
+
+-- # allow, rand, join, leave
+
+abbrev pub allowed_word : Result ℕ CoordRefusal → Answer
+allowed_word answer = ordered_word said.Allowed answer
+
+abbrev pub admission_by : ℕ → Result ℕ CoordRefusal → Option Admission
+admission_by number (Ok address) = Some (record { node = number; address = address })
+admission_by number (Err reason) = None
+
+abbrev pub allowed : Ciphers → World → ℕ → Did (Result ℕ CoordRefusal) → World × Deeds
+allowed ciphers w number d = (
+  told ciphers (ran w) 0 d,
+  deeds (record (happened w (allowed_word d.answer)) { grant = admission_by number d.answer }),
+)
+
+unfoldable pub allow : Ciphers → World → ℕ → Step
+allow ciphers w number =
+    once_begun w (on_meter w number (λ x. at_center w (λ c.
+    option_map_or (λ psk. Ok (allowed ciphers w number (acts c (Err orders.Halted) (λ m. center.allow m x.eui psk)))) (psk_of x) (Err faults.Node))))
+
+unfoldable pub rand : Ciphers → World → ℕ → Rand → Step
+rand ciphers w number value =
+    once_begun w (on_node w number (λ x. Ok (acted ciphers w number (answering random_word (acts x (Err randoms.Halted) (λ m. give_random m value))))))
+
+-- the identity that a meter's calls are given
+abbrev pub identity : Ciphers → Node → Key → meters.Identity
+identity ciphers x psk = record { eui = x.eui; psk = psk; ciphers = ciphers }
+
+abbrev pub joins_by : Ciphers → World → ℕ → Node → Option ℕ → Option Key → World × Deeds
+joins_by ciphers w number x None psk = (ran w, deeds (happened w said.NoAddress))
+joins_by ciphers w number x (Some agent) None = (ran w, deeds (happened w said.NoAddress))
+joins_by ciphers w number x (Some agent) (Some psk) =
+    acted ciphers w number (answering join_word (acts x (Err joins.Halted) (λ m. meters.join (identity ciphers x psk) m agent w.clock)))
+
+unfoldable pub join : Ciphers → World → ℕ → ℕ → Step
+join ciphers w number agent =
+    once_begun w (on_meter w number (λ x. on_node w agent (λ y. Ok (joins_by ciphers w number x (node_address y) (psk_of x)))))
+
+unfoldable pub leave : Ciphers → World → ℕ → Step
+leave ciphers w number =
+    once_begun w (on_meter w number (λ x. Ok (acted ciphers w number (answering leave_word (acts x (Err leaves.Halted) meters.leave)))))
+
+-- # send, break
+
+-- whether an answer takes the send
+abbrev pub is_taken : Answer → Bool
+is_taken said.Sent = true
+is_taken said.Waiting = true
+is_taken _ = false
+
+-- the tag that the next datagram of a node takes
+abbrev pub tag_of : Node → ℕ
+tag_of x = option_map_or (λ m. m.line.next_tag) x.memory 0
+
+abbrev pub sent_if : World → ℕ → ℕ → List ℕ → ℕ → Bool → World × Deeds → World × Deeds
+sent_if w from to datagram tag false r = r
+sent_if w from to datagram tag true r = (
+  record r.0 { sends = r.0.sends + 1 },
+  record r.1 { sent = Some (record { from = from; to = to; datagram = datagram; tag = tag }) },
+)
+
+abbrev pub sending : Ciphers → World → (from to : ℕ) → List ℕ → ℕ → Did Answer → World × Deeds
+sending ciphers w from to datagram tag d = sent_if w from to datagram tag (is_taken d.answer) (acted ciphers w from d)
+
+abbrev pub sends_by : Ciphers → World → (from to : ℕ) → List ℕ → Node → Option ℕ → World × Deeds
+sends_by ciphers w from to datagram x None = (ran w, deeds (happened w said.NoAddress))
+sends_by ciphers w from to datagram x (Some address) =
+    sending ciphers w from to datagram (tag_of x)
+    (answering sent_word (acts x (Err sends.Halted) (λ m. of_line m (calls.send m.line address datagram (w.sends + 1) w.clock))))
+
+unfoldable pub send : Ciphers → World → (from to : ℕ) → List ℕ → Step
+send ciphers w from to datagram =
+    once_begun w (on_node w from (λ x. on_node w to (λ y. Ok (sends_by ciphers w from to datagram x (node_address y)))))
+
+abbrev pub breaks_by : Ciphers → World → ℕ → Node → Option ℕ → World × Deeds
+breaks_by ciphers w number x None = (ran w, deeds (happened w said.NoAddress))
+breaks_by ciphers w number x (Some next) = acted ciphers w number (acts x said.Halted (λ m. changing said.Broken (with_line (calls.broke next m.line) m)))
+
+unfoldable pub breaks : Ciphers → World → ℕ → ℕ → Step
+breaks ciphers w number next =
+    once_begun w (on_node w number (λ x. on_node w next (λ y. Ok (breaks_by ciphers w number x (node_address y)))))
+
+-- # deliver, inject
+
+-- what a node makes of a frame that it accepted, under a note, by its role
+abbrev pub hears : Ciphers → Node → Accepted → (cost note now : ℕ) → Did Reception
+hears ciphers x got cost note now = hears_by x.role
+  where
+    hears_by : Role → Did Reception
+    hears_by Coordinator = answering center_reception (acts x (Err drops.Store) (λ m. center.hear_center (record { eui = x.eui; ciphers = ciphers }) m got cost note now))
+    hears_by (Meter psk) = answering meter_reception (acts x (Err drops.Store) (λ m. meters.hear_meter (identity ciphers x psk) m got cost note now))
+
+-- the note of octets that a node accepted, and whether they are forged
+abbrev pub note_by : World → List ℕ → Path → ℕ
+note_by w octets (paths.Sealed from to_all key) = note_of w.flights octets key
+note_by w octets (paths.Up from) = 0
+note_by w octets (paths.Down from) = 0
+
+abbrev pub forged_by : World → List ℕ → Path → Bool
+forged_by w octets (paths.Sealed from to_all key) = is_forged_frame w.flights octets key
+forged_by w octets (paths.Up from) = false
+forged_by w octets (paths.Down from) = false
+
+abbrev pub number_if : Bool → ℕ → ℕ
+number_if test n = if test then n + 1 else n
+
+-- what a node heard, for the report
+abbrev pub handed_by : ℕ → Option Up → Option Handed
+handed_by number up = option_map (λ (u : Up). record { node = number; note = u.note; octets = u.octets }) up
+
+-- the number of a meter's node, by its EUI
+abbrev pub number_of : World → Eui → ℕ
+number_of w eui = option_map_or (λ n. n) (position (λ (x : Node). same_eui x.eui eui) w.nodes) 0
+
+abbrev pub done_by : World → Option Doneness → Option Pairing
+done_by w done = option_map (λ (d : Doneness). record { node = number_of w d.eui; agreed = d.agreed }) done
+
+abbrev pub issued_of : Option Keying → List Issued
+issued_of keyed = option_map_or (λ (k : Keying). issued_by k.eui k.granted) keyed []
+
+abbrev pub reception_deeds : World → ℕ → Bool → Did Reception → Deeds
+reception_deeds w number forged d = record {
+  happened = record (happened w d.answer.answer) {
+    forged = forged;
+    up = handed_by number d.answer.up;
+    took = option_map (λ _. number) d.answer.took;
+    done = option_map (λ (p : Pairing). p.node) (done_by w d.answer.done);
+    flights = length d.frames;
+  };
+  sent = None;
+  issued = issued_of d.answer.keyed;
+  taken = option_map (λ agreed. record { node = number; agreed = agreed }) d.answer.took;
+  done = done_by w d.answer.done;
+  made = d.made;
+  opened = d.opened;
+}
+
+abbrev pub received : Ciphers → World → ℕ → Bool → Did Reception → World × Deeds
+received ciphers w number forged d =
+    let told_world = told ciphers (ran w) number d in (
+      record told_world {
+        ups = number_if (is_some d.answer.up) w.ups;
+        forged = number_if forged w.forged;
+        done = number_if (is_some d.answer.done) w.done;
+      },
+      reception_deeds w number forged d,
+    )
+
+-- a frame that was accepted is heard under its note; it is forged where it was sent by nobody, or a pair tag that was found right was
+-- made by nobody
+abbrev pub heard : Ciphers → World → ℕ → Node → List ℕ → Accepted → ℕ → World × Deeds
+heard ciphers w number x octets got cost =
+    let d = hears ciphers x got cost (note_by w octets got.path) w.clock in
+    received ciphers w number (forged_by w octets got.path || list_any (is_forged_tag w.made) d.opened) d
+
+abbrev pub accepted_by : Ciphers → World → ℕ → List ℕ → ℕ → Did (Result Accepted FrameRefusal) → World × Deeds
+accepted_by ciphers w number octets cost d = by_answer d.answer
+  where
+    by_answer : Result Accepted FrameRefusal → World × Deeds
+    by_answer (Ok got) = heard ciphers w number d.node octets got cost
+    by_answer (Err reason) = (told ciphers (ran w) number d, deeds (happened w (frame_word reason)))
+
+-- octets come to a node over a link of a cost
+unfoldable pub arrives : Ciphers → World → ℕ → Node → List ℕ → ℕ → World × Deeds
+arrives ciphers w number x octets cost =
+    accepted_by ciphers w number octets cost (acts x (Err frames.Halted) (λ m. of_line m (accept m.line x.eui (arrived ciphers octets))))
+
+-- a flight that was lost comes no more
+abbrev pub on_flight : World → ℕ → (Flight → Step) → Step
+on_flight w number step = option_map_or (λ f. if f.lost then Err faults.Flight else step f) (flight_at w number) (Err faults.Flight)
+
+unfoldable pub deliver : Ciphers → World → (flight number cost : ℕ) → Step
+deliver ciphers w flight number cost =
+    once_begun w (on_node w number (λ x. on_flight w flight (λ f. Ok (arrives ciphers w number x f.octets cost))))
+
+unfoldable pub inject : Ciphers → World → (number cost : ℕ) → List ℕ → Step
+inject ciphers w number cost octets = once_begun w (on_node w number (λ x. Ok (arrives ciphers w number x octets cost)))
+
+unfoldable pub lose : World → ℕ → Step
+lose w number =
+    once_begun w (on_flight w number (λ f. Ok (record (ran w) { flights = slice_set w.flights (number - 1) (record f { lost = true }) }, deeds (happened w said.Lost))))
+
+-- # tick, restart, cut, show
+
+-- what time does to a node, by its role
+abbrev pub ticked : ℕ → Node → Node
+ticked now x = record x { memory = option_map (tick_by x.role) x.memory }
+  where
+    tick_by : Role → Memory → Memory
+    tick_by Coordinator m = center.tick now m
+    tick_by (Meter psk) m = meters.tick now m
+
+unfoldable pub tick : World → ℕ → Step
+tick w seconds =
+    once_begun w (Ok (
+      record (ran w) { clock = w.clock + seconds; nodes = map (ticked (w.clock + seconds)) w.nodes },
+      deeds (happened w said.Ticked),
+    ))
+
+abbrev pub memory_by : Result Memory BadStore → Option Memory
+memory_by (Ok m) = Some m
+memory_by (Err bad) = None
+
+abbrev pub restart_word : Result Memory BadStore → Answer
+restart_word (Ok m) = said.Restarted
+restart_word (Err bad) = said.BadStore
+
+-- a node has what its store gives, and a loss of power that is still to come stays so
+abbrev pub restarts : Node → Did Answer
+restarts x = stays (record x { memory = memory_by (memory_of x.role x.store.records) }) (restart_word (memory_of x.role x.store.records))
+
+unfoldable pub restart : Ciphers → World → ℕ → Step
+restart ciphers w number = once_begun w (on_node w number (λ x. Ok (acted ciphers w number (restarts x))))
+
+unfoldable pub cut : Ciphers → World → ℕ → ℕ → Bool → Step
+cut ciphers w number nth keeps_new =
+    once_begun w (on_node w number (λ x.
+    Ok (acted ciphers w number (stays (record x { store = record x.store { cut = Some (record { nth = nth; keeps_new = keeps_new }) } }) said.Set))))
+
+unfoldable pub show : World → ℕ → Step
+show w number = once_begun w (on_node w number (λ x. Ok (ran w, deeds (record (happened w said.Shown) { shown = Some (shown_of x) }))))
+
+-- # rekey, challenge, activate, kick
+
+abbrev pub by_center : {A : Type 0} → Ciphers → World → Node → Answer → (Memory → Plan Memory (Result A CoordRefusal)) → World × Deeds
+by_center ciphers w c answer order = acted ciphers w 0 (answering (ordered_word answer) (acts c (Err orders.Halted) order))
+
+unfoldable pub rekey : Ciphers → World → ℕ → Key → Step
+rekey ciphers w index key = once_begun w (at_center w (λ c. Ok (by_center ciphers w c said.Drawn (λ m. center.rekey m index key))))
+
+unfoldable pub challenge : Ciphers → World → ℕ → Step
+challenge ciphers w number =
+    once_begun w (on_meter w number (λ x. at_center w (λ c. Ok (by_center ciphers w c said.Challenged (λ m. center.challenge c.eui m x.eui w.clock)))))
+
+abbrev pub activate_at : Ciphers → World → ℕ → ℕ → Node → Node → World × Deeds
+activate_at ciphers w number index x c =
+    if number == 0 then by_center ciphers w c said.Activated (λ m. center.activate_self m index)
+    else by_center ciphers w c said.Ordered (λ m. center.activate m x.eui index w.clock)
+
+unfoldable pub activate : Ciphers → World → ℕ → ℕ → Step
+activate ciphers w number index = once_begun w (on_node w number (λ x. at_center w (λ c. Ok (activate_at ciphers w number index x c))))
+
+unfoldable pub kick : Ciphers → World → ℕ → Step
+kick ciphers w number =
+    once_begun w (on_meter w number (λ x. at_center w (λ c. Ok (by_center ciphers w c said.Kicked (λ m. center.kick m x.eui)))))
+
+-- # All kinds
+
+abbrev pub step : Ciphers → World → Event → Step
+step ciphers w (events.Coordinator eui key) = coordinator w eui key
+step ciphers w (events.Meter eui psk) = meter w eui psk
+step ciphers w (events.Depot node) = depot ciphers w node
+step ciphers w (events.Near a b cost) = near ciphers w a b cost
+step ciphers w (events.Counter node value) = preset ciphers w node (λ l. calls.preset_counter l value)
+step ciphers w (events.Number node value) = preset ciphers w node (λ l. calls.preset_number l value)
+step ciphers w (events.Allow node) = allow ciphers w node
+step ciphers w (events.Rand node value) = rand ciphers w node value
+step ciphers w (events.Join node agent) = join ciphers w node agent
+step ciphers w (events.Leave node) = leave ciphers w node
+step ciphers w (events.Send from to datagram) = send ciphers w from to datagram
+step ciphers w (events.Deliver flight node cost) = deliver ciphers w flight node cost
+step ciphers w (events.Inject node cost octets) = inject ciphers w node cost octets
+step ciphers w (events.Lose flight) = lose w flight
+step ciphers w (events.Break node next) = breaks ciphers w node next
+step ciphers w (events.Tick seconds) = tick w seconds
+step ciphers w (events.Restart node) = restart ciphers w node
+step ciphers w (events.Cut node nth keeps_new) = cut ciphers w node nth keeps_new
+step ciphers w (events.Rekey index key) = rekey ciphers w index key
+step ciphers w (events.Challenge node) = challenge ciphers w node
+step ciphers w (events.Activate node index) = activate ciphers w node index
+step ciphers w (events.Kick node) = kick ciphers w node
+step ciphers w (events.Show node) = show w node

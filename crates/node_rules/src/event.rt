@@ -1,0 +1,286 @@
+//! The events of a line, and what is said of them.
+use plc_base::{Eui, Key, LinkCost, Octets, Rand};
+use thiserror::Error;
+
+/// The octets that a line of a script can hold in hexadecimal: at most 2,048.
+pub type LineOctets = Octets<2048>;
+
+/// What a line of a script asks for, with the fields of the line in their order.
+///
+/// Nodes are numbered from 0, flights from 1.
+#[derive(Debug, Drop)]
+pub enum Event {
+    /// Makes node 0, the coordinator, with its group key.
+    Coordinator {
+        eui: Eui,
+        key: Key,
+    },
+    /// Makes the next node, a meter, with its pair key.
+    Meter {
+        eui: Eui,
+        psk: Key,
+    },
+    /// Joins a meter in the workshop.
+    Depot {
+        node: u32,
+    },
+    /// Gives two joined nodes the route to each other, over one hop of this cost.
+    Near {
+        a: u32,
+        b: u32,
+        cost: LinkCost,
+    },
+    /// Sets the next frame counter of a node.
+    Counter {
+        node: u32,
+        value: u32,
+    },
+    /// Sets the last own number of a node.
+    Number {
+        node: u32,
+        value: u16,
+    },
+    /// Allows a meter to join.
+    Allow {
+        node: u32,
+    },
+    /// Gives a node a random value.
+    Rand {
+        node: u32,
+        value: Rand,
+    },
+    /// A meter begins to join by an agent.
+    Join {
+        node: u32,
+        agent: u32,
+    },
+    /// A meter leaves.
+    Leave {
+        node: u32,
+    },
+    /// Sends a datagram from a node to a node.
+    Send {
+        from: u32,
+        to: u32,
+        datagram: LineOctets,
+    },
+    /// Brings a flight to a node over a link of this cost.
+    Deliver {
+        flight: u32,
+        node: u32,
+        cost: LinkCost,
+    },
+    /// Brings octets to a node that no node sent, over a link of this cost.
+    Inject {
+        node: u32,
+        cost: LinkCost,
+        octets: LineOctets,
+    },
+    /// Takes a flight away.
+    Lose {
+        flight: u32,
+    },
+    /// Tells a node that its link to another one broke.
+    Break {
+        node: u32,
+        next: u32,
+    },
+    /// Moves the clock on by so many seconds.
+    Tick {
+        seconds: u32,
+    },
+    /// Restarts a node.
+    Restart {
+        node: u32,
+    },
+    /// Makes a store write of a node fail: the nth from now on. Its slot then has the new record or the old one.
+    Cut {
+        node: u32,
+        nth: u16,
+        keeps_new: bool,
+    },
+    /// Draws a group key for an index.
+    Rekey {
+        index: u8,
+        key: Key,
+    },
+    /// The coordinator challenges a meter.
+    Challenge {
+        node: u32,
+    },
+    /// Makes a group key the one that seals, at the coordinator or, by an order, at a meter.
+    Activate {
+        node: u32,
+        index: u8,
+    },
+    /// Shuts a meter out.
+    Kick {
+        node: u32,
+    },
+    /// Shows a node.
+    Show {
+        node: u32,
+    },
+}
+
+/// How an event that was taken ended: the words of the report.
+#[derive(Clone, Copy, Debug, PartialEq, Eq)]
+pub enum Answer {
+    /// A node was made.
+    Made,
+    /// A meter was joined in the workshop.
+    Joined,
+    /// A setting was made.
+    Set,
+    /// A meter is allowed.
+    Allowed,
+    /// A random value was given.
+    Given,
+    /// A meter has asked to join.
+    Asked,
+    /// A meter has left.
+    Left,
+    /// A datagram went out.
+    Sent,
+    /// A datagram waits for a route.
+    Waiting,
+    /// A flight is lost.
+    Lost,
+    /// The routes over a link have ended, or a route error was taken in.
+    Broken,
+    /// The clock has moved.
+    Ticked,
+    /// A node has restarted.
+    Restarted,
+    /// A group key was drawn.
+    Drawn,
+    /// A meter is challenged.
+    Challenged,
+    /// Another key seals from now on.
+    Activated,
+    /// A meter is ordered to seal with another key.
+    Ordered,
+    /// A meter is shut out.
+    Kicked,
+    /// A node was shown.
+    Shown,
+    /// A datagram was handed up.
+    Up,
+    /// A piece is held.
+    Held,
+    /// A unit or a message went on.
+    Relayed,
+    /// A route request was answered.
+    Answered,
+    /// A route was learned.
+    Learned,
+    /// The origin was told that its unit can't go on.
+    Reported,
+    /// A joining message went on.
+    Carried,
+    /// A challenge was answered.
+    Replied,
+    /// A meter has taken its grant.
+    Took,
+    /// An acceptance was taken note of.
+    Noted,
+    /// A meter was not let in.
+    Declined,
+    /// A grant went out.
+    Keyed,
+    /// A joining has ended.
+    Done,
+    /// The target has no address.
+    NoAddress,
+    /// The node is halted.
+    Halted,
+    /// The node is not joined.
+    NotJoined,
+    /// The datagram has not 1 to 1,280 octets.
+    BadSize,
+    /// The target is the node itself.
+    ToSelf,
+    /// No body more can wait.
+    WaitingFull,
+    /// No meter more can be entered into the book.
+    MetersFull,
+    /// No random value more can be held.
+    RandomsFull,
+    /// The meter is joined.
+    AlreadyJoined,
+    /// The key at the index is the active one.
+    IndexActive,
+    /// The key at the index was not issued to the meter.
+    NotIssued,
+    /// A record of the store has no reading. No run of a line comes to it.
+    BadStore,
+    /// The octets are no MAC frame.
+    Malformed,
+    /// The frame is for another node.
+    NotForMe,
+    /// No key is held at the index of the frame.
+    NoKey,
+    /// The tag of the frame is wrong.
+    BadTag,
+    /// The counter is not above the mark of its sender.
+    Replayed,
+    /// No sender more can be held.
+    PeersFull,
+    /// A store write failed.
+    Store,
+    /// The payload is no unit that may come so.
+    BadUnit,
+    /// No route leads on.
+    NoRoute,
+    /// The unit may take no hop more.
+    HopsSpent,
+    /// The rank does not beat the one that is held.
+    NotBetter,
+    /// The cost passes 65,535.
+    CostSpent,
+    /// No rank more can be kept.
+    RoutesFull,
+    /// The meter is not allowed.
+    NotAllowed,
+    /// No session awaits the message.
+    NoSession,
+    /// No session more can be opened.
+    SessionsFull,
+    /// No random value is held.
+    NoRandom,
+    /// The packet has not the form that is awaited.
+    Form,
+    /// The packet is of another session.
+    OtherSession,
+    /// The MAC of the packet is wrong.
+    BadMac,
+    /// The tag of the protected channel is wrong.
+    BadChannel,
+    /// The protected channel does not say success.
+    NoSuccess,
+    /// No key is held at the index.
+    NotHeld,
+    /// There is no room for it.
+    BufferFull,
+    /// The own numbers are spent.
+    SeqSpent,
+    /// The frame counters are spent.
+    CounterSpent,
+}
+
+/// Why an event was not taken. The world is then as it was.
+#[derive(Clone, Copy, Debug, PartialEq, Eq, Error)]
+pub enum StepFault {
+    /// There was no memory for it.
+    #[error("there is not enough memory for the event")]
+    Memory,
+    /// The event does not fit the setup of the line.
+    #[error("the event does not fit the setup of the line")]
+    Setup,
+    /// A node is not there.
+    #[error("there is no such node")]
+    Node,
+    /// The flight is not there.
+    #[error("there is no such flight")]
+    Flight,
+}

@@ -1,0 +1,146 @@
+//! What a node makes of a frame that it hears.
+use eap_psk::Agreed;
+use plc_base::{DatagramBuf, Eui, FrameBuf, Grant, Key, Short};
+
+/// The way on which an accepted frame came.
+#[derive(Clone, Copy, Debug, PartialEq, Eq)]
+pub enum Path {
+    /// A sealed frame.
+    Sealed {
+        /// The neighbour that sent it.
+        from: Short,
+        /// Whether it went to all.
+        to_all: bool,
+        /// The group key that opened it.
+        key: Key,
+    },
+    /// A plain frame up to this node.
+    Up {
+        /// The node that sent it.
+        from: Eui,
+    },
+    /// A plain frame down to this node.
+    Down {
+        /// The neighbour that sent it.
+        from: Short,
+    },
+}
+
+/// A frame that was accepted.
+#[derive(Debug, Drop)]
+pub struct Accepted {
+    /// The way on which it came.
+    pub path: Path,
+    /// The octets of its unit, unread.
+    pub payload: FrameBuf,
+}
+
+/// Where a joining message comes from, and where its answer goes.
+#[derive(Clone, Copy, Debug, PartialEq, Eq)]
+pub enum Way {
+    /// A plain frame up, from the node of this EUI-64.
+    Air(Eui),
+    /// A plain frame down, from this neighbour.
+    Near(Short),
+    /// A command that was carried over the mesh, from the node of this address.
+    Mesh(Short),
+}
+
+/// What a station made of a frame that it accepted.
+#[derive(Debug, Drop)]
+pub enum Heard {
+    /// A datagram is handed up.
+    Up {
+        /// The node that sent it first.
+        from: Short,
+        /// The caller's number of the datagram: that which came with its frame, or with the first of its pieces.
+        note: u32,
+        /// The datagram.
+        octets: DatagramBuf,
+    },
+    /// A piece is held until the others come.
+    Held,
+    /// The unit or the message goes on.
+    Relayed,
+    /// A route request is answered.
+    Answered,
+    /// A route reply ends here, and the route is there.
+    Learned,
+    /// A route error was taken in.
+    Broken,
+    /// The unit can't go on, and its origin is told.
+    Reported,
+    /// A joining command for this node, whose body is not read yet.
+    Joining {
+        /// Where it comes from.
+        way: Way,
+        /// What stands behind the code 02.
+        body: FrameBuf,
+    },
+    /// A command of code 03, 04 or 05, whose body is not read yet.
+    Local {
+        /// The neighbour that sent it.
+        from: Short,
+        /// Whether it went to all.
+        to_all: bool,
+        /// The code: 3 to 5.
+        code: u8,
+        /// What stands behind the code.
+        body: FrameBuf,
+    },
+}
+
+/// Whether a datagram went out or waits for a route.
+#[derive(Clone, Copy, Debug, PartialEq, Eq)]
+pub enum SentHow {
+    /// It went out.
+    Sent,
+    /// It waits, and a route is sought.
+    Waiting,
+}
+
+/// What a meter made of a frame that it accepted.
+#[derive(Debug, Drop)]
+pub enum MeterHeard {
+    /// What its station made of it.
+    Line(Heard),
+    /// A joining message goes on.
+    Carried,
+    /// A challenge is answered.
+    Replied,
+    /// The third message of the joining is taken: the meter has its grant.
+    Took(Agreed),
+    /// The acceptance is taken note of.
+    Noted,
+    /// The coordinator does not let the meter in.
+    Declined,
+    /// The meter was kicked, and has left.
+    Left,
+    /// Another key seals from now on.
+    Activated,
+}
+
+/// What the coordinator made of a frame that it accepted.
+#[derive(Debug, Drop)]
+pub enum CoordHeard {
+    /// What its station made of it.
+    Line(Heard),
+    /// A session is opened, and the meter is challenged.
+    Challenged,
+    /// The meter has shown its key, and its grant goes out.
+    Keyed {
+        /// The meter.
+        eui: Eui,
+        /// The grant.
+        grant: Grant,
+    },
+    /// The joining has ended.
+    Done {
+        /// The meter.
+        eui: Eui,
+        /// The values that both ends hold.
+        agreed: Agreed,
+    },
+    /// The meter is not let in.
+    Declined,
+}

@@ -1,0 +1,127 @@
+//! Laws of the rules: each carried by a function that does nothing.
+ghost use Rattle.node_rules.specs.Laws.{WritesFailCleanly, NoCutNoFailure, HaltedHasNoAddress, RinglessHasNoAddress, HaltedDoesNothing, AFrameRefusedChangesNothing, ADropChangesNothing, AMetersDropChangesNothing, ACentersDropChangesNothing, ASendRefusedChangesNothing, AJoinRefusedChangesNothing, AnOrderRefusedChangesNothing, HearingIsBounded, AMetersHearingIsBounded, ACentersHearingIsBounded, ASendIsBounded, AJoinIsBounded, AnOrderIsBounded, AcceptingOnlyMarks, StepsGoOn};
+
+/// Where the write of a plan fails, the writes in front of it are stored and those behind it are not; the failed one is stored as the
+/// loss of power says. The node answers the word of a failed write, and nothing is sent, made or kept in memory. A plan whose writes are
+/// all in front of the loss is carried out whole.
+#[tactic(auto, using(crate::proofs::Writing::clean))]
+pub fn writes_fail_cleanly<M, A>()
+    ensures { WritesFailCleanly M A }
+{}
+
+/// Without a loss of power to come no write fails, and every plan is carried out whole.
+#[tactic(auto, using(crate::proofs::Writing::no_cut))]
+pub fn no_cut_no_failure<M, A>()
+    ensures { NoCutNoFailure M A }
+{}
+
+/// A halted node has no address and no route.
+#[tactic(auto, using(crate::proofs::Halting::halted))]
+pub fn halted_has_no_address()
+    ensures { HaltedHasNoAddress }
+{}
+
+/// A node without a ring has no address and no route.
+#[tactic(auto, using(crate::proofs::Halting::ringless))]
+pub fn ringless_has_no_address()
+    ensures { RinglessHasNoAddress }
+{}
+
+/// A halted node answers each call with the word for it, and does nothing else.
+#[tactic(auto, using(crate::proofs::Halting::does_nothing))]
+pub fn halted_does_nothing<A>()
+    ensures { HaltedDoesNothing A }
+{}
+
+/// A frame that a node does not accept changes nothing, and nothing is sent or checked for it.
+#[tactic(auto, using(crate::proofs::Refusals::frames_refused))]
+pub fn a_frame_refused_changes_nothing()
+    ensures { AFrameRefusedChangesNothing }
+{}
+
+/// A frame that a station drops changes nothing: nothing is stored, sent, made or found right.
+#[tactic(auto, using(crate::proofs::Refusals::drops))]
+pub fn a_drop_changes_nothing()
+    ensures { ADropChangesNothing }
+{}
+
+/// A frame that a meter drops changes nothing of all that it holds in memory.
+#[tactic(auto, using(crate::proofs::Refusals::meters_drops))]
+pub fn a_meters_drop_changes_nothing()
+    ensures { AMetersDropChangesNothing }
+{}
+
+/// A frame that the coordinator drops changes nothing of all that it holds in memory.
+#[tactic(auto, using(crate::proofs::Refusals::centers_drops))]
+pub fn a_centers_drop_changes_nothing()
+    ensures { ACentersDropChangesNothing }
+{}
+
+/// A send of a datagram or a command that is refused changes nothing.
+#[tactic(auto)]
+pub fn a_send_refused_changes_nothing()
+    ensures { ASendRefusedChangesNothing }
+{}
+
+/// Joining and leaving that a meter refuses change nothing.
+#[tactic(auto)]
+pub fn a_join_refused_changes_nothing()
+    ensures { AJoinRefusedChangesNothing }
+{}
+
+/// An order that the coordinator refuses changes nothing.
+#[tactic(auto)]
+pub fn an_order_refused_changes_nothing()
+    ensures { AnOrderRefusedChangesNothing }
+{}
+
+/// A station that hears a frame sends at most 24 frames, where at most 8 bodies of 80 blocks wait, and stores in this order: the
+/// floors, a rank, the own number, and last the counter.
+#[tactic(auto)]
+pub fn hearing_is_bounded()
+    ensures { HearingIsBounded }
+{}
+
+/// A meter that hears a frame sends at most 24 frames, and stores in order: floors, a rank or the ring, the own number, the counter.
+#[tactic(auto)]
+pub fn a_meters_hearing_is_bounded()
+    ensures { AMetersHearingIsBounded }
+{}
+
+/// The coordinator that hears a frame sends at most 24 frames, and stores in order: floors, a rank or a book entry, the own number,
+/// the counter.
+#[tactic(auto)]
+pub fn a_centers_hearing_is_bounded()
+    ensures { ACentersHearingIsBounded }
+{}
+
+/// A send of a datagram or of a command sends at most 24 frames, and stores in order: the tag, the own number, the counter.
+#[tactic(auto)]
+pub fn a_send_is_bounded()
+    ensures { ASendIsBounded }
+{}
+
+/// A meter that joins or leaves sends at most 24 frames, and stores in order: the ring, the counter.
+#[tactic(auto)]
+pub fn a_join_is_bounded()
+    ensures { AJoinIsBounded }
+{}
+
+/// An order of the operator sends at most 24 frames, and stores in order: the ring or book entries, the own number, the counter.
+#[tactic(auto)]
+pub fn an_order_is_bounded()
+    ensures { AnOrderIsBounded }
+{}
+
+/// Accepting a frame stores at most the mark of its sender, and sends, makes and checks nothing.
+#[tactic(auto)]
+pub fn accepting_only_marks()
+    ensures { AcceptingOnlyMarks }
+{}
+
+/// An event that is taken counts one event on, and takes back no flight and no tag that was made; no node goes, and the clock does not
+/// fall.
+#[tactic(auto)]
+pub fn steps_go_on()
+    ensures { StepsGoOn }
+{}
