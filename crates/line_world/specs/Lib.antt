@@ -1,5 +1,9 @@
+pub mod Flights
+pub mod Hearing
 pub mod Nodes
-pub mod Runs
+pub mod Opening
+pub mod Sending
+pub mod Setup
 pub mod Steps
 pub mod Units
 pub mod Worlds

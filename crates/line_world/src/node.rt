@@ -1,9 +1,11 @@
 //! What the world keeps of a node.
-ghost use Rattle.std.specs.Prelude.{◌≡◌, ◌==◌, ◌<◌, ◌++◌, ◌∷◌, [], IfSome, OnOk, OnErr, length, position};
-ghost use Rattle.line_world.specs.Nodes.{has_neighbour, mark_of, marked};
+ghost use Rattle.std.specs.Prelude.{◌≡◌, ◌<◌, ◌++◌, ◌∷◌, [], IfOk, Ok, Some, length};
+ghost use Rattle.line_world.specs.Nodes.{new_node, has_neighbour};
 
 use arrayvec::ArrayVec;
-use plc_base::{Eui, Key, LinkCost, Short};
+use frame_counters::{PeerMarks, SendCounter};
+use group_keys::{KeyBook, KeyRing};
+use plc_base::{Eui, Key, LinkCost, MemKeeper, Short};
 use std::alloc::{AllocError, Global};
 use std::marker::Model;
 
@@ -69,125 +71,27 @@ impl Neighbours {
     }
 }
 
-/// The counter of the last frame that came from a sender.
-#[derive(Clone, Copy, Debug, PartialEq, Eq)]
-pub struct Mark {
-    /// The node that sent it.
-    pub sender: u16,
-    /// The frame's counter.
-    pub counter: u32,
-}
-
-/// The marks of a node, one for each sender that was heard. A contract sees the list.
-#[derive(Drop)]
-pub struct Marks {
-    items: Vec<Mark>,
-}
-
-impl Model for Marks {
-    ghost use Rattle.std.specs.Prelude.{List};
-    ghost use Rattle.line_world.specs.declared.node.Mark.{Mark};
-
-    ghost Value = { List Mark };
-
-    ghost view = { λ m. m.items.items };
-}
-
-impl Marks {
-    /// No mark.
-    pub fn new(alloc: Global) -> Marks
-        ensures { result ≡ [] }
-    {
-        Marks {
-            items: Vec::new(alloc),
-        }
-    }
-
-    /// The counter of the last frame that came from a sender, if one came.
-    pub fn mark(&self, sender: u16) -> Option<u32>
-        ensures { result ≡ mark_of self.now sender }
-    {
-        for mark in self.items.as_slice() {
-            if mark.sender == sender {
-                return Some(mark.counter);
-            }
-        }
-        None
-    }
-
-    /// Takes in the counter of a frame. Without memory for a new sender nothing changes.
-    pub fn set(&mut self, sender: u16, counter: u32) -> Result<(), AllocError>
-        ensures ok { OnOk result (self.new ≡ marked self.old sender counter) }
-        ensures err { OnErr result (self.new ≡ self.old) }
-    {
-        let mark = Mark { sender, counter };
-        if let Some(place) = self.place(sender) {
-            self.items[place] = mark;
-            return Ok(());
-        }
-        self.items.push(mark)?;
-        Ok(())
-    }
-
-    fn place(&self, sender: u16) -> Option<usize>
-        ensures place { result ≡ position (λ m. m.sender == sender) self.now }
-        ensures within { IfSome result (λ place. place < length self.now) }
-    {
-        self.items.iter().position(|mark| mark.sender == sender)
-    }
-}
-
-/// One node of the line.
+/// One node of the line. It holds its store, and what stands on it agrees with it.
+///
+/// A contract sees all but the store.
 #[derive(Drop)]
 pub struct Node {
-    /// The identity that it has from its maker.
-    pub eui: Eui,
-    /// The coordinator's group key, or a meter's preshared key.
-    pub key: Key,
-    /// Its short address, where it is joined.
-    pub address: Option<Short>,
-    /// The counter of its next frame.
-    pub next_counter: u32,
-    /// The routes over one hop that it has.
-    pub near: Neighbours,
-    /// The counters that it took in.
-    pub marks: Marks,
+    eui: Eui,
+    key: Key,
+    keeper: MemKeeper,
+    ring: KeyRing,
+    counter: SendCounter,
+    marks: PeerMarks,
+    near: Neighbours,
+    book: KeyBook,
 }
 
-impl Node {
-    ghost use Rattle.line_world.specs.Nodes.{new_node, is_own, is_above};
+impl Model for Node {
+    ghost use Rattle.line_world.specs.Nodes.{Node, IsStored};
 
-    /// A node that has heard nothing.
-    pub fn new(alloc: Global, eui: Eui, key: Key, address: Option<Short>) -> Node
-        ensures { result ≡ new_node eui key address }
-    {
-        Node {
-            eui,
-            key,
-            address,
-            next_counter: 0,
-            near: Neighbours::new(),
-            marks: Marks::new(alloc),
-        }
-    }
+    ghost Value = { Node };
 
-    /// Whether this is its address.
-    pub fn is_at(&self, address: Short) -> bool
-        ensures { result ≡ is_own self.now.address address }
-    {
-        match self.address {
-            None => false,
-            Some(own) => own.number() == address.number(),
-        }
-    }
+    ghost view = { λ n. record { eui = n.eui; key = n.key; ring = n.ring; counter = n.counter; marks = n.marks; near = n.near; book = n.book } };
 
-    /// Whether a frame's counter is above the last one that came from its sender.
-    pub fn is_above(&self, sender: u16, counter: u32) -> bool
-        ensures { result ≡ is_above (mark_of self.now.marks sender) counter }
-    {
-        match self.marks.mark(sender) {
-            None => true,
-            Some(mark) => mark < counter,
-        }
-    }
+    ghost invariant = { λ n. IsStored (record { eui = n.eui; key = n.key; ring = n.ring; counter = n.counter; marks = n.marks; near = n.near; book = n.book }) n.keeper };
 }
