@@ -1,13 +1,12 @@
 -- What the events of setup do: the nodes of a line, their joining in the workshop, and the routes and counters that they begin with.
-use Rattle.std.specs.Prelude.{ℕ, ◌==◌, ◌||◌, Bool, true, not, List, [], ◌∷◌, ◌++◌, length, if◌then◌else◌, nat_lt, is_some, Option, None, Some, Ok, Err, Result, slice_set}
+use Rattle.std.specs.Prelude.{ℕ, ◌==◌, ◌||◌, Bool, true, not, min, List, [], ◌∷◌, ◌++◌, length, if◌then◌else◌, nat_lt, is_some, Option, None, Some, Ok, Err, Result, slice_set}
 use Rattle.std.specs.List.{list_any}
-use Rattle.std.specs.Str.{bytes_eq}
 use Rattle.plc_base.specs.Grant.{Granted}
 use Rattle.plc_base.specs.declared.address.Eui.{Eui}
 use Rattle.plc_base.specs.declared.key.Key.{Key}
 use Rattle.frame_counters.specs.SendCounter.{counting_at}
 use Rattle.group_keys.specs.KeyRing.{Ring}
-use Rattle.group_keys.specs.KeyBook.{Book, allow_change, issue_change, changing_after, changing_result}
+use Rattle.group_keys.specs.KeyBook.{Book, eui_number, allow_change, issue_change, changing_after, changing_result}
 use Rattle.group_keys.specs.declared.fault.BookFault.{BookFault}
 use Rattle.line_world.specs.declared.event.Happenings.{Happenings}
 use Rattle.line_world.specs.declared.event.Answer.TheVariants.{Made, Joined, Set}
@@ -28,8 +27,9 @@ granted node grant = record node { ring = Some grant }
 unfoldable pub made : World → Node → World × Happenings
 made w node = (record (set_up w) { nodes = w.nodes ++ node ∷ [] }, happened w Made)
 
+-- whether a node has this EUI: the number by which the book looks it up
 abbrev pub is_known : Eui → List Node → Bool
-is_known eui nodes = list_any (λ (n : Node). bytes_eq n.eui.0 eui.0) nodes
+is_known eui nodes = list_any (λ (n : Node). eui_number n.eui == eui_number eui) nodes
 
 unfoldable pub coordinated : World → Eui → Key → Step
 coordinated w eui key = if has_begun w then Err faults.Setup else Ok (made w (granted (new_node eui key) (first_grant key)))
@@ -108,10 +108,10 @@ nearing w a b cost (Some x) (Some y) = nearing_by w a b cost x y (address_of x.r
 unfoldable pub neared : World → ℕ → ℕ → ℕ → Step
 neared w a b cost = if takes_setup w then nearing w a b cost (node_at w a) (node_at w b) else Err faults.Setup
 
--- ---- counter: the next counter of a node's frames, which is stored as the limit
+-- ---- counter: the next counter of a node's frames, which is stored as the limit; 4,294,967,295 is the last there is
 
 unfoldable pub counted : World → ℕ → ℕ → Node → World × Happenings
-counted w number value node = (record (set_up w) { nodes = slice_set w.nodes number (record node { counter = counting_at value }) }, happened w Set)
+counted w number value node = (record (set_up w) { nodes = slice_set w.nodes number (record node { counter = counting_at (min value 4294967295) }) }, happened w Set)
 
 abbrev pub counting_by : World → ℕ → ℕ → Option Node → Step
 counting_by w number value None = Err faults.Node
