@@ -2,6 +2,7 @@ pub mod Flights
 pub mod Hearing
 pub mod Nodes
 pub mod Opening
+pub mod Runs
 pub mod Sending
 pub mod Setup
 pub mod Steps

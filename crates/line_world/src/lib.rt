@@ -3,12 +3,17 @@
 
 mod event;
 mod hearing;
+mod laws;
 mod node;
 mod opening;
 mod world;
 
 pub use event::{Answer, Event, Handed, Happenings, LineOctets, StepFault};
 pub use hearing::WholeUnit;
+pub use laws::{
+    counters_only_rise, every_run_is_safe, flights_are_readable, forged_events_are_told,
+    restarts_succeed,
+};
 pub use node::{MAX_NEIGHBOURS, Neighbour, Neighbours, Node};
 pub use opening::Opened;
 pub use world::{Counts, Flight, MAX_EVENTS, MAX_NODES, World};
