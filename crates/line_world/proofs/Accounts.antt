@@ -1,5 +1,5 @@
 -- What one event does, for the laws of runs.
-use Rattle.std.proofs.Common.{◌≡◌, ◌≤◌, ◌||◌, ◌&&◌, not, Bool, true, false, List, [], ◌++◌, if◌then◌else◌, None, Ok, Err, refl, arith}
+use Rattle.std.proofs.Common.{◌≡◌, ◌+◌, ap, length, ◌≤◌, ◌||◌, ◌&&◌, not, Bool, true, false, List, [], ◌++◌, if◌then◌else◌, None, Ok, Err, refl, arith}
 use Rattle.std.proofs.lemmas.List.{append-nil}
 use Rattle.std.specs.Prelude.{◌↔◌}
 use Rattle.line_world.specs.declared.event.Answer.{Answer}
@@ -8,7 +8,7 @@ use Rattle.line_world.specs.declared.event.Handed.{Handed}
 use Rattle.line_world.specs.declared.event.Happenings.{Happenings}
 use Rattle.line_world.specs.declared.event.StepFault.{StepFault}
 use Rattle.line_world.specs.Worlds.{World, Step, happened}
-use Rattle.line_world.specs.Runs.{Sending, Issue, IsSafeAt, sends_at, issues_at, ups_by, IsForged, hearer_of, IsDelivered}
+use Rattle.line_world.specs.Runs.{Sending, Issue, IsSafeAt, sends_at, issues_at, ups_by, IsForged, hearer_of, IsDelivered, Adds}
 use Rattle.line_world.proofs.Histories.{Keeps}
 use Rattle.line_world.proofs.Custody.{Holds}
 
@@ -18,6 +18,7 @@ pub record Good (w : World) (sent : List Sending) (issues : List Issue) (event :
   pub frames : q.1.flights ≤ 1
   pub forged : (q.1.forged ≡ true) ↔ IsForged w event
   pub delivered : IsDelivered event q.1
+  pub adds : Adds w event q.0 q.1
   pub safe : (handed : List Handed) → Holds w sent handed → q.1.forged ≡ false → IsSafeAt sent handed q.1 × Holds q.0 (sent ++ sends_at event q.1) (handed ++ ups_by q.1.up)
 
 pub no_send : (b : Bool) (none : List Sending) → none ≡ [] → (if b then none else none) ≡ []
@@ -28,14 +29,33 @@ no_send false none empty = empty
 pub unheard : (w : World) (event : Event) → hearer_of w event ≡ None → IsForged w event → ⊥
 unheard w event none f = let e = f.is in cc
 
+-- two worlds of one history but for the number of events
+pub record SameCounts (w v : World) : Type 0 where
+  pub events : v.events ≡ w.events + 1
+  pub sends : v.sends ≡ w.sends
+  pub ups : v.ups ≡ w.ups
+  pub forged : v.forged ≡ w.forged
+  pub flights : length v.flights ≡ length w.flights
+
+adds_nothing : (w v : World) (event : Event) (answer : Answer) → sends_at event (happened w answer) ≡ [] → SameCounts w v → Adds w event v (happened w answer)
+adds_nothing w v event answer unsent same = record {
+  events = same.events;
+  sends = omega (arith, same.sends, ap length unsent);
+  ups = omega (arith, same.ups);
+  forged = omega (arith, same.forged);
+  first = refl;
+  flights = omega (arith, same.flights);
+}
+
 -- an event that only answers
-pub quietly : (w v : World) (sent : List Sending) (issues : List Issue) (event : Event) (answer : Answer) → sends_at event (happened w answer) ≡ [] → (IsForged w event → ⊥) → IsDelivered event (happened w answer)
+pub quietly : (w v : World) (sent : List Sending) (issues : List Issue) (event : Event) (answer : Answer) → sends_at event (happened w answer) ≡ [] → (IsForged w event → ⊥) → IsDelivered event (happened w answer) → SameCounts w v
     → Keeps v sent (issues ++ issues_at event v) → ((handed : List Handed) → Holds w sent handed → Holds v sent handed) → Good w sent issues event (v, happened w answer)
-quietly w v sent issues event answer unsent unforged read keeps holds = record {
+quietly w v sent issues event answer unsent unforged read same keeps holds = record {
   keeps = rw (unsent, append-nil sent) keeps;
   frames = omega arith;
   forged = (λ e. absurd (cc (e)), λ f. absurd (unforged f));
   delivered = read;
+  adds = adds_nothing w v event answer unsent same;
   safe = λ handed h unforged. (tt, rw (unsent, append-nil sent, append-nil handed) (holds handed h));
 }
 

@@ -219,7 +219,7 @@ module _ (w : World) (sent : List Sending) (issues : List Issue) (k : Keeps w se
     joined_good : Good w sent issues (Depot number) (joined w number center meter grant)
     unfolding joined
     joined_good =
-        quietly w (joined w number center meter grant).0 sent issues (Depot number) Joined refl (unheard w (Depot number) refl) tt
+        quietly w (joined w number center meter grant).0 sent issues (Depot number) Joined refl (unheard w (Depot number) refl) tt (record { events = refl; sends = refl; ups = refl; forged = refl; flights = refl })
         (subst (λ (l : List Issue). Keeps (joined w number center meter grant).0 sent (issues ++ l)) (sym more_is)
         (keeps_setup w sent issues (issues ++ more) nodes k still named good (omega (arith, k.room, length-set first number meter', length-set w.nodes 0 center'))
         (λ n x above is. holds_issued n x above (now n x is))))

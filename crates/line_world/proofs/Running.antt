@@ -1,6 +1,6 @@
 -- The events behind the setup: send, deliver, inject, lose and restart.
 use Rattle.std.proofs.Common.{◌≡◌, inl, inr, ℕ, ◌+◌, ◌-◌, ◌<◌, ◌≤◌, ◌==◌, Bool, true, false, List, [], ◌∷◌, ◌++◌, length, nat_lt, if◌then◌else◌, Option, None, Some, Ok, Err, Result, refl, sym, ◌∙◌, ap, subst, arith}
-use Rattle.std.proofs.lemmas.List.{append-nil, length-map}
+use Rattle.std.proofs.lemmas.List.{append-nil, length-append, length-map, length-set}
 use Rattle.std.proofs.lemmas.Bool.{cases_eq, ne_eqb, ltb-true}
 use Rattle.std.specs.Prelude.{slice_get}
 use Rattle.plc_base.specs.Grant.{Granted}
@@ -52,7 +52,7 @@ module _ (w : World) (sent : List Sending) (issues : List Issue) (k : Keeps w se
   counted_good : (event : Event) (answer : Answer) (n : ℕ) (x : Node) → slice_get w.nodes n ≡ Some x → sends_at event (happened w answer) ≡ [] → issues_at event (ran w) ≡ [] → (IsForged w event → ⊥) → IsDelivered event (happened w answer)
       → Good w sent issues event (ran w, happened w answer)
   counted_good event answer n x is unsent unissued unforged read =
-      quietly w (ran w) sent issues event answer unsent unforged read
+      quietly w (ran w) sent issues event answer unsent unforged read (record { events = refl; sends = refl; ups = refl; forged = refl; flights = refl })
       (rw (unissued, append-nil issues) (keeps_ran w sent issues w.nodes w.ups w.forged k (later_all w.nodes) k.good k.room (some_nodes w.nodes n x is)))
       (λ handed h. holds_still w (ran w) sent handed h refl (remember_all w.nodes) (all_stay w.flights) h.covered)
 
@@ -88,6 +88,7 @@ module _ (w : World) (sent : List Sending) (issues : List Issue) (k : Keeps w se
           frames = omega arith;
           forged = (λ e. absurd (cc (e)), λ f. absurd (unheard w event refl f));
           delivered = tt;
+          adds = record { events = refl; sends = omega arith; ups = omega arith; forged = omega arith; first = refl; flights = length-append w.flights (flight ∷ []) };
           safe = λ handed h unforged. (
             tt,
             rw (append-nil handed) (holds_on w (went w from x ring next datagram).0 sent more handed h refl
@@ -194,6 +195,7 @@ module _ (w : World) (sent : List Sending) (issues : List Issue) (k : Keeps w se
         frames = omega arith;
         forged = forged_so w event node octets o hears brings ok;
         delivered = is_told (answered (accepted w number node o forged) NoRoute forged) (λ unforged. let e = own_is w sent issues k number node octets o is_node opens unforged in let same = ap (λ (u : WholeUnit). u.mesh.to == o.to) (found_is found reads unforged) in cc (e, same, apart));
+        adds = record { events = refl; sends = omega arith; ups = omega arith; forged = refl; first = refl; flights = omega arith };
         safe = λ handed h unforged. absurd (let e = own_is w sent issues k number node octets o is_node opens unforged in let same = ap (λ (u : WholeUnit). u.mesh.to == o.to) (found_is found reads unforged) in cc (e, same, apart));
       }
       by_own found reads true own = record {
@@ -201,6 +203,7 @@ module _ (w : World) (sent : List Sending) (issues : List Issue) (k : Keeps w se
         frames = omega arith;
         forged = forged_so w event node octets o hears brings ok;
         delivered = reads_as (record (answered (accepted w number node o forged) Up forged) { up = Some (handed_up found) }) refl;
+        adds = record { events = refl; sends = omega arith; ups = omega arith; forged = refl; first = refl; flights = omega arith };
         safe = λ handed h unforged. subst (IsUp handed) (found_is found reads unforged) (is_up handed h unforged);
       }
 
@@ -210,6 +213,7 @@ module _ (w : World) (sent : List Sending) (issues : List Issue) (k : Keeps w se
         frames = omega arith;
         forged = forged_so w event node octets o hears brings ok;
         delivered = is_told (answered (accepted w number node o forged) BadUnit forged) (λ unforged. let e = carried_is w sent issues k number node octets o is_node opens unforged in cc (e, reads));
+        adds = record { events = refl; sends = omega arith; ups = omega arith; forged = refl; first = refl; flights = omega arith };
         safe = λ handed h unforged. absurd (let e = carried_is w sent issues k number node octets o is_node opens unforged in cc (e, reads));
       }
       heard_good (Some found) reads = by_own found reads (found.mesh.to == o.to) refl
@@ -251,7 +255,7 @@ module _ (w : World) (sent : List Sending) (issues : List Issue) (k : Keeps w se
   lost_good : (number : ℕ) (f : Flight) → slice_get w.flights (number - 1) ≡ Some f → 0 < length w.nodes → Good w sent issues (Lose number) (lost w number f)
   unfolding lost
   lost_good number f is some =
-      quietly w (lost w number f).0 sent issues (Lose number) Lost refl (unheard w (Lose number) refl) tt
+      quietly w (lost w number f).0 sent issues (Lose number) Lost refl (unheard w (Lose number) refl) tt (record { events = refl; sends = refl; ups = refl; forged = refl; flights = length-set w.flights (number - 1) (record f { lost = true }) })
       (rw (append-nil issues) (keeps_lost w sent issues (number - 1) f k is some))
       (λ handed h. holds_still w (lost w number f).0 sent handed h refl (remember_all w.nodes) (record { at = λ place octets at. at_lost w.flights (number - 1) f place octets is at }) h.covered)
 
@@ -270,7 +274,7 @@ module _ (w : World) (sent : List Sending) (issues : List Issue) (k : Keeps w se
   unfolding renewed
   renewed_good number node is =
       let good = k.good number node is in
-      quietly w (renewed w number node).0 sent issues (Restart number) Restarted refl (unheard w (Restart number) refl) tt
+      quietly w (renewed w number node).0 sent issues (Restart number) Restarted refl (unheard w (Restart number) refl) tt (record { events = refl; sends = refl; ups = refl; forged = refl; flights = refl })
       (rw (append-nil issues) (keeps_one w sent issues number node (restarted node) w.ups w.forged k is (record { eui = refl; ring = refl; book = refl }) good.next
       (record {
         active = good.active;

@@ -10,7 +10,7 @@ use Rattle.line_world.specs.Nodes.{Node}
 use Rattle.line_world.specs.Worlds.{World, Step, start, node_at, has_begun}
 use Rattle.line_world.specs.Sending.{renewed, restarting_by, restarting}
 use Rattle.line_world.specs.Steps.{step}
-use Rattle.line_world.specs.Runs.{Entry, IsRun, entries_of, run, Sending, Issue, sends_at, ups_by, issues_at, IsSafe, IsSafeAfter, CountersRise, IsCounted, RestartsAt, IsRestarting, IsForgedRight, IsReadable}
+use Rattle.line_world.specs.Runs.{Entry, IsRun, entries_of, run, Sending, Issue, sends_at, ups_by, issues_at, IsSafe, IsSafeAfter, CountersRise, IsCounted, RestartsAt, IsRestarting, IsForgedRight, IsReadable, CountsRight}
 use Rattle.line_world.proofs.Accounts.{Good, taken_as, goes, ok_same}
 use Rattle.line_world.proofs.Keeping.{has_counter}
 use Rattle.line_world.proofs.Histories.{Keeps, keeps_start}
@@ -89,16 +89,19 @@ pub run_is : (events : List Event) (w : World) → IsRun w (run w events)
 run_is [] w = tt
 run_is (event ∷ events) w = run_step w event (step w event) (λ next. run next events) (nat_lt w.events 50000) refl refl (run_is events)
 
--- ---- forged events, and answers to deliveries
+-- ---- forged events, answers to deliveries, and counts
 
-right_from : (entries : List Entry) (w : World) (sent : List Sending) (issues : List Issue) → Keeps w sent issues → IsRun w entries → IsForgedRight w entries × IsReadable entries
-right_from [] w sent issues k is = (tt, tt)
+right_from : (entries : List Entry) (w : World) (sent : List Sending) (issues : List Issue) → Keeps w sent issues → IsRun w entries → IsForgedRight w entries × IsReadable entries × CountsRight w entries
+right_from [] w sent issues k is = (tt, tt, tt)
 right_from (x ∷ xs) w sent issues k is =
     let good = step_good w sent issues k x.event (x.after, x.happened) is.2 in
-    let rest = right_from xs x.after (sent ++ sends_at x.event x.happened) (issues ++ issues_at x.event x.after) good.keeps is.3 in ((good.forged, rest.0), (good.delivered, rest.1))
+    let rest = right_from xs x.after (sent ++ sends_at x.event x.happened) (issues ++ issues_at x.event x.after) good.keeps is.3 in ((good.forged, rest.0), (good.delivered, rest.1), (good.adds, rest.2))
 
 pub forged_entries : (entries : List Entry) → IsRun start entries → IsForgedRight start entries
 forged_entries entries is = (right_from entries start [] [] keeps_start is).0
 
 pub readable_entries : (entries : List Entry) → IsRun start entries → IsReadable entries
 readable_entries entries is = (right_from entries start [] [] keeps_start is).1
+
+pub right_entries : (entries : List Entry) → IsRun start entries → CountsRight start entries
+right_entries entries is = (right_from entries start [] [] keeps_start is).2

@@ -59,7 +59,7 @@ module _ (w : World) (sent : List Sending) (issues : List Issue) (k : Keeps w se
   unfolding made
   made_good event new still named good room keys covered unsent unissued alone read =
       let nodes : List Node = w.nodes ++ new ∷ [] in
-      quietly w (made w new).0 sent issues event Made unsent (unheard w event alone) read
+      quietly w (made w new).0 sent issues event Made unsent (unheard w event alone) read (record { events = refl; sends = refl; ups = refl; forged = refl; flights = refl })
       (rw (unissued (made w new).0, append-nil issues) (keeps_setup w sent issues issues nodes k still named (each_push (λ n x. IsGood x) w.nodes new k.good good)
       (omega (arith, room, length-append w.nodes (new ∷ []))) (issued_push issues w.nodes new k.keys keys)))
       (λ handed h. holds_setup w sent handed nodes h still (each_push (λ n x. IsCovered x.marks) w.nodes new h.covered covered))
@@ -125,7 +125,7 @@ module _ (w : World) (sent : List Sending) (issues : List Issue) (k : Keeps w se
       let kept = kept_twice w.nodes first nodes one two in
       let good = each_set (λ n z. IsGood z) first b y' (each_set (λ n z. IsGood z) w.nodes a x' k.good (near_good x r cost (k.good a x is_x) (ltb-false 63 (length x.near) third.1))) (near_good y p cost (k.good b y is_y) (ltb-false 63 (length y.near) fourth.1)) in
       subst (Good w sent issues (Near a b cost)) (ok_same (set_near w a b cost x y p r) q t.1)
-      (quietly w (set_near w a b cost x y p r).0 sent issues (Near a b cost) Set refl (unheard w (Near a b cost) refl) tt
+      (quietly w (set_near w a b cost x y p r).0 sent issues (Near a b cost) Set refl (unheard w (Near a b cost) refl) tt (record { events = refl; sends = refl; ups = refl; forged = refl; flights = refl })
       (rw (append-nil issues) (keeps_setup w sent issues issues nodes k still (named_kept w.nodes nodes kept k.named) good (omega (arith, k.room, length-set first b y', length-set w.nodes a x')) (issued_kept issues w.nodes nodes kept k.keys)))
       (λ handed h. holds_setup w sent handed nodes h still (each_set (λ n z. IsCovered z.marks) first b y' (each_set (λ n z. IsCovered z.marks) w.nodes a x' h.covered (h.covered a x is_x)) (h.covered b y is_y))))
 
@@ -148,7 +148,7 @@ module _ (w : World) (sent : List Sending) (issues : List Issue) (k : Keeps w se
       let nodes : List Node = slice_set w.nodes number new in
       let good = k.good number node is in
       let kept = kept_set w.nodes number node new is (record { eui = refl; ring = refl; book = refl }) in
-      quietly w (counted w number value node).0 sent issues (Counter number value) Set refl (unheard w (Counter number value) refl) tt
+      quietly w (counted w number value node).0 sent issues (Counter number value) Set refl (unheard w (Counter number value) refl) tt (record { events = refl; sends = refl; ups = refl; forged = refl; flights = refl })
       (rw (append-nil issues) (keeps_setup w sent issues issues nodes k still (named_kept w.nodes nodes kept k.named)
       (each_set (λ n z. IsGood z) w.nodes number new k.good (record {
         active = good.active;

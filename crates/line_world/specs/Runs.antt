@@ -203,6 +203,22 @@ abbrev pub IsForgedRight : World → List Entry → Type 0
 IsForgedRight w [] = Unit {0}
 IsForgedRight w (x ∷ xs) = ((x.happened.forged ≡ true) ↔ IsForged w x.event) × IsForgedRight x.after xs
 
+-- ---- counts
+
+-- What an event adds to the counts of a world: its sends, what was handed up, itself where it is forged, and its flights.
+pub record Adds (w : World) (event : Event) (v : World) (happened : Happenings) : Type 0 where
+  pub events : v.events ≡ w.events + 1
+  pub sends : v.sends ≡ w.sends + length (sends_at event happened)
+  pub ups : v.ups ≡ w.ups + length (ups_by happened.up)
+  pub forged : v.forged ≡ w.forged + (if happened.forged then 1 else 0)
+  pub first : happened.first_flight ≡ length w.flights + 1
+  pub flights : length v.flights ≡ length w.flights + happened.flights
+
+-- so the counts of a world are those of its history
+abbrev pub CountsRight : World → List Entry → Type 0
+CountsRight w [] = Unit {0}
+CountsRight w (x ∷ xs) = Adds w x.event x.after x.happened × CountsRight x.after xs
+
 -- ---- counters
 
 -- the counter in the head of a sealed frame

@@ -4,7 +4,7 @@
 ghost use Rattle.std.specs.Prelude.{List};
 ghost use Rattle.line_world.specs.declared.event.Event.{Event};
 ghost use Rattle.line_world.specs.Worlds.{start};
-ghost use Rattle.line_world.specs.Runs.{Entry, IsRun, IsSafe, IsForgedRight, IsCounted, IsRestarting, IsReadable, run};
+ghost use Rattle.line_world.specs.Runs.{Entry, IsRun, IsSafe, IsForgedRight, CountsRight, IsCounted, IsRestarting, IsReadable, run};
 
 /// Up to the first forged event of a run, every datagram that was handed up was sent to that node with the same octets, none
 /// was handed up twice, every meter holds only group keys that were issued to it, and no table passes its size. So it is for
@@ -39,4 +39,11 @@ pub fn restarts_succeed()
 pub fn flights_are_readable()
     ensures events { (events : List Event) → IsReadable (run start events) }
     ensures entries { (entries : List Entry) → IsRun start entries → IsReadable entries }
+{}
+
+/// The counts of a world are those of its history: the events, the sends, what was handed up, the forged events, and the
+/// flights, which are numbered in their order.
+pub fn counts_are_right()
+    ensures events { (events : List Event) → CountsRight start (run start events) }
+    ensures entries { (entries : List Entry) → IsRun start entries → CountsRight start entries }
 {}
