@@ -221,6 +221,7 @@ module _ (w : World) (sent : List Sending) (issues : List Issue) (k : Keeps w se
     low = low;
     sender = counted;
     sender_at = set_here w.nodes from x counted is_x;
+    mine = ap address_of has_ring;
     below = omega arith;
     send = new_send;
     is = get_last sent new_send (w.sends + 1 - 1) (omega (arith, k.count));

@@ -80,6 +80,7 @@ pub record IsFlown (nodes : List Node) (sent : List Sending) (f : Flight) : Type
   pub low : to < 0xFFFE
   pub sender : Node
   pub sender_at : slice_get nodes f.from ≡ Some sender
+  pub mine : address_of sender.ring ≡ Some from
   pub below : counter < sender.counter.next
   pub send : Sending
   pub is : slice_get sent (f.note - 1) ≡ Some send
@@ -110,6 +111,7 @@ flown_on nodes nodes' sent more f later h =
       low = h.low;
       sender = sender.node;
       sender_at = sender.is;
+      mine = ap address_of sender.stays.ring ∙ h.mine;
       below = omega (arith, h.below, later.next f.from h.sender sender.node h.sender_at sender.is);
       send = h.send;
       is = get_stays sent more (f.note - 1) h.send h.is;
@@ -143,6 +145,7 @@ flown_lost nodes sent f h = record {
   low = h.low;
   sender = h.sender;
   sender_at = h.sender_at;
+  mine = h.mine;
   below = h.below;
   send = h.send;
   is = h.is;

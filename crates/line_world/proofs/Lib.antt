@@ -8,6 +8,7 @@ mod Histories
 mod Keeping
 mod Meters
 mod Naming
+mod Nonces
 mod Openings
 mod Places
 mod Running

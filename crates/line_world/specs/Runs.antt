@@ -4,7 +4,8 @@ use Rattle.plc_base.specs.declared.address.Eui.{Eui}
 use Rattle.plc_base.specs.declared.key.Key.{Key}
 use Rattle.mac_frames.specs.declared.head.MacHead.{MacHead}
 use Rattle.mac_frames.specs.declared.head.MacHead.TheVariants as heads
-use Rattle.mac_frames.specs.Grammar.{Frame}
+use Rattle.mac_frames.specs.Grammar.{Frame, IsSealed}
+use Rattle.mac_frames.specs.Sealing.{nonce_of}
 use Rattle.group_keys.specs.KeyRing.{Ring, key_in_ring}
 use Rattle.line_world.specs.declared.event.Answer.{Answer}
 use Rattle.line_world.specs.declared.event.Answer.TheVariants.{Sent, Restarted, Up, NotForMe, NoKey, BadTag, Replayed, PeersFull}
@@ -244,6 +245,25 @@ pub record CountersRise (flights : List Flight) : Type 0 where
 abbrev pub IsCounted : List Entry → Type 0
 IsCounted [] = Unit {0}
 IsCounted (x ∷ xs) = CountersRise x.after.flights × IsCounted xs
+
+-- ---- nonces
+
+-- the octets are a sealed frame with this nonce
+pub record HasNonce (octets nonce : List ℕ) : Type 0 where
+  pub head : MacHead
+  pub body : List ℕ
+  pub frame : Frame head body octets
+  pub sealed : IsSealed head
+  pub is : nonce_of head ≡ nonce
+
+-- no two flights have one nonce
+abbrev pub NoncesDiffer : List Flight → Type 0
+NoncesDiffer flights = (i j : ℕ) (f g : Flight) (m n : List ℕ) → i < j → slice_get flights i ≡ Some f → slice_get flights j ≡ Some g → HasNonce f.octets m → HasNonce g.octets n → m ≢ n
+
+-- so it is after each event
+abbrev pub HaveNewNonces : List Entry → Type 0
+HaveNewNonces [] = Unit {0}
+HaveNewNonces (x ∷ xs) = NoncesDiffer x.after.flights × HaveNewNonces xs
 
 -- ---- answers
 
