@@ -5,9 +5,10 @@ use Rattle.mac_frames.specs.declared.head.MacHead.TheVariants.{Sealed}
 use Rattle.mac_frames.specs.Sealing.{nonce, nonce_of}
 use Rattle.mac_frames.proofs.Values.{one_value}
 use Rattle.line_world.specs.declared.world.Flight.{Flight}
-use Rattle.line_world.specs.Nodes.{Node}
+use Rattle.line_world.specs.Nodes.{Node, address_of}
 use Rattle.line_world.specs.Worlds.{World}
-use Rattle.line_world.specs.Runs.{Sending, Issue, HasNonce, NoncesDiffer}
+use Rattle.line_world.specs.Runs.{Sending, Issue, HasNonce, NoncesDiffer, AreAddressed, sender_in}
+use Rattle.line_world.proofs.Places.{same_some}
 use Rattle.line_world.proofs.Naming.{distinct}
 use Rattle.line_world.proofs.Keeping.{IsFlown, has_counter}
 use Rattle.line_world.proofs.Histories.{Keeps}
@@ -40,3 +41,13 @@ nonces_differ w sent issues k i j f g m n before is_f is_g has_f has_g same =
     let one_node : f.from ≡ g.from = distinct w.nodes f.from g.from a.sender b.sender a.from k.named a.sender_at b.sender_at a.mine (b.mine ∙ ap Some (sym parts.0)) in
     let rise : a.counter < b.counter = k.rises i j f g a.counter b.counter before is_f is_g one_node (has_counter w.nodes sent f a) (has_counter w.nodes sent g b) in
     omega (arith, rise, parts.1)
+
+-- no two nodes have one address, and a flight has its sender's
+pub addressed : (w : World) (sent : List Sending) (issues : List Issue) → Keeps w sent issues → AreAddressed w
+addressed w sent issues k = record {
+  apart = λ m n x y address is_m is_n address_m address_n. distinct w.nodes m n x y address k.named is_m is_n address_m address_n;
+  senders = λ j f head body node is frame at.
+      let h = k.flown j f is in
+      let node_is : h.sender ≡ node = same_some (sym h.sender_at ∙ at) in
+      ap sender_in (one_value head (Sealed h.ack h.seq h.pan h.to h.from h.counter h.index) body _ f.octets frame h.sealed_so.frame).0 ∙ sym h.mine ∙ ap (λ (x : Node). address_of x.ring) node_is;
+}

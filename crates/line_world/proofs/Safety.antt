@@ -10,12 +10,12 @@ use Rattle.line_world.specs.Nodes.{Node}
 use Rattle.line_world.specs.Worlds.{World, Step, start, node_at, has_begun}
 use Rattle.line_world.specs.Sending.{renewed, restarting_by, restarting}
 use Rattle.line_world.specs.Steps.{step}
-use Rattle.line_world.specs.Runs.{Entry, IsRun, entries_of, run, Sending, Issue, sends_at, ups_by, issues_at, IsSafe, IsSafeAfter, CountersRise, IsCounted, RestartsAt, IsRestarting, IsForgedRight, IsReadable, CountsRight, HaveNewNonces}
+use Rattle.line_world.specs.Runs.{Entry, IsRun, entries_of, run, Sending, Issue, sends_at, ups_by, issues_at, IsSafe, IsSafeAfter, CountersRise, IsCounted, RestartsAt, IsRestarting, IsForgedRight, IsReadable, CountsRight, HaveNewNonces, HaveAddresses}
 use Rattle.line_world.proofs.Accounts.{Good, taken_as, goes, ok_same}
 use Rattle.line_world.proofs.Keeping.{has_counter}
 use Rattle.line_world.proofs.Histories.{Keeps, keeps_start}
 use Rattle.line_world.proofs.Custody.{Holds, holds_start}
-use Rattle.line_world.proofs.Nonces.{nonces_differ}
+use Rattle.line_world.proofs.Nonces.{nonces_differ, addressed}
 use Rattle.line_world.proofs.Setups.{coordinated_good, metered_good, neared_good, counting_good}
 use Rattle.line_world.proofs.Depots.{depoted_good}
 use Rattle.line_world.proofs.Running.{sending_good, delivering_good, injecting_good, losing_good, restarting_good}
@@ -46,25 +46,28 @@ safe_from (x ∷ xs) w sent handed issues k h is = λ unforged.
 pub safe_entries : (entries : List Entry) → IsRun start entries → IsSafe entries
 safe_entries entries is = safe_from entries start [] [] [] keeps_start holds_start is
 
--- ---- counters and nonces
+-- ---- counters, nonces and addresses
 
 counters_rise : (w : World) (sent : List Sending) (issues : List Issue) → Keeps w sent issues → CountersRise w.flights
 counters_rise w sent issues k = record { each = λ j f is. let flown = k.flown j f is in (flown.counter, has_counter w.nodes sent f flown); rise = k.rises }
 
-counted_from : (entries : List Entry) (w : World) (sent : List Sending) (issues : List Issue) → Keeps w sent issues → IsRun w entries → IsCounted entries × HaveNewNonces entries
-counted_from [] w sent issues k is = (tt, tt)
+counted_from : (entries : List Entry) (w : World) (sent : List Sending) (issues : List Issue) → Keeps w sent issues → IsRun w entries → IsCounted entries × HaveNewNonces entries × HaveAddresses entries
+counted_from [] w sent issues k is = (tt, tt, tt)
 counted_from (x ∷ xs) w sent issues k is =
     let good = step_good w sent issues k x.event (x.after, x.happened) is.2 in
     let sent' : List Sending = sent ++ sends_at x.event x.happened in
     let issues' : List Issue = issues ++ issues_at x.event x.after in
     let rest = counted_from xs x.after sent' issues' good.keeps is.3 in
-    ((counters_rise x.after sent' issues' good.keeps, rest.0), (nonces_differ x.after sent' issues' good.keeps, rest.1))
+    ((counters_rise x.after sent' issues' good.keeps, rest.0), (nonces_differ x.after sent' issues' good.keeps, rest.1), (addressed x.after sent' issues' good.keeps, rest.2))
 
 pub counted_entries : (entries : List Entry) → IsRun start entries → IsCounted entries
 counted_entries entries is = (counted_from entries start [] [] keeps_start is).0
 
 pub nonced_entries : (entries : List Entry) → IsRun start entries → HaveNewNonces entries
 nonced_entries entries is = (counted_from entries start [] [] keeps_start is).1
+
+pub addressed_entries : (entries : List Entry) → IsRun start entries → HaveAddresses entries
+addressed_entries entries is = (counted_from entries start [] [] keeps_start is).2
 
 -- ---- restarts
 

@@ -15,7 +15,7 @@ use Rattle.line_world.specs.declared.event.Handed.{Handed}
 use Rattle.line_world.specs.declared.event.Happenings.{Happenings}
 use Rattle.line_world.specs.declared.opening.Opened.{Opened}
 use Rattle.line_world.specs.declared.world.Flight.{Flight}
-use Rattle.line_world.specs.Nodes.{Node}
+use Rattle.line_world.specs.Nodes.{Node, address_of}
 use Rattle.line_world.specs.Flights.{not_lost}
 use Rattle.line_world.specs.Opening.{opening}
 use Rattle.line_world.specs.Worlds.{World, Step, node_at, flight_at}
@@ -245,6 +245,24 @@ pub record CountersRise (flights : List Flight) : Type 0 where
 abbrev pub IsCounted : List Entry → Type 0
 IsCounted [] = Unit {0}
 IsCounted (x ∷ xs) = CountersRise x.after.flights × IsCounted xs
+
+-- ---- addresses
+
+-- the sender's address in the head of a sealed frame
+abbrev pub sender_in : MacHead → Option ℕ
+sender_in (heads.Sealed ack seq pan to from counter index) = Some from
+sender_in (heads.Up ack version seq pan to from) = None
+sender_in (heads.Down ack version seq pan to from) = None
+
+-- No two nodes have one address, and every flight has that of the node that sent it.
+pub record AreAddressed (w : World) : Type 0 where
+  pub apart : (m n : ℕ) (x y : Node) (address : ℕ) → node_at w m ≡ Some x → node_at w n ≡ Some y → address_of x.ring ≡ Some address → address_of y.ring ≡ Some address → m ≡ n
+  pub senders : (j : ℕ) (f : Flight) (head : MacHead) (body : List ℕ) (node : Node) → slice_get w.flights j ≡ Some f → Frame head body f.octets → node_at w f.from ≡ Some node → sender_in head ≡ address_of node.ring
+
+-- so it is after each event
+abbrev pub HaveAddresses : List Entry → Type 0
+HaveAddresses [] = Unit {0}
+HaveAddresses (x ∷ xs) = AreAddressed x.after × HaveAddresses xs
 
 -- ---- nonces
 

@@ -4,7 +4,7 @@
 ghost use Rattle.std.specs.Prelude.{List};
 ghost use Rattle.line_world.specs.declared.event.Event.{Event};
 ghost use Rattle.line_world.specs.Worlds.{start};
-ghost use Rattle.line_world.specs.Runs.{Entry, IsRun, IsSafe, IsForgedRight, CountsRight, IsCounted, HaveNewNonces, IsRestarting, IsReadable, run};
+ghost use Rattle.line_world.specs.Runs.{Entry, IsRun, IsSafe, IsForgedRight, CountsRight, IsCounted, HaveAddresses, HaveNewNonces, IsRestarting, IsReadable, run};
 
 /// Up to the first forged event of a run, every datagram that was handed up was sent to that node with the same octets, none
 /// was handed up twice, every meter holds only group keys that were issued to it, and no table passes its size. So it is for
@@ -26,6 +26,12 @@ pub fn forged_events_are_told()
 pub fn counters_only_rise()
     ensures events { (events : List Event) → IsCounted (run start events) }
     ensures entries { (entries : List Entry) → IsRun start entries → IsCounted entries }
+{}
+
+/// No two nodes have one address, and every flight has the address of the node that sent it: in every run, forged or not.
+pub fn addresses_differ()
+    ensures events { (events : List Event) → HaveAddresses (run start events) }
+    ensures entries { (entries : List Entry) → IsRun start entries → HaveAddresses entries }
 {}
 
 /// No two flights have one nonce, under whatever key: no two nodes have one address, and the counters of one node differ.

@@ -11,8 +11,8 @@ mod world;
 pub use event::{Answer, Event, Handed, Happenings, LineOctets, StepFault};
 pub use hearing::WholeUnit;
 pub use laws::{
-    counters_only_rise, counts_are_right, every_run_is_safe, flights_are_readable,
-    forged_events_are_told, nonces_differ, restarts_succeed,
+    addresses_differ, counters_only_rise, counts_are_right, every_run_is_safe,
+    flights_are_readable, forged_events_are_told, nonces_differ, restarts_succeed,
 };
 pub use node::{MAX_NEIGHBOURS, Neighbour, Neighbours, Node};
 pub use opening::Opened;
