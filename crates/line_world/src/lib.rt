@@ -2,9 +2,12 @@
 #![tactic(auto)]
 
 mod event;
+mod flights;
 mod hearing;
 mod node;
 mod opening;
+mod sending;
+mod setup;
 mod world;
 
 pub use event::{Answer, Event, Handed, Happenings, LineOctets, StepFault};

@@ -1,0 +1,5 @@
+mod Enrolment
+mod FirstNotes
+mod Stores
+mod Tags
+mod UnitLemmas
