@@ -83,7 +83,7 @@ module _ (quiet : Bool) where
   pub report_by_entries : (octets : List ℕ) (ended : Bool) → report quiet octets ended ≡ entries_text quiet (entries octets ended) ++ last_text octets ended
   report_by_entries octets ended = text_from (lines octets ended) start ended
 
--- ---- forged events
+  -- ---- forged events
 
   -- the last state has counted the forged events of a history behind those of the first
   abbrev CountedBehind : World → List Entry → Playing → Type 0

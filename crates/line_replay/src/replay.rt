@@ -55,7 +55,13 @@ impl Replay {
         ensures { IfOk result (λ text. string_bytes text ≡ happened_text number happened.now ++ sent_text self.now.quiet self.now.world happened.now.first_flight) }
     {
         let mut text = happened_text(self.alloc, number, happened)?;
-        push_sent(&mut text, self.alloc, self.quiet, &self.world, happened.first_flight)?;
+        push_sent(
+            &mut text,
+            self.alloc,
+            self.quiet,
+            &self.world,
+            happened.first_flight,
+        )?;
         Ok(text)
     }
 

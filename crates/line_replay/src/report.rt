@@ -59,8 +59,26 @@ fn verdict_word(answer: Answer) -> &'static str
     ensures { result.now ≡ verdict_word answer }
 {
     match answer {
-        Answer::Made | Answer::Joined | Answer::Set | Answer::Sent | Answer::Up | Answer::Lost | Answer::Restarted => "ok",
-        Answer::NoAddress | Answer::NotJoined | Answer::BadSize | Answer::ToSelf | Answer::NoRoute | Answer::CounterSpent | Answer::Malformed | Answer::NotForMe | Answer::NoKey | Answer::BadTag | Answer::Replayed | Answer::PeersFull | Answer::BadUnit => "no",
+        Answer::Made
+        | Answer::Joined
+        | Answer::Set
+        | Answer::Sent
+        | Answer::Up
+        | Answer::Lost
+        | Answer::Restarted => "ok",
+        Answer::NoAddress
+        | Answer::NotJoined
+        | Answer::BadSize
+        | Answer::ToSelf
+        | Answer::NoRoute
+        | Answer::CounterSpent
+        | Answer::Malformed
+        | Answer::NotForMe
+        | Answer::NoKey
+        | Answer::BadTag
+        | Answer::Replayed
+        | Answer::PeersFull
+        | Answer::BadUnit => "no",
     }
 }
 
@@ -111,7 +129,12 @@ fn push_up(text: &mut String, alloc: Global, up: &Option<Handed>) -> Result<(), 
 }
 
 #[tactic(auto, unfolding(crate::specs::Texts::forged_text))]
-fn push_forged(text: &mut String, alloc: Global, number: u32, forged: bool) -> Result<(), AllocError>
+fn push_forged(
+    text: &mut String,
+    alloc: Global,
+    number: u32,
+    forged: bool,
+) -> Result<(), AllocError>
     ensures { OnOk result (string_bytes text.new ≡ string_bytes text.old ++ forged_text number forged) }
 {
     if !forged {
@@ -167,12 +190,7 @@ pub fn push_sent(
     push_flies(text, alloc, world, first)
 }
 
-fn push_flies(
-    text: &mut String,
-    alloc: Global,
-    world: &World,
-    first: u32,
-) -> Result<(), AllocError>
+fn push_flies(text: &mut String, alloc: Global, world: &World, first: u32) -> Result<(), AllocError>
     ensures { OnOk result (string_bytes text.new ≡ string_bytes text.old ++ flies_text world.now first (length world.now.flights + 1 - first)) }
 {
     let last = world.counts().flights;

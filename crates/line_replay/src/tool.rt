@@ -34,12 +34,7 @@ fn status_of(exit: Exit, forged: bool) -> Status
 }
 
 /// Reads a script from the source, and writes its report to the sink: a quiet one without the octets of the flights.
-fn replay<S: Source, K: Sink>(
-    alloc: Global,
-    quiet: bool,
-    source: &mut S,
-    sink: &mut K,
-) -> Status
+fn replay<S: Source, K: Sink>(alloc: Global, quiet: bool, source: &mut S, sink: &mut K) -> Status
     ensures replays { Replays quiet WINDOW (S.left source.old) (S.left source.new) (K.taken sink.old) (K.taken sink.new) (S.ended source.new)
         (Rose (S.faults source.old) (S.faults source.new)) (Rose (K.faults sink.old) (K.faults sink.new)) result }
     ensures whole { is_whole result ≡ true → IsAtEnd (S.left source.new) }

@@ -21,5 +21,5 @@ loop-number-preserved c =
 pub returns : goal.returns
 returns c =
     let end : c.loop-number.number - c.args.first ≡ (length c.args.world.now.flights + 1) - c.args.first
-        = omega (arith, c.loop-number.invariant.until, c.counts-last.ensures.flights, c.from-number-end.ensures, c.loop-number-test.false) in
+    = omega (arith, c.loop-number.invariant.until, c.counts-last.ensures.flights, c.from-number-end.ensures, c.loop-number-test.false) in
     c.loop-number.invariant.text ∙ ap (λ n. string_bytes c.args.text.now ++ flies_text c.args.world.now c.args.first n) end
