@@ -2,6 +2,8 @@ mod Accounts
 mod Arrivals
 mod Custody
 mod Depots
+mod Enrolment
+mod FirstNotes
 mod Flown
 mod Forging
 mod Histories
@@ -16,4 +18,6 @@ mod Safety
 mod Sealings
 mod Senders
 mod Setups
+mod Stores
+mod Tags
 mod UnitLemmas

@@ -1,5 +1,5 @@
 -- What `deliver` and `inject` do: octets come to a node.
-use Rattle.std.specs.Prelude.{ℕ, ◌+◌, ◌==◌, Bool, true, false, List, length, if◌then◌else◌, Option, None, Some, Ok, Err, Result, slice_set}
+use Rattle.std.specs.Prelude.{ℕ, ◌+◌, ◌==◌, Bool, List, if◌then◌else◌, Option, None, Some, Ok, Err, Result, slice_set}
 use Rattle.frame_counters.specs.PeerMarks.{kept_after}
 use Rattle.line_world.specs.declared.event.Answer.{Answer}
 use Rattle.line_world.specs.declared.event.Answer.TheVariants.{Up, NoRoute, BadUnit}

@@ -1,5 +1,7 @@
+pub mod Enrolling
 pub mod Flights
 pub mod Hearing
+pub mod Names
 pub mod Nodes
 pub mod Opening
 pub mod Runs

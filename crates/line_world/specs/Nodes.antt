@@ -1,7 +1,6 @@
 -- What the world keeps of a node.
 use Rattle.std.specs.Prelude.{◌≡◌, ℕ, ◌==◌, Bool, false, List, [], map, Option, None, Some}
 use Rattle.std.specs.List.{list_any}
-use Rattle.plc_base.specs.Grant.{Granted}
 use Rattle.plc_base.specs.Keeper.{Store}
 use Rattle.plc_base.specs.SlotTables.{IsTable}
 use Rattle.plc_base.specs.declared.address.Eui.{Eui}

@@ -1,5 +1,5 @@
 -- What one event does to the world.
-use Rattle.std.specs.Prelude.{◌≡◌, ℕ, Bool, true, false, Ok, Err, Result}
+use Rattle.std.specs.Prelude.{◌≡◌, Bool, true, false, Ok, Err, Result}
 use Rattle.line_world.specs.declared.event.Event.{Event}
 use Rattle.line_world.specs.declared.event.Event.TheVariants.{Coordinator, Meter, Depot, Near, Counter, Send, Deliver, Inject, Lose, Restart}
 use Rattle.line_world.specs.declared.event.Happenings.{Happenings}

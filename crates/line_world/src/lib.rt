@@ -2,10 +2,13 @@
 #![tactic(auto)]
 
 mod event;
+mod flights;
 mod hearing;
 mod laws;
 mod node;
 mod opening;
+mod sending;
+mod setup;
 mod world;
 
 pub use event::{Answer, Event, Handed, Happenings, LineOctets, StepFault};

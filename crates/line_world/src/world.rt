@@ -1,6 +1,7 @@
 //! The world: its nodes and flights, and the step that an event makes.
 ghost use Rattle.std.specs.Prelude.{◌≡◌, ◌<◌, ◌≤◌, length};
 
+use crate::flights::Flights;
 use crate::{Event, Happenings, Node, StepFault};
 use plc_base::{FrameBuf, Key};
 use std::alloc::Global;
@@ -52,7 +53,7 @@ pub struct World {
     pub(crate) ups: u32,
     pub(crate) forged: u32,
     pub(crate) nodes: Vec<Node>,
-    pub(crate) flights: Vec<Flight>,
+    pub(crate) flights: Flights,
 }
 
 impl Model for World {
@@ -60,13 +61,14 @@ impl Model for World {
 
     ghost Value = { World };
 
-    ghost view = { λ w. record { events = w.events; running = w.running; sends = w.sends; ups = w.ups; forged = w.forged; nodes = w.nodes.items; flights = w.flights.items } };
+    ghost view = { λ w. record { events = w.events; running = w.running; sends = w.sends; ups = w.ups; forged = w.forged; nodes = w.nodes.items; flights = w.flights } };
 
-    ghost invariant = { λ w. IsSound (record { events = w.events; running = w.running; sends = w.sends; ups = w.ups; forged = w.forged; nodes = w.nodes.items; flights = w.flights.items }) };
+    ghost invariant = { λ w. IsSound (record { events = w.events; running = w.running; sends = w.sends; ups = w.ups; forged = w.forged; nodes = w.nodes.items; flights = w.flights }) };
 }
 
 impl World {
-    ghost use Rattle.line_world.specs.Worlds.{start};
+    ghost use Rattle.line_world.specs.Worlds.{start, flight_at};
+    ghost use Rattle.std.specs.Option.{option_copied, option_map};
     ghost use Rattle.line_world.specs.Steps.{step, Gives};
 
     /// A world with no node. It takes no memory.
@@ -81,7 +83,7 @@ impl World {
             ups: 0,
             forged: 0,
             nodes: Vec::new(alloc),
-            flights: Vec::new(alloc),
+            flights: Flights::new(alloc),
         }
     }
 
@@ -100,6 +102,43 @@ impl World {
             sends: self.sends,
             ups: self.ups,
             forged: self.forged,
+        }
+    }
+
+    /// The octets of a flight, lost or not. None exactly where no flight has that number.
+    pub fn flight(&self, flight: u32) -> Option<&[u8]>
+        ensures { option_copied result ≡ option_map (λ f. f.octets) (flight_at self.now flight) }
+    {
+        Some(self.flights.get(flight)?.octets.octets())
+    }
+
+    /// The node that sent a flight, lost or not. None exactly where no flight has that number.
+    pub fn flight_sender(&self, flight: u32) -> Option<u16>
+        ensures { result ≡ option_map (λ f. f.from) (flight_at self.now flight) }
+    {
+        Some(self.flights.get(flight)?.from)
+    }
+
+    /// Takes an event, and answers what happened: the step of the definition. Fewer than 50,000 events were taken before.
+    ///
+    /// `Setup`, `Node` and `Flight` come exactly where the definition says that the event is not taken for that reason, `Memory`
+    /// where there was none for it, which only an event that makes a node or sends a datagram can meet. After each of them the
+    /// world is as it was.
+    pub fn step(&mut self, event: &Event) -> Result<Happenings, StepFault>
+        requires { self.old.events < MAX_EVENTS }
+        ensures { Gives self.old result self.new (step self.old event.now) }
+    {
+        match event {
+            Event::Coordinator { eui, key } => self.coordinator(*eui, *key),
+            Event::Meter { eui, psk } => self.meter(*eui, *psk),
+            Event::Depot { node } => self.depot(*node),
+            Event::Near { a, b, cost } => self.near(*a, *b, *cost),
+            Event::Counter { node, value } => self.counter(*node, *value),
+            Event::Send { from, to, datagram } => self.send(*from, *to, datagram),
+            Event::Deliver { flight, node, .. } => self.deliver(*flight, *node),
+            Event::Inject { node, octets, .. } => self.inject(*node, octets.octets()),
+            Event::Lose { flight } => self.lose(*flight),
+            Event::Restart { node } => self.restart(*node),
         }
     }
 }
