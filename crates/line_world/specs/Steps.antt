@@ -1,5 +1,5 @@
 -- What one event does to the world.
-use Rattle.std.specs.Prelude.{◌≡◌, Bool, true, false, Ok, Err, Result}
+use Rattle.std.specs.Prelude.{◌≡◌, Bool, true, false, Ok, Err, Result, IfErr}
 use Rattle.line_world.specs.declared.event.Event.{Event}
 use Rattle.line_world.specs.declared.event.Event.TheVariants.{Coordinator, Meter, Depot, Near, Counter, Send, Deliver, Inject, Lose, Restart}
 use Rattle.line_world.specs.declared.event.Happenings.{Happenings}
@@ -30,9 +30,18 @@ Gives old (Err faults.Setup) new model = (model ≡ Err faults.Setup) × (new �
 Gives old (Err faults.Node) new model = (model ≡ Err faults.Node) × (new ≡ old)
 Gives old (Err faults.Flight) new model = (model ≡ Err faults.Flight) × (new ≡ old)
 
--- whether an event of this kind can take memory: a node is made, or a flight goes out
+-- whether an event of this kind takes memory: a node is made, or a flight goes out
 abbrev pub takes_memory : Event → Bool
 takes_memory (Coordinator eui key) = true
 takes_memory (Meter eui psk) = true
 takes_memory (Send from to datagram) = true
 takes_memory _ = false
+
+abbrev pub is_memory : StepFault → Bool
+is_memory faults.Memory = true
+is_memory _ = false
+
+-- a call that takes no memory does not fail for want of it
+abbrev pub HasMemory : Bool → Result Happenings StepFault → Type 0
+HasMemory true result = Unit {0}
+HasMemory false result = IfErr result (λ fault. is_memory fault ≡ false)

@@ -1,5 +1,5 @@
 //! What happens where octets come to a node.
-ghost use Rattle.std.specs.Prelude.{◌≡◌, ◌<◌, ◌≤◌, length, Ok, IfSome};
+ghost use Rattle.std.specs.Prelude.{◌≡◌, false, ◌<◌, ◌≤◌, length, Ok, IfSome};
 ghost use Rattle.frame_counters.specs.PeerMarks.{room_for};
 ghost use Rattle.line_world.specs.Hearing.{carried};
 ghost use Rattle.line_world.specs.Units.{whole_in};
@@ -46,7 +46,7 @@ fn carried(opened: &Opened) -> Option<WholeUnit>
 
 impl World {
     ghost use Rattle.line_world.specs.Worlds.{node_at};
-    ghost use Rattle.line_world.specs.Steps.{Gives};
+    ghost use Rattle.line_world.specs.Steps.{Gives, HasMemory};
     ghost use Rattle.line_world.specs.Hearing.{accepted, heard, came_so, came, delivering, injecting};
 
     /// Takes in the counter of a frame that a node opened, and counts it where it is forged.
@@ -122,7 +122,8 @@ impl World {
     #[tactic(auto, unfolding(crate::specs::Hearing::delivering))]
     pub(crate) fn deliver(&mut self, flight: u32, number: u32) -> Result<Happenings, StepFault>
         requires { self.old.events < 50000 }
-        ensures { Gives self.old result self.new (delivering self.old flight number) }
+        ensures step { Gives self.old result self.new (delivering self.old flight number) }
+        ensures memory { HasMemory false result }
     {
         if !self.has_begun() {
             return Err(StepFault::Setup);
@@ -140,7 +141,8 @@ impl World {
     #[tactic(auto, unfolding(crate::specs::Hearing::injecting))]
     pub(crate) fn inject(&mut self, number: u32, octets: &[u8]) -> Result<Happenings, StepFault>
         requires { self.old.events < 50000 }
-        ensures { Gives self.old result self.new (injecting self.old number octets.now) }
+        ensures step { Gives self.old result self.new (injecting self.old number octets.now) }
+        ensures memory { HasMemory false result }
     {
         if !self.has_begun() {
             return Err(StepFault::Setup);

@@ -9,6 +9,8 @@ mod node;
 mod opening;
 mod sending;
 mod setup;
+#[cfg(test)]
+mod tests;
 mod world;
 
 pub use event::{Answer, Event, Handed, Happenings, LineOctets, StepFault};
@@ -17,6 +19,6 @@ pub use laws::{
     addresses_differ, counters_only_rise, counts_are_right, every_run_is_safe,
     flights_are_readable, forged_events_are_told, nonces_differ, restarts_succeed,
 };
-pub use node::{MAX_NEIGHBOURS, Neighbour, Neighbours, Node};
+pub use node::Neighbour;
 pub use opening::Opened;
 pub use world::{Counts, Flight, MAX_EVENTS, MAX_NODES, World};

@@ -1,5 +1,5 @@
 //! A datagram that goes out, a flight that is lost, a node that starts anew.
-ghost use Rattle.std.specs.Prelude.{◌≡◌, ◌<◌, ◌≤◌, length, IfSome, IsTrue, Ok};
+ghost use Rattle.std.specs.Prelude.{◌≡◌, false, ◌<◌, ◌≤◌, length, IfSome, IsTrue, Ok};
 ghost use Rattle.line_world.specs.Sending.{frame_of, sealing_key, unit_of, goes_whole};
 
 use crate::world::World;
@@ -80,7 +80,7 @@ fn frame_of(ring: &Grant, counter: u32, to: Short, datagram: &[u8]) -> FrameBuf
 
 impl World {
     ghost use Rattle.line_world.specs.Worlds.{node_at};
-    ghost use Rattle.line_world.specs.Steps.{Gives};
+    ghost use Rattle.line_world.specs.Steps.{Gives, HasMemory};
     ghost use Rattle.line_world.specs.Sending.{sending, went, losing, restarting};
 
     /// Sends a datagram to a neighbour.
@@ -169,7 +169,8 @@ impl World {
     #[tactic(auto, unfolding(crate::specs::Sending::losing, crate::specs::Sending::lost))]
     pub(crate) fn lose(&mut self, flight: u32) -> Result<Happenings, StepFault>
         requires { self.old.events < 50000 }
-        ensures { Gives self.old result self.new (losing self.old flight) }
+        ensures step { Gives self.old result self.new (losing self.old flight) }
+        ensures memory { HasMemory false result }
     {
         if !self.has_begun() {
             return Err(StepFault::Setup);
@@ -184,7 +185,8 @@ impl World {
     #[tactic(auto, unfolding(crate::specs::Sending::restarting, crate::specs::Sending::renewed))]
     pub(crate) fn restart(&mut self, number: u32) -> Result<Happenings, StepFault>
         requires { self.old.events < 50000 }
-        ensures { Gives self.old result self.new (restarting self.old number) }
+        ensures step { Gives self.old result self.new (restarting self.old number) }
+        ensures memory { HasMemory false result }
     {
         if !self.has_begun() {
             return Err(StepFault::Setup);

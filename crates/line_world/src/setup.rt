@@ -1,16 +1,17 @@
 //! The events that set up a line: its nodes, their joining in the workshop, and the routes and counters that they begin with.
-ghost use Rattle.std.specs.Prelude.{◌≡◌, ◌<◌, ◌≤◌, ◌+◌, length, true, Ok, IfSome};
+ghost use Rattle.std.specs.Prelude.{◌≡◌, false, ◌<◌, ◌≤◌, ◌+◌, length, true, Ok, IfSome};
 ghost use Rattle.std.specs.Option.{option_copied};
 ghost use Rattle.group_keys.specs.KeyBook.{has_room, place_for};
 
+use crate::node::Node;
 use crate::world::{MAX_NODES, World};
-use crate::{Answer, Happenings, Node, StepFault};
+use crate::{Answer, Happenings, StepFault};
 use byteorder::{BigEndian, ByteOrder};
 use plc_base::{Eui, Grant, Key, LinkCost, Short};
 
 impl World {
     ghost use Rattle.line_world.specs.Worlds.{node_at, happened, ran, has_begun, takes_setup};
-    ghost use Rattle.line_world.specs.Steps.{Gives};
+    ghost use Rattle.line_world.specs.Steps.{Gives, HasMemory};
     ghost use Rattle.line_world.specs.Enrolling.{enrolled, installed};
     ghost use Rattle.line_world.specs.Hearing.{answered};
     ghost use Rattle.line_world.specs.Setup.{is_known, coordinated, metered, grant_of, depoted, neared, counting, made};
@@ -143,7 +144,8 @@ impl World {
     #[tactic(auto, unfolding(crate::specs::Setup::depoted), using(crate::proofs::Stores::full_result))]
     pub(crate) fn depot(&mut self, number: u32) -> Result<Happenings, StepFault>
         requires { self.old.events < 50000 }
-        ensures { Gives self.old result self.new (depoted self.old number) }
+        ensures step { Gives self.old result self.new (depoted self.old number) }
+        ensures memory { HasMemory false result }
     {
         if !self.takes_setup() {
             return Err(StepFault::Setup);
@@ -171,7 +173,8 @@ impl World {
     #[tactic(auto, unfolding(crate::specs::Setup::neared, crate::specs::Setup::set_near))]
     pub(crate) fn near(&mut self, a: u32, b: u32, cost: LinkCost) -> Result<Happenings, StepFault>
         requires { self.old.events < 50000 }
-        ensures { Gives self.old result self.new (neared self.old a b cost) }
+        ensures step { Gives self.old result self.new (neared self.old a b cost) }
+        ensures memory { HasMemory false result }
     {
         if !self.takes_setup() {
             return Err(StepFault::Setup);
@@ -200,7 +203,8 @@ impl World {
     #[tactic(auto, unfolding(crate::specs::Setup::counting, crate::specs::Setup::counted))]
     pub(crate) fn counter(&mut self, number: u32, value: u32) -> Result<Happenings, StepFault>
         requires { self.old.events < 50000 }
-        ensures { Gives self.old result self.new (counting self.old number value) }
+        ensures step { Gives self.old result self.new (counting self.old number value) }
+        ensures memory { HasMemory false result }
     {
         if !self.takes_setup() {
             return Err(StepFault::Setup);

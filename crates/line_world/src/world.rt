@@ -2,7 +2,8 @@
 ghost use Rattle.std.specs.Prelude.{◌≡◌, ◌<◌, ◌≤◌, length};
 
 use crate::flights::Flights;
-use crate::{Event, Happenings, Node, StepFault};
+use crate::node::Node;
+use crate::{Event, Happenings, StepFault};
 use plc_base::{FrameBuf, Key};
 use std::alloc::Global;
 use std::marker::Model;
@@ -69,7 +70,7 @@ impl Model for World {
 impl World {
     ghost use Rattle.line_world.specs.Worlds.{start, flight_at};
     ghost use Rattle.std.specs.Option.{option_copied, option_map};
-    ghost use Rattle.line_world.specs.Steps.{step, Gives};
+    ghost use Rattle.line_world.specs.Steps.{step, takes_memory, Gives, HasMemory};
 
     /// A world with no node. It takes no memory.
     pub fn new(alloc: Global) -> World
@@ -126,7 +127,8 @@ impl World {
     /// world is as it was.
     pub fn step(&mut self, event: &Event) -> Result<Happenings, StepFault>
         requires { self.old.events < MAX_EVENTS }
-        ensures { Gives self.old result self.new (step self.old event.now) }
+        ensures step { Gives self.old result self.new (step self.old event.now) }
+        ensures memory { HasMemory (takes_memory event.now) result }
     {
         match event {
             Event::Coordinator { eui, key } => self.coordinator(*eui, *key),

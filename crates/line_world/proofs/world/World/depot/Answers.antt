@@ -10,8 +10,8 @@ use Rattle.line_world.specs.Setup.{grant_of}
 use Rattle.line_world.proofs.Enrolment.{depot_done}
 use Rattle.line_world.proofs.world.World.depot.Goals as goal
 
-pub returns : goal.returns
-returns c =
+pub returns-clause-step : goal.returns-clause-step
+returns-clause-step c =
     let w = c.args.self.now in
     let number = c.args.number in
     let meter = c.in-Some.meter.now in
