@@ -20,7 +20,7 @@ pub next_at : {left0 left1 : Option (List ℕ)} {seen0 count0 : ℕ} {window0 : 
 next_at {left0} {left1} {seen0} {count0} {window0} {ended0} {seen1} {count1} {window1} {ended1} {line} n q is = subst (λ o. NextLine left0 left1 seen0 count0 window0 ended0 seen1 count1 window1 ended1 line (Ok o)) is n
 
 module _ {M : Type 0} (turn : M → ℕ → Content → Turn M) (end_text : M → List ℕ) (first : M) where
-  abbrev rest_of : M → ℕ → ℕ → List ℕ → Bool → Outcome
+  abbrev rest_of : M → ℕ → ℕ → List ℕ → Bool → Outcome M
   rest_of m seen count octets e = outcome_from turn end_text m (lines_from seen count [] octets e) e
 
   -- What was read and written so far: whatever comes, the outcome of all is what was written, and the outcome of the rest.
@@ -73,8 +73,8 @@ module _ {M : Type 0} (turn : M → ℕ → Content → Turn M) (end_text : M �
         w = s.w ++ t.w;
         gave = gave_all n;
         wrote = Appends-trans taken0 taken1 taken2 s.w t.w s.wrote t.wrote;
-        text = λ more e may. text_now n more e may ∙ ap (λ (o : Outcome). s.w ++ o.text) (outcome_now more e may) ∙ ap (λ (l : List ℕ). s.w ++ l) (goes_text m0 m1 (found_line more) t.w (turn m0 count1 (content_found line kind)) (λ next. rest_of next seen1 count1 (window1 ++ more) e) t.turned) ∙ sym (append_assoc s.w t.w _);
-        ending = λ more e may. ending_now n more e may ∙ ap (λ (o : Outcome). o.ending) (outcome_now more e may) ∙ goes_ending m0 m1 (found_line more) t.w (turn m0 count1 (content_found line kind)) (λ next. rest_of next seen1 count1 (window1 ++ more) e) t.turned;
+        text = λ more e may. text_now n more e may ∙ ap (λ (o : Outcome M). s.w ++ o.text) (outcome_now more e may) ∙ ap (λ (l : List ℕ). s.w ++ l) (goes_text m0 m1 (found_line more) t.w (turn m0 count1 (content_found line kind)) (λ next. rest_of next seen1 count1 (window1 ++ more) e) t.turned) ∙ sym (append_assoc s.w t.w _);
+        ending = λ more e may. ending_now n more e may ∙ ap (λ (o : Outcome M). o.ending) (outcome_now more e may) ∙ goes_ending m0 m1 (found_line more) t.w (turn m0 count1 (content_found line kind)) (λ next. rest_of next seen1 count1 (window1 ++ more) e) t.turned;
       }
 
       -- where the run goes on, octets were taken
@@ -88,22 +88,22 @@ module _ {M : Type 0} (turn : M → ℕ → Content → Turn M) (end_text : M �
 
       -- ---- the run ends at the line
       module _ (source_ended : Bool) (over : IsTrue ended1 → IsTrue source_ended) where
-        turn_end : Outcome
+        turn_end : Outcome M
         turn_end = outcome_turn m0 (found_line []) (turn m0 count1 (content_found line kind)) (λ next. rest_of next seen1 count1 (window1 ++ []) source_ended)
 
         text_end : (outcome turn end_text first (s.b ++ n.octets) source_ended).text ≡ s.w ++ turn_end.text
         unfolding turn_end
-        text_end = ap (λ (l : List ℕ). (outcome turn end_text first l source_ended).text) (sym (append-nil (s.b ++ n.octets))) ∙ text_now n [] source_ended (λ seen. (refl, over seen)) ∙ ap (λ (o : Outcome). s.w ++ o.text) (outcome_now [] source_ended (λ seen. (refl, over seen)))
+        text_end = ap (λ (l : List ℕ). (outcome turn end_text first l source_ended).text) (sym (append-nil (s.b ++ n.octets))) ∙ text_now n [] source_ended (λ seen. (refl, over seen)) ∙ ap (λ (o : Outcome M). s.w ++ o.text) (outcome_now [] source_ended (λ seen. (refl, over seen)))
 
         ending_end : (outcome turn end_text first (s.b ++ n.octets) source_ended).ending ≡ turn_end.ending
         unfolding turn_end
-        ending_end = ap (λ (l : List ℕ). (outcome turn end_text first l source_ended).ending) (sym (append-nil (s.b ++ n.octets))) ∙ ending_now n [] source_ended (λ seen. (refl, over seen)) ∙ ap (λ (o : Outcome). o.ending) (outcome_now [] source_ended (λ seen. (refl, over seen)))
+        ending_end = ap (λ (l : List ℕ). (outcome turn end_text first l source_ended).ending) (sym (append-nil (s.b ++ n.octets))) ∙ ending_now n [] source_ended (λ seen. (refl, over seen)) ∙ ap (λ (o : Outcome M). o.ending) (outcome_now [] source_ended (λ seen. (refl, over seen)))
 
         front_end : (w : List ℕ) → IsPrefixOf w (turn_text (turn m0 count1 (content_found line kind))) → IsPrefixOf (s.w ++ w) ((outcome turn end_text first (s.b ++ n.octets) source_ended).text)
         unfolding found_line turn_end
         front_end w p = front_behind s.w w turn_end.text _ (front_of_front w _ _ p (turn_front m0 (found_line []) (turn m0 count1 (content_found line kind)) (λ next. rest_of next seen1 count1 (window1 ++ []) source_ended))) text_end
 
-        comes_at_line : (ahead : ℕ) (rose source_rose sink_rose : Type 0) (m1 : M) (q : Exit) (w : List ℕ) → length window1 ≤ ahead → (rose → sink_rose) → TurnedBy w m0 m1 (turn m0 count1 (content_found line kind)) rose (Err q) → Comes ahead turn end_text first source_ended (s.b ++ n.octets) (s.w ++ w) source_rose sink_rose q
+        comes_at_line : (ahead : ℕ) (rose source_rose sink_rose : Type 0) (m1 : M) (q : Exit) (w : List ℕ) → length window1 ≤ ahead → (rose → sink_rose) → TurnedBy w m0 m1 (turn m0 count1 (content_found line kind)) rose (Err q) → Comes ahead turn end_text first m1 source_ended (s.b ++ n.octets) (s.w ++ w) source_rose sink_rose q
         unfolding found_line turn_end
         comes_at_line ahead rose source_rose sink_rose m1 ends.BadScript w short raises t = (
           subst (StopsShortOf ahead) (sym ending_end) (stops_ending ahead m0 (found_line []) (turn m0 count1 (content_found line kind)) (λ next. rest_of next seen1 count1 (window1 ++ []) source_ended) t.0 (subst (λ (l : List ℕ). length l ≤ ahead) (sym (append-nil window1)) short)),
@@ -115,7 +115,7 @@ module _ {M : Type 0} (turn : M → ℕ → Content → Turn M) (end_text : M �
         comes_at_line ahead rose source_rose sink_rose m1 ends.ReadFault w short raises t = absurd t
 
       pub ends_at_line : (ahead : ℕ) (source_ended : Bool) (over : IsTrue ended1 → IsTrue source_ended) (source_rose sink_rose : Type 0) {taken2 : Option (List ℕ)} {rose : Type 0} {m1 : M} (q : Exit) → length window1 ≤ ahead → (rose → sink_rose) → Turned taken1 taken2 rose m0 m1 (turn m0 count1 (content_found line kind)) (Err q)
-          → Drives ahead turn end_text first left0 left2 taken0 taken2 source_ended source_rose sink_rose q
+          → Drives ahead turn end_text first m1 left0 left2 taken0 taken2 source_ended source_rose sink_rose q
       ends_at_line ahead source_ended over source_rose sink_rose {taken2} {rose} {m1} q short raises t = record {
         b = s.b ++ n.octets;
         w = s.w ++ t.w;
@@ -126,27 +126,27 @@ module _ {M : Type 0} (turn : M → ℕ → Content → Turn M) (end_text : M �
 
     -- ---- the end of input
     module _ (n : NextLine left1 left2 seen0 count0 window0 ended0 seen1 count1 window1 ended1 line (Ok None)) where
-      at_end : rest_of m0 seen0 count0 (window0 ++ (n.octets ++ [])) true ≡ record { text = end_text m0; ending = Ended }
+      at_end : rest_of m0 seen0 count0 (window0 ++ (n.octets ++ [])) true ≡ record { text = end_text m0; ending = Ended m0 }
       at_end = ap (λ (l : List ℕ). rest_of m0 seen0 count0 (window0 ++ l) true) (append-nil n.octets) ∙ ap (λ (ls : List Line). outcome_from turn end_text m0 ls true) (n.found.1 true) ∙ no_lines turn end_text m0
 
       text_at_end : (outcome turn end_text first (s.b ++ n.octets) true).text ≡ s.w ++ end_text m0
-      text_at_end = ap (λ (l : List ℕ). (outcome turn end_text first l true).text) (sym (append-nil (s.b ++ n.octets))) ∙ text_now n [] true (λ seen. (refl, refl)) ∙ ap (λ (o : Outcome). s.w ++ o.text) at_end
+      text_at_end = ap (λ (l : List ℕ). (outcome turn end_text first l true).text) (sym (append-nil (s.b ++ n.octets))) ∙ text_now n [] true (λ seen. (refl, refl)) ∙ ap (λ (o : Outcome M). s.w ++ o.text) at_end
 
-      ending_at_end : (outcome turn end_text first (s.b ++ n.octets) true).ending ≡ Ended
-      ending_at_end = ap (λ (l : List ℕ). (outcome turn end_text first l true).ending) (sym (append-nil (s.b ++ n.octets))) ∙ ending_now n [] true (λ seen. (refl, refl)) ∙ ap (λ (o : Outcome). o.ending) at_end
+      ending_at_end : (outcome turn end_text first (s.b ++ n.octets) true).ending ≡ Ended m0
+      ending_at_end = ap (λ (l : List ℕ). (outcome turn end_text first l true).ending) (sym (append-nil (s.b ++ n.octets))) ∙ ending_now n [] true (λ seen. (refl, refl)) ∙ ap (λ (o : Outcome M). o.ending) at_end
 
       front_at_end : (source_ended : Bool) → (IsTrue ended1 → IsTrue source_ended) → (w : List ℕ) → IsPrefixOf w (end_text m0) → IsPrefixOf (s.w ++ w) ((outcome turn end_text first (s.b ++ n.octets) source_ended).text)
       front_at_end source_ended over w p = subst (λ b. IsPrefixOf (s.w ++ w) ((outcome turn end_text first (s.b ++ n.octets) b).text)) (sym (over n.found.0)) (front_behind s.w w _ _ p text_at_end)
 
-      comes_short : (ahead : ℕ) (rose source_rose sink_rose : Type 0) (source_ended : Bool) → (IsTrue ended1 → IsTrue source_ended) → (q : Exit) (w : List ℕ) → (rose → sink_rose) → ToldBy w (end_text m0) rose (Err q) → Comes ahead turn end_text first source_ended (s.b ++ n.octets) (s.w ++ w) source_rose sink_rose q
-      comes_short ahead rose source_rose sink_rose source_ended over ends.Memory w raises t = front_at_end source_ended over w t
-      comes_short ahead rose source_rose sink_rose source_ended over ends.WriteFault w raises t = (raises t.0, front_at_end source_ended over w t.1)
-      comes_short ahead rose source_rose sink_rose source_ended over ends.Fine w raises t = absurd t
-      comes_short ahead rose source_rose sink_rose source_ended over ends.BadScript w raises t = absurd t
-      comes_short ahead rose source_rose sink_rose source_ended over ends.ReadFault w raises t = absurd t
+      comes_short : (m1 : M) (ahead : ℕ) (rose source_rose sink_rose : Type 0) (source_ended : Bool) → (IsTrue ended1 → IsTrue source_ended) → (q : Exit) (w : List ℕ) → (rose → sink_rose) → ToldBy w (end_text m0) rose (Err q) → Comes ahead turn end_text first m1 source_ended (s.b ++ n.octets) (s.w ++ w) source_rose sink_rose q
+      comes_short m1 ahead rose source_rose sink_rose source_ended over ends.Memory w raises t = front_at_end source_ended over w t
+      comes_short m1 ahead rose source_rose sink_rose source_ended over ends.WriteFault w raises t = (raises t.0, front_at_end source_ended over w t.1)
+      comes_short m1 ahead rose source_rose sink_rose source_ended over ends.Fine w raises t = absurd t
+      comes_short m1 ahead rose source_rose sink_rose source_ended over ends.BadScript w raises t = absurd t
+      comes_short m1 ahead rose source_rose sink_rose source_ended over ends.ReadFault w raises t = absurd t
 
       module _ (ahead : ℕ) (source_ended : Bool) (over : IsTrue ended1 → IsTrue source_ended) (source_rose sink_rose : Type 0) where
-        pub ends_fine : {taken2 : Option (List ℕ)} {rose : Type 0} {u : Unit {0}} → Told taken1 taken2 rose (end_text m0) (Ok u) → Drives ahead turn end_text first left0 left2 taken0 taken2 source_ended source_rose sink_rose ends.Fine
+        pub ends_fine : {taken2 : Option (List ℕ)} {rose : Type 0} {u : Unit {0}} → Told taken1 taken2 rose (end_text m0) (Ok u) → Drives ahead turn end_text first m0 left0 left2 taken0 taken2 source_ended source_rose sink_rose ends.Fine
         ends_fine {taken2} t = record {
           b = s.b ++ n.octets;
           w = s.w ++ t.w;
@@ -155,17 +155,17 @@ module _ {M : Type 0} (turn : M → ℕ → Content → Turn M) (end_text : M �
           comes = (over n.found.0, ending_at_end, ap (λ (l : List ℕ). s.w ++ l) t.told ∙ sym text_at_end);
         }
 
-        pub ends_short : {taken2 : Option (List ℕ)} {rose : Type 0} (q : Exit) → (rose → sink_rose) → Told taken1 taken2 rose (end_text m0) (Err q) → Drives ahead turn end_text first left0 left2 taken0 taken2 source_ended source_rose sink_rose q
-        ends_short {taken2} {rose} q raises t = record {
+        pub ends_short : {taken2 : Option (List ℕ)} {rose : Type 0} {m1 : M} (q : Exit) → (rose → sink_rose) → Told taken1 taken2 rose (end_text m0) (Err q) → Drives ahead turn end_text first m1 left0 left2 taken0 taken2 source_ended source_rose sink_rose q
+        ends_short {taken2} {rose} {m1} q raises t = record {
           b = s.b ++ n.octets;
           w = s.w ++ t.w;
           gave = gave_all n;
           wrote = Appends-trans taken0 taken1 taken2 s.w t.w s.wrote t.wrote;
-          comes = comes_short ahead rose source_rose sink_rose source_ended over q t.w raises t.told;
+          comes = comes_short m1 ahead rose source_rose sink_rose source_ended over q t.w raises t.told;
         }
 
     -- ---- a failed read
-    pub ends_unread : {f : Failed} (n : NextLine left1 left2 seen0 count0 window0 ended0 seen1 count1 window1 ended1 line (Err f)) (ahead : ℕ) (source_ended : Bool) (source_rose sink_rose : Type 0) → source_rose → Drives ahead turn end_text first left0 left2 taken0 taken1 source_ended source_rose sink_rose ends.ReadFault
+    pub ends_unread : {f : Failed} {m1 : M} (n : NextLine left1 left2 seen0 count0 window0 ended0 seen1 count1 window1 ended1 line (Err f)) (ahead : ℕ) (source_ended : Bool) (source_rose sink_rose : Type 0) → source_rose → Drives ahead turn end_text first m1 left0 left2 taken0 taken1 source_ended source_rose sink_rose ends.ReadFault
     ends_unread n ahead source_ended source_rose sink_rose raised = record {
       b = s.b ++ n.octets;
       w = s.w;
@@ -173,8 +173,8 @@ module _ {M : Type 0} (turn : M → ℕ → Content → Turn M) (end_text : M �
       wrote = s.wrote;
       comes = (
         raised,
-        s.ending n.octets false may ∙ ap (λ (o : Outcome). o.ending) none,
-        sym (s.text n.octets false may ∙ ap (λ (o : Outcome). s.w ++ o.text) none ∙ append-nil s.w),
+        s.ending n.octets false may ∙ ap (λ (o : Outcome M). o.ending) none,
+        sym (s.text n.octets false may ∙ ap (λ (o : Outcome M). s.w ++ o.text) none ∙ append-nil s.w),
       );
     }
       where
@@ -188,7 +188,7 @@ module _ {M : Type 0} (turn : M → ℕ → Content → Turn M) (end_text : M �
         none = ap (λ (ls : List Line). outcome_from turn end_text m0 ls false) n.failed.1 ∙ no_lines_yet turn end_text m0
 
   -- memory ran out before anything was read
-  pub ends_before : (ahead : ℕ) (left taken : Option (List ℕ)) (source_ended : Bool) (source_rose sink_rose : Type 0) → Drives ahead turn end_text first left left taken taken source_ended source_rose sink_rose ends.Memory
+  pub ends_before : {m1 : M} (ahead : ℕ) (left taken : Option (List ℕ)) (source_ended : Bool) (source_rose sink_rose : Type 0) → Drives ahead turn end_text first m1 left left taken taken source_ended source_rose sink_rose ends.Memory
   ends_before ahead left taken source_ended source_rose sink_rose = record {
     b = [];
     w = [];

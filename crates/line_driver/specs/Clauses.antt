@@ -68,17 +68,18 @@ pub record Turned {M : Type 0} (taken0 taken1 : Option (List ℕ)) (rose : Type 
 
 -- ---- the whole run
 
--- Why a run ended so, where at most `ahead` octets are read behind a bad line, over the octets b that were given and the text w that was written.
-abbrev pub Comes : {M : Type 0} → ℕ → (M → ℕ → Content → Turn M) → (M → List ℕ) → M → Bool → List ℕ → List ℕ → Type 0 → Type 0 → Exit → Type 0
-Comes ahead turn end_text m ended b w source_rose sink_rose exits.Fine = IsTrue ended × ((outcome turn end_text m b true).ending ≡ Ended) × (w ≡ (outcome turn end_text m b true).text)
-Comes ahead turn end_text m ended b w source_rose sink_rose exits.BadScript = StopsShortOf ahead (outcome turn end_text m b ended).ending × (w ≡ (outcome turn end_text m b ended).text)
-Comes ahead turn end_text m ended b w source_rose sink_rose exits.ReadFault = source_rose × ((outcome turn end_text m b false).ending ≡ Open) × (w ≡ (outcome turn end_text m b false).text)
-Comes ahead turn end_text m ended b w source_rose sink_rose exits.WriteFault = sink_rose × IsPrefixOf w (outcome turn end_text m b ended).text
-Comes ahead turn end_text m ended b w source_rose sink_rose exits.Memory = IsPrefixOf w (outcome turn end_text m b ended).text
+-- Why a run ended so, where at most `ahead` octets are read behind a bad line, over the octets b that were given and the text w that was written; a
+-- run that came to the end of input left the machine in the state m1.
+abbrev pub Comes : {M : Type 0} → ℕ → (M → ℕ → Content → Turn M) → (M → List ℕ) → M → M → Bool → List ℕ → List ℕ → Type 0 → Type 0 → Exit → Type 0
+Comes ahead turn end_text m m1 ended b w source_rose sink_rose exits.Fine = IsTrue ended × ((outcome turn end_text m b true).ending ≡ Ended m1) × (w ≡ (outcome turn end_text m b true).text)
+Comes ahead turn end_text m m1 ended b w source_rose sink_rose exits.BadScript = StopsShortOf ahead (outcome turn end_text m b ended).ending × (w ≡ (outcome turn end_text m b ended).text)
+Comes ahead turn end_text m m1 ended b w source_rose sink_rose exits.ReadFault = source_rose × ((outcome turn end_text m b false).ending ≡ Open) × (w ≡ (outcome turn end_text m b false).text)
+Comes ahead turn end_text m m1 ended b w source_rose sink_rose exits.WriteFault = sink_rose × IsPrefixOf w (outcome turn end_text m b ended).text
+Comes ahead turn end_text m m1 ended b w source_rose sink_rose exits.Memory = IsPrefixOf w (outcome turn end_text m b ended).text
 
-pub record Drives {M : Type 0} (ahead : ℕ) (turn : M → ℕ → Content → Turn M) (end_text : M → List ℕ) (m : M) (left0 left1 taken0 taken1 : Option (List ℕ)) (ended : Bool) (source_rose sink_rose : Type 0) (result : Exit) : Type 0 where
+pub record Drives {M : Type 0} (ahead : ℕ) (turn : M → ℕ → Content → Turn M) (end_text : M → List ℕ) (m m1 : M) (left0 left1 taken0 taken1 : Option (List ℕ)) (ended : Bool) (source_rose sink_rose : Type 0) (result : Exit) : Type 0 where
   pub b : List ℕ
   pub w : List ℕ
   pub gave : Consumes left0 left1 b
   pub wrote : Appends taken0 taken1 w
-  pub comes : Comes ahead turn end_text m ended b w source_rose sink_rose result
+  pub comes : Comes ahead turn end_text m m1 ended b w source_rose sink_rose result

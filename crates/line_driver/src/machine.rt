@@ -68,7 +68,7 @@ fn follow<M: LineMachine, S: Source, K: Sink>(
     requires seen { input.old.seen ≡ 0 }
     requires count { input.old.count ≡ 0 }
     requires going { input.old.ended ≡ false }
-    ensures drives { Drives WINDOW M.turn M.end_text machine.old (S.left source.old) (S.left source.new) (K.taken sink.old) (K.taken sink.new) (S.ended source.new)
+    ensures drives { Drives WINDOW M.turn M.end_text machine.old machine.new (S.left source.old) (S.left source.new) (K.taken sink.old) (K.taken sink.new) (S.ended source.new)
         (Rose (S.faults source.old) (S.faults source.new)) (Rose (K.faults sink.old) (K.faults sink.new)) result }
     ensures whole { result ≡ Exit.Fine → IsAtEnd (S.left source.new) }
     ensures source { S.faults source.old ≤ S.faults source.new }
@@ -107,15 +107,15 @@ fn take_line<M: LineMachine, K: Sink>(
 
 /// Reads a script from the source line by line, and writes the report of a machine to the sink.
 ///
-/// The report of a line is written before the next one is taken, and at a bad line at most 8,192 octets behind it were read. In what
-/// state the machine is left is not said.
+/// The report of a line is written before the next one is taken, and at a bad line at most 8,192 octets behind it were read. At the end
+/// of input the machine is left in the state after the last line; in what state it is left otherwise is not said.
 pub fn run<M: LineMachine, S: Source, K: Sink>(
     alloc: Global,
     machine: &mut M,
     source: &mut S,
     sink: &mut K,
 ) -> Exit
-    ensures drives { Drives WINDOW M.turn M.end_text machine.old (S.left source.old) (S.left source.new) (K.taken sink.old) (K.taken sink.new) (S.ended source.new)
+    ensures drives { Drives WINDOW M.turn M.end_text machine.old machine.new (S.left source.old) (S.left source.new) (K.taken sink.old) (K.taken sink.new) (S.ended source.new)
         (Rose (S.faults source.old) (S.faults source.new)) (Rose (K.faults sink.old) (K.faults sink.new)) result }
     ensures whole { result ≡ Exit.Fine → IsAtEnd (S.left source.new) }
     ensures source { S.faults source.old ≤ S.faults source.new }

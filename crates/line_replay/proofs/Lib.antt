@@ -1,2 +1,3 @@
 mod Running
 mod Turning
+pub mod Flies

@@ -6,7 +6,7 @@ use Rattle.hex.specs.Hex.{decode_of}
 use Rattle.plc_base.specs.declared.address.Eui.{Eui}
 use Rattle.plc_base.specs.declared.key.Key.{Key}
 use Rattle.line_world.specs.declared.event.Event.{Event}
-use Rattle.line_world.specs.declared.event.Event.TheVariants.{Coordinator, Meter, Depot, Near, Send, Deliver}
+use Rattle.line_world.specs.declared.event.Event.TheVariants.{Coordinator, Meter, Depot, Near, Counter, Send, Deliver, Inject, Lose, Restart}
 use Rattle.line_replay.specs.declared.reading.Reading.{Reading}
 use Rattle.line_replay.specs.declared.reading.Reading.TheVariants.{Quiet, NoForm, Reads}
 
@@ -121,18 +121,57 @@ deliver_of octets = do
   link ← cost second.rest
   Some (Deliver flight node link)
 
+-- <n> <value>
+unfoldable pub counter_of : List ℕ → Option Event
+counter_of octets = do
+  first ← field octets
+  node ← number first.word
+  value ← number first.rest
+  Some (Counter node value)
+
+-- <n> <cost> <hex>
+unfoldable pub inject_of : List ℕ → Option Event
+inject_of octets = do
+  first ← field octets
+  node ← number first.word
+  second ← field first.rest
+  link ← cost second.word
+  brought ← hex_octets second.rest
+  Some (Inject node link brought)
+
+-- <flight>
+unfoldable pub lose_of : List ℕ → Option Event
+lose_of octets = do
+  flight ← number octets
+  Some (Lose flight)
+
+-- <n>
+unfoldable pub restart_of : List ℕ → Option Event
+restart_of octets = do
+  node ← number octets
+  Some (Restart node)
+
 -- ---- lines
 
--- by the first word and what stands behind it
-unfoldable pub event_by : List ℕ → List ℕ → Option Event
-event_by word rest =
+-- the kinds of setup, by the first word
+unfoldable pub setup_by : List ℕ → List ℕ → Option Event
+setup_by word rest =
     if bytes_eq word (codes "coordinator") then coordinator_of rest
     else if bytes_eq word (codes "meter") then meter_of rest
     else if bytes_eq word (codes "depot") then depot_of rest
     else if bytes_eq word (codes "near") then near_of rest
-    else if bytes_eq word (codes "send") then send_of rest
-    else if bytes_eq word (codes "deliver") then deliver_of rest
+    else if bytes_eq word (codes "counter") then counter_of rest
     else None
+
+-- the other kinds
+unfoldable pub event_by : List ℕ → List ℕ → Option Event
+event_by word rest =
+    if bytes_eq word (codes "send") then send_of rest
+    else if bytes_eq word (codes "deliver") then deliver_of rest
+    else if bytes_eq word (codes "inject") then inject_of rest
+    else if bytes_eq word (codes "lose") then lose_of rest
+    else if bytes_eq word (codes "restart") then restart_of rest
+    else setup_by word rest
 
 unfoldable pub event_of : List ℕ → Option Event
 event_of octets = do

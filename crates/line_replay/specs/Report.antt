@@ -6,15 +6,15 @@ use Rattle.line_driver.specs.Outcomes.{Turn, Skips, Takes, Stops, Outcome, outco
 use Rattle.line_world.specs.declared.event.Event.{Event}
 use Rattle.line_world.specs.declared.event.StepFault.{StepFault}
 use Rattle.line_world.specs.declared.event.StepFault.TheVariants as faults
-use Rattle.line_world.specs.Worlds.{World, start}
-use Rattle.line_world.specs.Steps.{Step, step}
+use Rattle.line_world.specs.Worlds.{World, Step, start}
+use Rattle.line_world.specs.Steps.{step}
 use Rattle.line_world.specs.Runs.{Entry}
 use Rattle.line_replay.specs.declared.reading.Reading.{Reading}
 use Rattle.line_replay.specs.declared.reading.Reading.TheVariants.{Quiet, NoForm, Reads}
 use Rattle.line_replay.specs.declared.report.Reason.{Reason}
 use Rattle.line_replay.specs.declared.report.Reason.TheVariants as reasons
 use Rattle.line_replay.specs.Readings.{reading}
-use Rattle.line_replay.specs.Texts.{happened_text, bad_text, end_text}
+use Rattle.line_replay.specs.Texts.{happened_text, sent_text, bad_text, end_text}
 
 -- What a line does: nothing, or it is an event that is taken, or it is bad.
 pub data Taking : Type 0 where
@@ -43,30 +43,43 @@ taking w (Text octets) = reading_taking w (reading octets)
 
 -- ---- the report
 
--- the lines that report an event
-abbrev pub entry_text : Entry → List ℕ
-entry_text entry = happened_text entry.number entry.happened
+-- the lines that report an event, in a quiet report without those of its flights
+abbrev pub entry_text : Bool → Entry → List ℕ
+entry_text quiet entry = happened_text entry.number entry.happened ++ sent_text quiet entry.after entry.happened.first_flight
 
-abbrev pub turn_by : ℕ → Taking → Turn World
-turn_by number Skipped = Skips
-turn_by number (Taken entry) = Takes entry.after (entry_text entry)
-turn_by number (Refused reason) = Stops (bad_text number reason)
+-- A world, and whether its report is quiet.
+pub record Playing : Type 0 where
+  pub quiet : Bool
+  pub world : World
+
+abbrev pub turn_by : Bool → ℕ → Taking → Turn Playing
+turn_by quiet number Skipped = Skips
+turn_by quiet number (Taken entry) = Takes (record { quiet = quiet; world = entry.after }) (entry_text quiet entry)
+turn_by quiet number (Refused reason) = Stops (bad_text number reason)
 
 -- what a line of a number does to the world, and its report
-abbrev pub turn_of : World → ℕ → Content → Turn World
-turn_of w number content = turn_by number (taking w content)
+abbrev pub turn_of : Playing → ℕ → Content → Turn Playing
+turn_of p number content = turn_by p.quiet number (taking p.world content)
+
+abbrev pub end_of : Playing → List ℕ
+end_of p = end_text p.world
 
 -- the octet that is too much makes its line bad
-pub stops_at_too_much : (w : World) (number : ℕ) → IsStop (turn_of w number TooMuch)
+pub stops_at_too_much : (p : Playing) (number : ℕ) → IsStop (turn_of p number TooMuch)
 unfolding taking
-stops_at_too_much w number = tt
+stops_at_too_much p number = tt
 
 -- what a script does, where its input has ended or not
-abbrev pub outcome : List ℕ → Bool → Outcome
-outcome octets ended = outcome_of turn_of end_text start octets ended
+abbrev pub outcome : Bool → List ℕ → Bool → Outcome Playing
+outcome quiet octets ended = outcome_of turn_of end_of (record { quiet = quiet; world = start }) octets ended
 
-abbrev pub report : List ℕ → Bool → List ℕ
-report octets ended = (outcome octets ended).text
+-- its report, and the quiet one, which lacks the lines of the flights and nothing else
+abbrev pub report : Bool → List ℕ → Bool → List ℕ
+report quiet octets ended = (outcome quiet octets ended).text
+
+-- whether a world has seen a forged event
+abbrev pub is_forged : Playing → Bool
+is_forged p = nat_lt 0 p.world.forged
 
 -- ---- the run
 
@@ -86,9 +99,9 @@ entries octets ended = entries_from start (lines octets ended)
 
 -- ---- the report by entries
 
-abbrev pub entries_text : List Entry → List ℕ
-entries_text [] = []
-entries_text (x ∷ xs) = entry_text x ++ entries_text xs
+abbrev pub entries_text : Bool → List Entry → List ℕ
+entries_text quiet [] = []
+entries_text quiet (x ∷ xs) = entry_text quiet x ++ entries_text quiet xs
 
 abbrev pub last_by : World → ℕ → Taking → (World → List ℕ) → List ℕ
 last_by w number Skipped rest = rest w
@@ -102,3 +115,10 @@ last_from w (line ∷ lines) ended = last_by w line.number (taking w line.conten
 
 abbrev pub last_text : List ℕ → Bool → List ℕ
 last_text octets ended = last_from start (lines octets ended) ended
+
+-- ---- forged events
+
+-- how many events of a history are forged
+abbrev pub forged_in : List Entry → ℕ
+forged_in [] = 0
+forged_in (x ∷ xs) = (if x.happened.forged then 1 else 0) + forged_in xs

@@ -89,5 +89,5 @@ unfolding show_turn
 show_stops frames number = tt
 
 -- the shown text, and how it ends
-abbrev pub shown : List ℕ → Bool → Outcome
+abbrev pub shown : List ℕ → Bool → Outcome ℕ
 shown octets ended = outcome_of show_turn frames_text 0 octets ended

@@ -1,7 +1,7 @@
 -- The number that the program ends with.
 use Rattle.std.specs.Prelude.{ℕ}
 use Rattle.line_replay.specs.declared.status.Status.{Status}
-use Rattle.line_replay.specs.declared.status.Status.TheVariants.{Fine, BadScript, Usage, Memory, ReadFault, WriteFault}
+use Rattle.line_replay.specs.declared.status.Status.TheVariants.{Fine, BadScript, Usage, Memory, ReadFault, WriteFault, Forged}
 
 abbrev pub status_number : Status → ℕ
 status_number Fine = 0
@@ -10,3 +10,4 @@ status_number Usage = 2
 status_number Memory = 3
 status_number ReadFault = 4
 status_number WriteFault = 5
+status_number Forged = 6

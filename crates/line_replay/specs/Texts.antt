@@ -1,13 +1,14 @@
 -- The texts of a report.
-use Rattle.std.specs.Prelude.{ℕ, Bool, true, false, List, [], ◌++◌, length, codes, None, Some, if◌then◌else◌}
+use Rattle.std.specs.Prelude.{ℕ, zero, suc, ◌+◌, ◌-◌, Bool, true, false, List, [], ◌++◌, length, codes, None, Some, if◌then◌else◌}
 use Rattle.std.specs.declared.option.Option.{Option}
 use Rattle.std.specs.Fmt.{decimal}
 use Rattle.hex.specs.Hex.{encode_lower}
 use Rattle.line_world.specs.declared.event.Answer.{Answer}
-use Rattle.line_world.specs.declared.event.Answer.TheVariants.{Made, Joined, Set, Sent, Up, BadSize, NoRoute, NotForMe, Replayed, BadUnit}
+use Rattle.line_world.specs.declared.event.Answer.TheVariants.{Made, Joined, Set, Sent, Up, Lost, Restarted, NoAddress, NotJoined, BadSize, ToSelf, NoRoute, CounterSpent, Malformed, NotForMe, NoKey, BadTag, Replayed, PeersFull, BadUnit}
 use Rattle.line_world.specs.declared.event.Handed.{Handed}
 use Rattle.line_world.specs.declared.event.Happenings.{Happenings}
-use Rattle.line_world.specs.Worlds.{World}
+use Rattle.line_world.specs.declared.world.Flight.{Flight}
+use Rattle.line_world.specs.Worlds.{World, flight_at}
 use Rattle.line_replay.specs.declared.report.Reason.{Reason}
 use Rattle.line_replay.specs.declared.report.Reason.TheVariants as reasons
 
@@ -18,10 +19,20 @@ answer_word Joined = codes "Joined"
 answer_word Set = codes "Set"
 answer_word Sent = codes "Sent"
 answer_word Up = codes "Up"
+answer_word Lost = codes "Lost"
+answer_word Restarted = codes "Restarted"
+answer_word NoAddress = codes "NoAddress"
+answer_word NotJoined = codes "NotJoined"
 answer_word BadSize = codes "BadSize"
+answer_word ToSelf = codes "ToSelf"
 answer_word NoRoute = codes "NoRoute"
+answer_word CounterSpent = codes "CounterSpent"
+answer_word Malformed = codes "Malformed"
 answer_word NotForMe = codes "NotForMe"
+answer_word NoKey = codes "NoKey"
+answer_word BadTag = codes "BadTag"
 answer_word Replayed = codes "Replayed"
+answer_word PeersFull = codes "PeersFull"
 answer_word BadUnit = codes "BadUnit"
 
 -- ok, or no for a refusal
@@ -31,10 +42,20 @@ verdict_word Joined = codes "ok"
 verdict_word Set = codes "ok"
 verdict_word Sent = codes "ok"
 verdict_word Up = codes "ok"
+verdict_word Lost = codes "ok"
+verdict_word Restarted = codes "ok"
+verdict_word NoAddress = codes "no"
+verdict_word NotJoined = codes "no"
 verdict_word BadSize = codes "no"
+verdict_word ToSelf = codes "no"
 verdict_word NoRoute = codes "no"
+verdict_word CounterSpent = codes "no"
+verdict_word Malformed = codes "no"
 verdict_word NotForMe = codes "no"
+verdict_word NoKey = codes "no"
+verdict_word BadTag = codes "no"
 verdict_word Replayed = codes "no"
+verdict_word PeersFull = codes "no"
 verdict_word BadUnit = codes "no"
 
 abbrev pub reason_word : Reason → List ℕ
@@ -55,17 +76,40 @@ unfoldable pub up_text : Option Handed → List ℕ
 up_text None = []
 up_text (Some up) = codes "up " ++ (decimal up.node ++ (codes " " ++ (decimal up.note ++ (codes " " ++ (encode_lower up.octets ++ codes "\n")))))
 
--- the lines of an event, by its number
+-- forged <event>
+unfoldable pub forged_text : ℕ → Bool → List ℕ
+forged_text number forged = if forged then codes "forged " ++ (decimal number ++ codes "\n") else []
+
+-- the lines of an event, by its number, without those of its flights
 unfoldable pub happened_text : ℕ → Happenings → List ℕ
-happened_text number happened = answer_text number happened.answer ++ up_text happened.up
+happened_text number happened = answer_text number happened.answer ++ (forged_text number happened.forged ++ up_text happened.up)
+
+-- fly <flight> <node> <hex>
+abbrev pub fly_by : ℕ → Option Flight → List ℕ
+fly_by number None = []
+fly_by number (Some f) = codes "fly " ++ (decimal number ++ (codes " " ++ (decimal f.from ++ (codes " " ++ (encode_lower f.octets ++ codes "\n")))))
+
+unfoldable pub fly_text : World → ℕ → List ℕ
+fly_text w number = fly_by number (flight_at w number)
+
+-- the lines of so many flights from a number on
+unfoldable pub flies_text : World → ℕ → ℕ → List ℕ
+flies_text w first zero = []
+flies_text w first (suc count) = flies_text w first count ++ fly_text w (first + count)
+
+-- the lines of the flights from a number on, none in a quiet report
+unfoldable pub sent_text : Bool → World → ℕ → List ℕ
+sent_text quiet w first = if quiet then [] else flies_text w first (length w.flights + 1 - first)
 
 -- bad <line> <reason>
 unfoldable pub bad_text : ℕ → Reason → List ℕ
 bad_text number reason = codes "bad " ++ (decimal number ++ (codes " " ++ (reason_word reason ++ codes "\n")))
 
--- end <events> <flights> <sends> <ups> <forged>; no frame is sealed yet, so no tag is forged
+-- end <events> <flights> <sends> <ups> <forged>
 unfoldable pub end_text : World → List ℕ
-end_text w = codes "end " ++ (decimal w.events ++ (codes " " ++ (decimal (length w.flights) ++ (codes " " ++ (decimal w.sends ++ (codes " " ++ (decimal w.ups ++ codes " 0\n")))))))
+end_text w =
+    codes "end " ++ (decimal w.events ++ (codes " " ++ (decimal (length w.flights) ++ (codes " " ++ (decimal w.sends ++ (codes " "
+    ++ (decimal w.ups ++ (codes " " ++ (decimal w.forged ++ codes "\n")))))))))
 
 abbrev pub usage_text : List ℕ
 usage_text = codes "usage: line_replay replay [-q] | show | vectors | drill N\n"

@@ -1,7 +1,7 @@
 //! A line of a script as an event.
 ghost use Rattle.std.specs.Prelude.{◌≡◌, ◌==◌, ◌<◌, length, position, IfSome};
 ghost use Rattle.std.specs.Option.{option_map};
-ghost use Rattle.line_replay.specs.Readings.{field, Field, digit_more, number_from, number, cost, eui, key, hex_octets, coordinator_of, meter_of, depot_of, near_of, send_of, deliver_of, event_by, event_of, reading};
+ghost use Rattle.line_replay.specs.Readings.{field, Field, digit_more, number_from, number, cost, eui, key, hex_octets, coordinator_of, meter_of, depot_of, near_of, counter_of, send_of, deliver_of, inject_of, lose_of, restart_of, setup_by, event_by, event_of, reading};
 
 use line_world::{Event, LineOctets};
 use plc_base::{Eui, Key, LinkCost};
@@ -182,6 +182,44 @@ fn deliver(octets: &[u8]) -> Option<Event>
     Some(Event::Deliver { flight, node, cost })
 }
 
+#[tactic(auto, unfolding(crate::specs::Readings::counter_of))]
+fn counter(octets: &[u8]) -> Option<Event>
+    ensures { result ≡ counter_of octets.now }
+{
+    let (word, rest) = field(octets)?;
+    let node = number(word)?;
+    let value = number(rest)?;
+    Some(Event::Counter { node, value })
+}
+
+#[tactic(auto, unfolding(crate::specs::Readings::inject_of))]
+fn inject(octets: &[u8]) -> Option<Event>
+    ensures { result ≡ inject_of octets.now }
+{
+    let (word, rest) = field(octets)?;
+    let node = number(word)?;
+    let (word, rest) = field(rest)?;
+    let cost = cost(word)?;
+    let octets = hex_octets(rest)?;
+    Some(Event::Inject { node, cost, octets })
+}
+
+#[tactic(auto, unfolding(crate::specs::Readings::lose_of))]
+fn lose(octets: &[u8]) -> Option<Event>
+    ensures { result ≡ lose_of octets.now }
+{
+    let flight = number(octets)?;
+    Some(Event::Lose { flight })
+}
+
+#[tactic(auto, unfolding(crate::specs::Readings::restart_of))]
+fn restart(octets: &[u8]) -> Option<Event>
+    ensures { result ≡ restart_of octets.now }
+{
+    let node = number(octets)?;
+    Some(Event::Restart { node })
+}
+
 #[tactic(auto, unfolding(crate::specs::Readings::event_of))]
 fn event(octets: &[u8]) -> Option<Event>
     ensures { result ≡ event_of octets.now }
@@ -190,10 +228,10 @@ fn event(octets: &[u8]) -> Option<Event>
     event_by(word, rest)
 }
 
-/// The event of a line by its first word.
-#[tactic(auto, unfolding(crate::specs::Readings::event_by))]
-fn event_by(word: &[u8], rest: &[u8]) -> Option<Event>
-    ensures { result ≡ event_by word.now rest.now }
+/// The event of a line of a setup kind by its first word.
+#[tactic(auto, unfolding(crate::specs::Readings::setup_by))]
+fn setup_by(word: &[u8], rest: &[u8]) -> Option<Event>
+    ensures { result ≡ setup_by word.now rest.now }
 {
     if word == b"coordinator".as_slice() {
         coordinator(rest)
@@ -203,12 +241,30 @@ fn event_by(word: &[u8], rest: &[u8]) -> Option<Event>
         depot(rest)
     } else if word == b"near".as_slice() {
         near(rest)
-    } else if word == b"send".as_slice() {
+    } else if word == b"counter".as_slice() {
+        counter(rest)
+    } else {
+        None
+    }
+}
+
+/// The event of a line by its first word.
+#[tactic(auto, unfolding(crate::specs::Readings::event_by))]
+fn event_by(word: &[u8], rest: &[u8]) -> Option<Event>
+    ensures { result ≡ event_by word.now rest.now }
+{
+    if word == b"send".as_slice() {
         send(rest)
     } else if word == b"deliver".as_slice() {
         deliver(rest)
+    } else if word == b"inject".as_slice() {
+        inject(rest)
+    } else if word == b"lose".as_slice() {
+        lose(rest)
+    } else if word == b"restart".as_slice() {
+        restart(rest)
     } else {
-        None
+        setup_by(word, rest)
     }
 }
 

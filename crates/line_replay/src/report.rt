@@ -1,8 +1,8 @@
 //! The texts of a report.
-ghost use Rattle.std.specs.Prelude.{◌≡◌, ◌≤◌, ◌++◌, IfOk, OnOk, string_bytes, codes, Some};
+ghost use Rattle.std.specs.Prelude.{◌≡◌, ◌≤◌, ◌+◌, ◌-◌, ◌++◌, length, IfOk, OnOk, string_bytes, codes, Some};
 ghost use Rattle.plc_base.specs.Causes.{Rose};
 ghost use Rattle.line_driver.specs.Clauses.{StopsWith};
-ghost use Rattle.line_replay.specs.Texts.{answer_word, verdict_word, reason_word, answer_text, up_text, happened_text, bad_text, end_text};
+ghost use Rattle.line_replay.specs.Texts.{answer_word, verdict_word, reason_word, answer_text, up_text, forged_text, happened_text, fly_text, flies_text, sent_text, bad_text, end_text};
 
 use line_driver::{Exit, stop};
 use line_world::{Answer, Handed, Happenings, World};
@@ -37,10 +37,20 @@ fn answer_word(answer: Answer) -> &'static str
         Answer::Set => "Set",
         Answer::Sent => "Sent",
         Answer::Up => "Up",
+        Answer::Lost => "Lost",
+        Answer::Restarted => "Restarted",
+        Answer::NoAddress => "NoAddress",
+        Answer::NotJoined => "NotJoined",
         Answer::BadSize => "BadSize",
+        Answer::ToSelf => "ToSelf",
         Answer::NoRoute => "NoRoute",
+        Answer::CounterSpent => "CounterSpent",
+        Answer::Malformed => "Malformed",
         Answer::NotForMe => "NotForMe",
+        Answer::NoKey => "NoKey",
+        Answer::BadTag => "BadTag",
         Answer::Replayed => "Replayed",
+        Answer::PeersFull => "PeersFull",
         Answer::BadUnit => "BadUnit",
     }
 }
@@ -49,9 +59,26 @@ fn verdict_word(answer: Answer) -> &'static str
     ensures { result.now ≡ verdict_word answer }
 {
     match answer {
-        Answer::Made | Answer::Joined | Answer::Set | Answer::Sent | Answer::Up => "ok",
-        Answer::BadSize | Answer::NoRoute | Answer::NotForMe | Answer::Replayed | Answer::BadUnit =>
-            "no",
+        Answer::Made
+        | Answer::Joined
+        | Answer::Set
+        | Answer::Sent
+        | Answer::Up
+        | Answer::Lost
+        | Answer::Restarted => "ok",
+        Answer::NoAddress
+        | Answer::NotJoined
+        | Answer::BadSize
+        | Answer::ToSelf
+        | Answer::NoRoute
+        | Answer::CounterSpent
+        | Answer::Malformed
+        | Answer::NotForMe
+        | Answer::NoKey
+        | Answer::BadTag
+        | Answer::Replayed
+        | Answer::PeersFull
+        | Answer::BadUnit => "no",
     }
 }
 
@@ -101,7 +128,23 @@ fn push_up(text: &mut String, alloc: Global, up: &Option<Handed>) -> Result<(), 
     }
 }
 
-/// The lines of an event of this number.
+#[tactic(auto, unfolding(crate::specs::Texts::forged_text))]
+fn push_forged(
+    text: &mut String,
+    alloc: Global,
+    number: u32,
+    forged: bool,
+) -> Result<(), AllocError>
+    ensures { OnOk result (string_bytes text.new ≡ string_bytes text.old ++ forged_text number forged) }
+{
+    if !forged {
+        return Ok(());
+    }
+    let line = format!(in alloc; "forged {number}\n")?;
+    text.push_str(line.as_str())
+}
+
+/// The lines of an event of this number, without those of its flights.
 #[tactic(auto, unfolding(crate::specs::Texts::happened_text))]
 pub fn happened_text(
     alloc: Global,
@@ -111,8 +154,51 @@ pub fn happened_text(
     ensures { IfOk result (λ text. string_bytes text ≡ happened_text number happened.now) }
 {
     let mut text = answer_text(alloc, number, happened.answer)?;
+    push_forged(&mut text, alloc, number, happened.forged)?;
     push_up(&mut text, alloc, &happened.up)?;
     Ok(text)
+}
+
+#[tactic(auto, unfolding(crate::specs::Texts::fly_text))]
+fn fly_text(alloc: Global, world: &World, number: u32) -> Result<String, AllocError>
+    ensures { IfOk result (λ text. string_bytes text ≡ fly_text world.now number) }
+{
+    let Some(octets) = world.flight(number) else {
+        return Ok(String::new(alloc));
+    };
+    let Some(node) = world.flight_sender(number) else {
+        return Ok(String::new(alloc));
+    };
+    let octets = hex::encode(alloc, octets)?;
+    format!(in alloc; "fly {number} {node} {octets}\n")
+}
+
+/// Appends the lines of the flights from a number on: none to a quiet report.
+#[tactic(auto, unfolding(crate::specs::Texts::sent_text))]
+pub fn push_sent(
+    text: &mut String,
+    alloc: Global,
+    quiet: bool,
+    world: &World,
+    first: u32,
+) -> Result<(), AllocError>
+    ensures { OnOk result (string_bytes text.new ≡ string_bytes text.old ++ sent_text quiet world.now first) }
+{
+    if quiet {
+        return Ok(());
+    }
+    push_flies(text, alloc, world, first)
+}
+
+fn push_flies(text: &mut String, alloc: Global, world: &World, first: u32) -> Result<(), AllocError>
+    ensures { OnOk result (string_bytes text.new ≡ string_bytes text.old ++ flies_text world.now first (length world.now.flights + 1 - first)) }
+{
+    let last = world.counts().flights;
+    for number in u64::from(first)..u64::from(last) + 1 {
+        let line = fly_text(alloc, world, number as u32)?;
+        text.push_str(line.as_str())?;
+    }
+    Ok(())
 }
 
 /// The line of a bad line.
@@ -134,7 +220,8 @@ pub fn end_text(alloc: Global, world: &World) -> Result<String, AllocError>
     let flights = counts.flights;
     let sends = counts.sends;
     let ups = counts.ups;
-    format!(in alloc; "end {events} {flights} {sends} {ups} 0\n")
+    let forged = counts.forged;
+    format!(in alloc; "end {events} {flights} {sends} {ups} {forged}\n")
 }
 
 /// Reports a bad line, at which the run stops.

@@ -4,7 +4,7 @@ ghost use Rattle.std.specs.Prelude.{◌≡◌};
 /// How a call of the tool ended. The program ends with its number.
 #[derive(Clone, Copy, Debug, PartialEq, Eq)]
 pub enum Status {
-    /// 0: the input was read to its end, no line is bad, and the whole report was written.
+    /// 0: the input was read to its end, no line is bad, no event is forged, and the whole report was written.
     Fine,
     /// 1: a line is bad, and its report was written.
     BadScript,
@@ -16,6 +16,8 @@ pub enum Status {
     ReadFault,
     /// 5: the sink failed.
     WriteFault,
+    /// 6: as 0, but an event is forged, and the report names it.
+    Forged,
 }
 
 impl Status {
@@ -32,6 +34,7 @@ impl Status {
             Status::Memory => 3,
             Status::ReadFault => 4,
             Status::WriteFault => 5,
+            Status::Forged => 6,
         }
     }
 }

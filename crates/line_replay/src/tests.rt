@@ -55,12 +55,12 @@ const GOOD: [(&str, &str); 10] = [
     // sizes and routes
     (
         "coordinator 0000000000000001 000102030405060708090a0b0c0d0e0f\nmeter 0000000000000002 101112131415161718191a1b1c1d1e1f\nmeter 0000000000000003 202122232425262728292a2b2c2d2e2f\ndepot 1\ndepot 2\nnear 1 2 3\nsend 0 1 00\nsend 1 1 00\nsend 1 2 000000000000000000000000000000000000000000000000000000000000000000000000000000000000000000000000000000000000000000000000000000000000000000000000000000000000000000000000000000000000000000000000000000000000000000000000000000000000000000000000000000000000000000000000000000000000000000000000000000000000000000000000000000000000000000000000000000000000000000000000000000000000000000000000000000000000000000000000000000000000000000000000000000000000000000000000000000000000000000000000000000000000000000000000000000000000000000000000000000000000000000000000000000000000000000000000000000000000000000000000000000000000000000000000000000000000000000000000000000000000000000000000000000000000000000000000000000000000000000000000000000000000000000000000000000\nsend 1 2 00000000000000000000000000000000000000000000000000000000000000000000000000000000000000000000000000000000000000000000000000000000000000000000000000000000000000000000000000000000000000000000000000000000000000000000000000000000000000000000000000000000000000000000000000000000000000000000000000000000000000000000000000000000000000000000000000000000000000000000000000000000000000000000000000000000000000000000000000000000000000000000000000000000000000000000000000000000000000000000000000000000000000000000000000000000000000000000000000000000000000000000000000000000000000000000000000000000000000000000000000000000000000000000000000000000000000000000000000000000000000000000000000000000000000000000000000000000000000000000000000000000000000000000000000000000",
-        "1 ok Made\n2 ok Made\n3 ok Made\n4 ok Joined\n5 ok Joined\n6 ok Set\n7 no NoRoute\n8 no NoRoute\n9 ok Sent\n10 no BadSize\nend 10 1 1 0 0\n",
+        "1 ok Made\n2 ok Made\n3 ok Made\n4 ok Joined\n5 ok Joined\n6 ok Set\n7 no NoRoute\n8 no ToSelf\n9 ok Sent\n10 no BadSize\nend 10 1 1 0 0\n",
     ),
 ];
 
 // Scripts with a bad line, and their reports.
-const BAD: [(&str, &str); 36] = [
+const BAD: [(&str, &str); 39] = [
     // the first event is no coordinator
     (
         "meter 0000000000000002 101112131415161718191a1b1c1d1e1f",
@@ -81,7 +81,7 @@ const BAD: [(&str, &str); 36] = [
     // a setup line after another one
     (
         "coordinator 0000000000000001 000102030405060708090a0b0c0d0e0f\nsend 0 0 00\nmeter 0000000000000002 101112131415161718191a1b1c1d1e1f",
-        "1 ok Made\n2 no NoRoute\nbad 3 setup\n",
+        "1 ok Made\n2 no ToSelf\nbad 3 setup\n",
     ),
     // the coordinator in the workshop
     (
@@ -218,10 +218,25 @@ const BAD: [(&str, &str); 36] = [
         "coordinator 0000000000000001 000102030405060708090a0b0c0d0e0f\ndeliver 1 0 256",
         "1 ok Made\nbad 2 form\n",
     ),
-    // a line of a later day
+    // a kind of line that is none
+    (
+        "coordinator 0000000000000001 000102030405060708090a0b0c0d0e0f\nhalt 0",
+        "1 ok Made\nbad 2 form\n",
+    ),
+    // no such flight to lose
     (
         "coordinator 0000000000000001 000102030405060708090a0b0c0d0e0f\nlose 1",
-        "1 ok Made\nbad 2 form\n",
+        "1 ok Made\nbad 2 flight\n",
+    ),
+    // a counter after setup
+    (
+        "coordinator 0000000000000001 000102030405060708090a0b0c0d0e0f\nrestart 0\ncounter 0 1",
+        "1 ok Made\n2 ok Restarted\nbad 3 setup\n",
+    ),
+    // no such node to restart
+    (
+        "coordinator 0000000000000001 000102030405060708090a0b0c0d0e0f\nrestart 1",
+        "1 ok Made\nbad 2 node\n",
     ),
     // a short key
     (
@@ -237,6 +252,76 @@ const BAD: [(&str, &str); 36] = [
     (
         "coordinator 0000000000000001 000102030405060708090a0b0c0d0e0f\nsend\0 0 0 00",
         "1 ok Made\nbad 2 form\n",
+    ),
+];
+
+// Scripts whose report has the octets of the flights, which AES-CCM of another maker sealed, with their reports and how they end.
+const SEALED: [(&str, &str, Status); 11] = [
+    // the octets of a flight
+    (
+        "coordinator 0000000000000001 000102030405060708090a0b0c0d0e0f\nmeter 0000000000000002 101112131415161718191a1b1c1d1e1f\nmeter 0000000000000003 202122232425262728292a2b2c2d2e2f\ndepot 1\ndepot 2\nnear 1 2 3\nsend 1 2 48656c6c6f\ndeliver 1 2 3\n",
+        "1 ok Made\n2 ok Made\n3 ok Made\n4 ok Joined\n5 ok Joined\n6 ok Set\n7 ok Sent\nfly 1 1 6998001d78020001000d0000000000e8c6be3fa01dc6a252e03de38f4258\n8 ok Up\nup 2 1 48656c6c6f\nend 8 1 1 1 0\n",
+        Status::Fine,
+    ),
+    // a repeat, also after a restart of its target
+    (
+        "coordinator 0000000000000001 000102030405060708090a0b0c0d0e0f\nmeter 0000000000000002 101112131415161718191a1b1c1d1e1f\nmeter 0000000000000003 202122232425262728292a2b2c2d2e2f\ndepot 1\ndepot 2\nnear 1 2 3\nsend 1 2 48656c6c6f\ndeliver 1 2 3\ndeliver 1 2 3\nrestart 2\ndeliver 1 2 3\n",
+        "1 ok Made\n2 ok Made\n3 ok Made\n4 ok Joined\n5 ok Joined\n6 ok Set\n7 ok Sent\nfly 1 1 6998001d78020001000d0000000000e8c6be3fa01dc6a252e03de38f4258\n8 ok Up\nup 2 1 48656c6c6f\n9 no Replayed\n10 ok Restarted\n11 no Replayed\nend 11 1 1 1 0\n",
+        Status::Fine,
+    ),
+    // a frame behind a restart of its target is not above the stored mark
+    (
+        "coordinator 0000000000000001 000102030405060708090a0b0c0d0e0f\nmeter 0000000000000002 101112131415161718191a1b1c1d1e1f\nmeter 0000000000000003 202122232425262728292a2b2c2d2e2f\ndepot 1\ndepot 2\nnear 1 2 3\nsend 1 2 48656c6c6f\ndeliver 1 2 3\nrestart 2\nsend 1 2 21\ndeliver 2 2 3\n",
+        "1 ok Made\n2 ok Made\n3 ok Made\n4 ok Joined\n5 ok Joined\n6 ok Set\n7 ok Sent\nfly 1 1 6998001d78020001000d0000000000e8c6be3fa01dc6a252e03de38f4258\n8 ok Up\nup 2 1 48656c6c6f\n9 ok Restarted\n10 ok Sent\nfly 2 1 6998011d78020001000d01000000009f510f0f8a8223db3e245b\n11 no Replayed\nend 11 2 2 1 0\n",
+        Status::Fine,
+    ),
+    // a sender that restarts has no route, and goes on above its stored limit
+    (
+        "coordinator 0000000000000001 000102030405060708090a0b0c0d0e0f\nmeter 0000000000000002 101112131415161718191a1b1c1d1e1f\nmeter 0000000000000003 202122232425262728292a2b2c2d2e2f\ndepot 1\ndepot 2\nnear 1 2 3\nsend 1 2 48656c6c6f\nrestart 1\nsend 1 2 21\n",
+        "1 ok Made\n2 ok Made\n3 ok Made\n4 ok Joined\n5 ok Joined\n6 ok Set\n7 ok Sent\nfly 1 1 6998001d78020001000d0000000000e8c6be3fa01dc6a252e03de38f4258\n8 ok Restarted\n9 no NoRoute\nend 9 1 1 0 0\n",
+        Status::Fine,
+    ),
+    // a frame that nobody sent
+    (
+        "coordinator 0000000000000001 000102030405060708090a0b0c0d0e0f\nmeter 0000000000000002 101112131415161718191a1b1c1d1e1f\nmeter 0000000000000003 202122232425262728292a2b2c2d2e2f\ndepot 1\ndepot 2\nnear 1 2 3\ninject 2 1 6998091d78020001000d09000000009335a1ded1b73f81f3fb65\n",
+        "1 ok Made\n2 ok Made\n3 ok Made\n4 ok Joined\n5 ok Joined\n6 ok Set\n7 ok Up\nforged 7\nup 2 0 00\nend 7 0 0 1 1\n",
+        Status::Forged,
+    ),
+    // frames that are refused
+    (
+        "coordinator 0000000000000001 000102030405060708090a0b0c0d0e0f\nmeter 0000000000000002 101112131415161718191a1b1c1d1e1f\nmeter 0000000000000003 202122232425262728292a2b2c2d2e2f\ndepot 1\ndepot 2\nnear 1 2 3\ninject 2 1 6998091d78020001000d09000000000d7af90109d8c41a591e38\ninject 2 1 6998001d78020001000d0000000000e8c6be\ninject 1 1 6998091d78020001000d09000000009335a1ded1b73f81f3fb65\ninject 0 1 6998091d78020001000d09000000009335a1ded1b73f81f3fb65\ninject 2 1 6998091d79020001000d09000000009335a1ded1b73f81f3fb65\ninject 2 1 6998091d78020001000d09000000019335a1ded1b73f81f3fb65\n",
+        "1 ok Made\n2 ok Made\n3 ok Made\n4 ok Joined\n5 ok Joined\n6 ok Set\n7 no BadTag\n8 no Malformed\n9 no NotForMe\n10 no NotForMe\n11 no NotForMe\n12 no NoKey\nend 12 0 0 0 0\n",
+        Status::Fine,
+    ),
+    // units that are no datagram for the node, forged as they are
+    (
+        "coordinator 0000000000000001 000102030405060708090a0b0c0d0e0f\nmeter 0000000000000002 101112131415161718191a1b1c1d1e1f\nmeter 0000000000000003 202122232425262728292a2b2c2d2e2f\ndepot 1\ndepot 2\nnear 1 2 3\ninject 2 1 6998091d78020001000d09000000006d34a1ded1f63f8147d8fe3d5fea3d\ninject 2 1 69980a1d78020001000d0a000000003ee7c3529d7f3b5cf092f3\ninject 2 1 61d8001d78020009000000000000004002010000000000000009\n",
+        "1 ok Made\n2 ok Made\n3 ok Made\n4 ok Joined\n5 ok Joined\n6 ok Set\n7 no BadUnit\nforged 7\n8 no NoRoute\nforged 8\n9 no BadUnit\nend 9 0 0 0 2\n",
+        Status::Forged,
+    ),
+    // a spent counter
+    (
+        "coordinator 0000000000000001 000102030405060708090a0b0c0d0e0f\nmeter 0000000000000002 101112131415161718191a1b1c1d1e1f\ndepot 1\nnear 0 1 1\ncounter 1 4294967295\nsend 1 0 aa\n",
+        "1 ok Made\n2 ok Made\n3 ok Joined\n4 ok Set\n5 ok Set\n6 no CounterSpent\nend 6 0 0 0 0\n",
+        Status::Fine,
+    ),
+    // a lost flight comes no more
+    (
+        "coordinator 0000000000000001 000102030405060708090a0b0c0d0e0f\nmeter 0000000000000002 101112131415161718191a1b1c1d1e1f\nmeter 0000000000000003 202122232425262728292a2b2c2d2e2f\ndepot 1\ndepot 2\nnear 1 2 3\nsend 1 2 48656c6c6f\nlose 1\ndeliver 1 2 3\n",
+        "1 ok Made\n2 ok Made\n3 ok Made\n4 ok Joined\n5 ok Joined\n6 ok Set\n7 ok Sent\nfly 1 1 6998001d78020001000d0000000000e8c6be3fa01dc6a252e03de38f4258\n8 ok Lost\nbad 9 flight\n",
+        Status::BadScript,
+    ),
+    // the octets of a flight injected are the flight's
+    (
+        "coordinator 0000000000000001 000102030405060708090a0b0c0d0e0f\nmeter 0000000000000002 101112131415161718191a1b1c1d1e1f\nmeter 0000000000000003 202122232425262728292a2b2c2d2e2f\ndepot 1\ndepot 2\nnear 1 2 3\nsend 1 2 48656c6c6f\nlose 1\ninject 2 9 6998001d78020001000d0000000000e8c6be3fa01dc6a252e03de38f4258\n",
+        "1 ok Made\n2 ok Made\n3 ok Made\n4 ok Joined\n5 ok Joined\n6 ok Set\n7 ok Sent\nfly 1 1 6998001d78020001000d0000000000e8c6be3fa01dc6a252e03de38f4258\n8 ok Lost\n9 ok Up\nup 2 1 48656c6c6f\nend 9 1 1 1 0\n",
+        Status::Fine,
+    ),
+    // addresses before all else
+    (
+        "coordinator 0000000000000001 000102030405060708090a0b0c0d0e0f\nmeter 0000000000000002 101112131415161718191a1b1c1d1e1f\nsend 1 1 aa\nsend 1 0 aa\n",
+        "1 ok Made\n2 ok Made\n3 no NoAddress\n4 no NotJoined\nend 4 0 0 0 0\n",
+        Status::Fine,
     ),
 ];
 
@@ -283,6 +368,16 @@ fn bad_lines(rt: HostRuntime) -> Result<(), Fail> {
         let (status, text) = replay(rt.alloc(), script.as_bytes(), 100)?;
         assert_eq!(rt; text.as_str(), report);
         assert_eq!(rt; status, Status::BadScript);
+    }
+    Ok(())
+}
+
+#[test]
+fn frames_in_the_report(rt: HostRuntime) -> Result<(), Fail> {
+    for (script, report, ended) in SEALED {
+        let (status, text) = run(rt.alloc(), &["replay"], script.as_bytes(), 8192, &[], &[])?;
+        assert_eq!(rt; text.as_str(), report);
+        assert_eq!(rt; status, ended);
     }
     Ok(())
 }
@@ -502,14 +597,14 @@ fn the_limits(rt: HostRuntime) -> Result<(), Fail> {
     assert_eq!(rt; status, Status::Fine);
     assert!(rt;
         text.as_str()
-            .ends_with("\n50000 no NoRoute\nend 50000 0 0 0 0\n")
+            .ends_with("\n50000 no ToSelf\nend 50000 0 0 0 0\n")
     );
     script.push_str("send 0 0 00\n")?;
     let (status, text) = replay(alloc, script.as_bytes(), 8192)?;
     assert_eq!(rt; status, Status::BadScript);
     assert!(rt;
         text.as_str()
-            .ends_with("\n50000 no NoRoute\nbad 50003 events\n")
+            .ends_with("\n50000 no ToSelf\nbad 50003 events\n")
     );
     Ok(())
 }

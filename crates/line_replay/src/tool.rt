@@ -1,9 +1,8 @@
 //! All that the program does.
-ghost use Rattle.std.specs.Prelude.{◌≡◌, ◌≤◌, ◌⊎◌, Some, None};
+ghost use Rattle.std.specs.Prelude.{◌≡◌, ◌≤◌, ◌⊎◌, Bool, true, Some, None};
 ghost use Rattle.std.specs.Io.KnownBytes.{IsAtEnd};
 ghost use Rattle.plc_base.specs.Causes.{Rose};
-ghost use Rattle.line_replay.specs.Tool.{Ran, Replays, Tells, command_of};
-ghost use Rattle.line_driver.specs.Outcomes.{outcome};
+ghost use Rattle.line_replay.specs.Tool.{Ran, Replays, Tells, command_of, status_of, none_forged, is_whole};
 ghost use Rattle.line_replay.specs.Shown.{shown};
 ghost use Rattle.line_replay.specs.Texts.{usage_text};
 ghost use Rattle.standard_vectors.specs.VectorsText.{vectors_text};
@@ -11,28 +10,21 @@ ghost use Rattle.standard_vectors.specs.VectorsText.{vectors_text};
 use crate::replay::Replay;
 use crate::show::Show;
 use crate::status::Status;
-use line_driver::{Exit, LineMachine, WINDOW, run};
-use line_world::every_run_is_safe;
+use line_driver::{Exit, WINDOW, run};
+use line_world::{
+    counters_only_rise, counts_are_right, every_run_is_safe, forged_events_are_told, nonces_differ,
+    restarts_succeed,
+};
 use plc_base::{Sink, Source, write_all};
 use standard_vectors::vectors_text;
 use std::alloc::Global;
 
-/// Runs a machine over the lines of the source.
-fn run_lines<M: LineMachine, S: Source, K: Sink>(
-    alloc: Global,
-    machine: &mut M,
-    source: &mut S,
-    sink: &mut K,
-) -> Status
-    ensures ran { Ran (λ b e. outcome M.turn M.end_text machine.old b e) WINDOW (S.left source.old) (S.left source.new) (K.taken sink.old) (K.taken sink.new) (S.ended source.new)
-        (Rose (S.faults source.old) (S.faults source.new)) (Rose (K.faults sink.old) (K.faults sink.new)) result }
-    ensures whole { result ≡ Status.Fine → IsAtEnd (S.left source.new) }
-    ensures read { result ≡ Status.ReadFault → Rose (S.faults source.old) (S.faults source.new) }
-    ensures write { result ≡ Status.WriteFault → Rose (K.faults sink.old) (K.faults sink.new) }
-    ensures source { S.faults source.old ≤ S.faults source.new }
-    ensures sink { K.faults sink.old ≤ K.faults sink.new }
+/// The status of a run over lines, which has seen a forged event or not.
+fn status_of(exit: Exit, forged: bool) -> Status
+    ensures { result ≡ status_of exit forged }
 {
-    match run(alloc, machine, source, sink) {
+    match exit {
+        Exit::Fine if forged => Status::Forged,
         Exit::Fine => Status::Fine,
         Exit::BadScript => Status::BadScript,
         Exit::Memory => Status::Memory,
@@ -41,33 +33,40 @@ fn run_lines<M: LineMachine, S: Source, K: Sink>(
     }
 }
 
-/// Reads a script from the source, and writes its report to the sink.
-fn replay<S: Source, K: Sink>(alloc: Global, source: &mut S, sink: &mut K) -> Status
-    ensures replays { Replays WINDOW (S.left source.old) (S.left source.new) (K.taken sink.old) (K.taken sink.new) (S.ended source.new)
+/// Reads a script from the source, and writes its report to the sink: a quiet one without the octets of the flights.
+fn replay<S: Source, K: Sink>(alloc: Global, quiet: bool, source: &mut S, sink: &mut K) -> Status
+    ensures replays { Replays quiet WINDOW (S.left source.old) (S.left source.new) (K.taken sink.old) (K.taken sink.new) (S.ended source.new)
         (Rose (S.faults source.old) (S.faults source.new)) (Rose (K.faults sink.old) (K.faults sink.new)) result }
-    ensures whole { result ≡ Status.Fine → IsAtEnd (S.left source.new) }
+    ensures whole { is_whole result ≡ true → IsAtEnd (S.left source.new) }
     ensures read { result ≡ Status.ReadFault → Rose (S.faults source.old) (S.faults source.new) }
     ensures write { result ≡ Status.WriteFault → Rose (K.faults sink.old) (K.faults sink.new) }
     ensures source { S.faults source.old ≤ S.faults source.new }
     ensures sink { K.faults sink.old ≤ K.faults sink.new }
 {
     every_run_is_safe();
-    let mut replay = Replay::new(alloc);
-    run_lines(alloc, &mut replay, source, sink)
+    forged_events_are_told();
+    counters_only_rise();
+    nonces_differ();
+    restarts_succeed();
+    counts_are_right();
+    let mut replay = Replay::new(alloc, quiet);
+    let exit = run(alloc, &mut replay, source, sink);
+    status_of(exit, replay.is_forged())
 }
 
 /// Reads frames from the source, and writes to the sink what each is.
 fn show<S: Source, K: Sink>(alloc: Global, source: &mut S, sink: &mut K) -> Status
-    ensures shows { Ran shown WINDOW (S.left source.old) (S.left source.new) (K.taken sink.old) (K.taken sink.new) (S.ended source.new)
+    ensures shows { Ran none_forged shown WINDOW (S.left source.old) (S.left source.new) (K.taken sink.old) (K.taken sink.new) (S.ended source.new)
         (Rose (S.faults source.old) (S.faults source.new)) (Rose (K.faults sink.old) (K.faults sink.new)) result }
-    ensures whole { result ≡ Status.Fine → IsAtEnd (S.left source.new) }
+    ensures whole { is_whole result ≡ true → IsAtEnd (S.left source.new) }
     ensures read { result ≡ Status.ReadFault → Rose (S.faults source.old) (S.faults source.new) }
     ensures write { result ≡ Status.WriteFault → Rose (K.faults sink.old) (K.faults sink.new) }
     ensures source { S.faults source.old ≤ S.faults source.new }
     ensures sink { K.faults sink.old ≤ K.faults sink.new }
 {
     let mut show = Show::new(alloc);
-    run_lines(alloc, &mut show, source, sink)
+    let exit = run(alloc, &mut show, source, sink);
+    status_of(exit, false)
 }
 
 /// Writes a text, and answers `done` where all of it was written.
@@ -85,8 +84,12 @@ fn tell<K: Sink>(sink: &mut K, text: &[u8], done: Status) -> Status
 /// The commands that the program has.
 #[derive(Clone, Copy, Debug, PartialEq, Eq)]
 pub enum Command {
-    /// `replay -q`: runs a script and reports what the line did, without the octets of the flights.
-    Replay,
+    /// `replay` and `replay -q`: runs a script and reports what the line did, with the octets of the flights or, where it is quiet,
+    /// without them.
+    Replay {
+        /// Whether the octets of the flights are left out.
+        quiet: bool,
+    },
     /// `show`: reads frames in hexadecimal and writes what each is.
     Show,
     /// `vectors`: writes what the ciphers make of known inputs.
@@ -98,10 +101,11 @@ fn command_of(words: &[String]) -> Option<Command>
     ensures { result ≡ command_of words.now }
 {
     match words {
+        [word] if word.as_str() == "replay" => Some(Command::Replay { quiet: false }),
         [word] if word.as_str() == "show" => Some(Command::Show),
         [word] if word.as_str() == "vectors" => Some(Command::Vectors),
         [word, option] if word.as_str() == "replay" && option.as_str() == "-q" => {
-            Some(Command::Replay)
+            Some(Command::Replay { quiet: true })
         }
         _ => None,
     }
@@ -111,7 +115,7 @@ const USAGE: &[u8; 58] = b"usage: line_replay replay [-q] | show | vectors | dri
 
 /// All that the program does, with the words after its name.
 ///
-/// `replay -q` reads a script and writes what its line did. `show` reads frames in hexadecimal and writes what each is. `vectors`
+/// `replay` reads a script and writes what its line did, `replay -q` the same without the octets of the flights. `show` reads frames in hexadecimal and writes what each is. `vectors`
 /// writes what the ciphers make of known inputs. Other words write the usage line. These two read nothing, and never answer Memory.
 pub fn run_tool<S: Source, K: Sink>(
     alloc: Global,
@@ -119,16 +123,17 @@ pub fn run_tool<S: Source, K: Sink>(
     source: &mut S,
     sink: &mut K,
 ) -> Status
-    // What was read and written, why this status came, and that the run is safe: every datagram that was handed up was
-    // sent to that node with the same octets, and none is handed up twice.
-    ensures replays { command_of words.now ≡ Some Command.Replay → Replays WINDOW (S.left source.old) (S.left source.new) (K.taken sink.old) (K.taken sink.new) (S.ended source.new)
+    // What was read and written, why this status came, and what holds of the run: up to its first forged event every datagram that was
+    // handed up was sent to that node with the same octets, none is handed up twice, a meter holds only group keys that were issued to
+    // it, and no table passes its size; in every run the counters of a node's flights rise, and no two flights have one nonce.
+    ensures replays { (quiet : Bool) → command_of words.now ≡ Some (Command.Replay quiet) → Replays quiet WINDOW (S.left source.old) (S.left source.new) (K.taken sink.old) (K.taken sink.new) (S.ended source.new)
         (Rose (S.faults source.old) (S.faults source.new)) (Rose (K.faults sink.old) (K.faults sink.new)) result }
     // What was read and written of frames, and why this status came.
-    ensures shows { command_of words.now ≡ Some Command.Show → Ran shown WINDOW (S.left source.old) (S.left source.new) (K.taken sink.old) (K.taken sink.new) (S.ended source.new)
+    ensures shows { command_of words.now ≡ Some Command.Show → Ran none_forged shown WINDOW (S.left source.old) (S.left source.new) (K.taken sink.old) (K.taken sink.new) (S.ended source.new)
         (Rose (S.faults source.old) (S.faults source.new)) (Rose (K.faults sink.old) (K.faults sink.new)) result }
-    // What ends Fine was read whole.
-    ensures whole_script { command_of words.now ≡ Some Command.Replay → result ≡ Status.Fine → IsAtEnd (S.left source.new) }
-    ensures whole_frames { command_of words.now ≡ Some Command.Show → result ≡ Status.Fine → IsAtEnd (S.left source.new) }
+    // What ends Fine or Forged was read whole.
+    ensures whole_script { (quiet : Bool) → command_of words.now ≡ Some (Command.Replay quiet) → is_whole result ≡ true → IsAtEnd (S.left source.new) }
+    ensures whole_frames { command_of words.now ≡ Some Command.Show → is_whole result ≡ true → IsAtEnd (S.left source.new) }
     // The vectors are those of the definitions, and nothing is read for them.
     ensures vectors { command_of words.now ≡ Some Command.Vectors → (source.new ≡ source.old) × Tells vectors_text Status.Fine (K.taken sink.old) (K.taken sink.new) (Rose (K.faults sink.old) (K.faults sink.new)) result }
     // Other words write the usage line, and nothing is read.
@@ -140,7 +145,7 @@ pub fn run_tool<S: Source, K: Sink>(
     ensures sink { K.faults sink.old ≤ K.faults sink.new }
 {
     match command_of(words) {
-        Some(Command::Replay) => replay(alloc, source, sink),
+        Some(Command::Replay { quiet }) => replay(alloc, quiet, source, sink),
         Some(Command::Show) => show(alloc, source, sink),
         Some(Command::Vectors) => tell(sink, vectors_text().octets(), Status::Fine),
         None => tell(sink, USAGE, Status::Usage),

@@ -1,198 +1,213 @@
--- What a world keeps of its history.
-use Rattle.std.proofs.Common.{◌≡◌, inl, inr, ℕ, ◌+◌, ◌-◌, ◌<◌, ◌≤◌, Bool, true, false, List, [], ◌∷◌, ◌++◌, length, length-append, get_or, if◌then◌else◌, None, Some, refl, sym, ◌∙◌, ap, subst, arith, slice_set, All}
+-- What a world keeps of its history, in every run.
+use Rattle.std.proofs.Common.{◌≡◌, inl, inr, ℕ, ◌-◌, ◌<◌, ◌≤◌, ◌^◌, Bool, true, List, [], ◌∷◌, ◌++◌, Some, refl, sym, ◌∙◌, ap, subst, arith, slice_set}
 use Rattle.std.proofs.lemmas.List.{append-nil}
-use Rattle.std.proofs.lemmas.List.Elements.{All-push}
 use Rattle.std.proofs.lemmas.Option.{slice_get_within}
-use Rattle.std.proofs.lemmas.Bool.{cases_eq, ne_eqb}
 use Rattle.std.specs.Prelude.{slice_get}
-use Rattle.line_world.specs.declared.event.Handed.{Handed}
+use Rattle.plc_base.specs.Grant.{Granted}
+use Rattle.plc_base.specs.declared.address.Eui.{Eui}
+use Rattle.plc_base.specs.declared.key.Key.{Key}
+use Rattle.mac_frames.specs.declared.head.MacHead.TheVariants.{Sealed}
+use Rattle.mac_frames.specs.Sealing.{SealedFrame}
+use Rattle.mac_frames.proofs.Values.{one_value}
+use Rattle.group_keys.specs.KeyRing.{Ring, key_in_ring}
 use Rattle.line_world.specs.declared.hearing.WholeUnit.{WholeUnit}
-use Rattle.line_world.specs.declared.node.Node.{Node}
 use Rattle.line_world.specs.declared.world.Flight.{Flight}
-use Rattle.line_world.specs.Nodes.{mark_of, is_above}
+use Rattle.line_world.specs.Nodes.{Node, address_of}
 use Rattle.line_world.specs.Units.{whole_in}
-use Rattle.line_world.specs.Worlds.{World}
-use Rattle.line_world.specs.Steps.{set_up, ran, unit_of, went}
-use Rattle.line_world.specs.Runs.{Sending, WasSent, send_at}
-use Rattle.line_world.proofs.Places.{get_push, get_stays, get_last, set_here}
-use Rattle.line_world.proofs.Naming.{IsNamed, named_kept, Kept, kept_set}
-use Rattle.line_world.proofs.UnitLemmas.{whole_found}
+use Rattle.line_world.specs.Runs.{Sending, Issue, HoldsIssued, IsNodeWithin, HasCounter, counter_in}
+use Rattle.line_world.proofs.Places.{Each, get_push, get_set, get_stays, same_some}
+use Rattle.line_world.proofs.Naming.{Kept, kept_all, kept_set, Stays}
 
--- a flight carries the datagram of its send, for the address of the node that it was sent to
-pub record IsCarried (nodes : List Node) (sent : List Sending) (f : Flight) : Type 0 where
+-- # A node
+
+pub record IsGood (x : Node) : Type 0 where
+  pub active : (g : Granted) → x.ring ≡ Some g → g.active ≤ 1
+  pub next : x.counter.next ≤ x.counter.limit
+  pub limit : x.counter.limit ≤ 4294967295
+  pub within : IsNodeWithin x
+
+abbrev pub AllGood : List Node → Type 0
+AllGood nodes = Each (λ n x. IsGood x) nodes
+
+-- each key of a node but the first was issued to it
+abbrev pub AreIssued : List Issue → List Node → Type 0
+AreIssued issues nodes = (n : ℕ) (x : Node) → 0 < n → slice_get nodes n ≡ Some x → HoldsIssued issues x
+
+pub issued_kept : (issues : List Issue) (nodes nodes' : List Node) → Kept nodes nodes' → AreIssued issues nodes → AreIssued issues nodes'
+issued_kept issues nodes nodes' kept h n y above is index key low held =
+    let was = kept.back n y is in
+    let one = h n was.node above was.is index key low (ap (λ (r : Ring). key_in_ring r index) (sym was.stays.ring) ∙ held) in
+    record { place = one.place; is = one.is ∙ ap (λ (e : Eui). Some (record { eui = e; index = index; key = key })) (sym was.stays.eui) }
+
+-- # Nodes that go on
+
+-- nodes that keep what they are, and whose counters do not fall
+pub record Later (nodes nodes' : List Node) : Type 0 where
+  pub kept : Kept nodes nodes'
+  pub next : (n : ℕ) (x y : Node) → slice_get nodes n ≡ Some x → slice_get nodes' n ≡ Some y → x.counter.next ≤ y.counter.next
+
+pub later_all : (nodes : List Node) → Later nodes nodes
+later_all nodes = record { kept = kept_all nodes; next = λ n x y is_x is_y. let same = same_some (sym is_x ∙ is_y) in omega (arith, ap (λ (z : Node). z.counter.next) same) }
+
+pub later_set : (nodes : List Node) (number : ℕ) (x new : Node) → slice_get nodes number ≡ Some x → Stays x new → x.counter.next ≤ new.counter.next → Later nodes (slice_set nodes number new)
+later_set nodes number x new is stays up = record {
+  kept = kept_set nodes number x new is stays;
+  next = λ n z y is_z is_y. elim (get_set nodes number new n y is_y) [
+    | inl here ↦
+        let old : x ≡ z = same_some (sym is ∙ ap (slice_get nodes) (sym here.0) ∙ is_z) in
+        omega (arith, up, ap (λ (v : Node). v.counter.next) old, ap (λ (v : Node). v.counter.next) here.1)
+    | inr other ↦ let same = same_some (sym is_z ∙ other.1) in omega (arith, ap (λ (v : Node). v.counter.next) same)
+  ];
+}
+
+-- # A flight
+
+-- A flight is a frame that its sender sealed, with a counter below its next one, and carries the datagram of its send, for the address
+-- of the node that it was sent to.
+pub record IsFlown (nodes : List Node) (sent : List Sending) (f : Flight) : Type 0 where
+  pub key : Key
+  pub key_is : f.key ≡ Some key
+  pub ack : Bool
+  pub seq : ℕ
+  pub pan : ℕ
+  pub to : ℕ
+  pub from : ℕ
+  pub counter : ℕ
+  pub index : ℕ
+  pub payload : List ℕ
+  pub sealed_so : SealedFrame (Sealed ack seq pan to from counter index) key.0 payload f.octets
+  pub fits : counter < 2 ^ 32
+  pub low : to < 0xFFFE
+  pub sender : Node
+  pub sender_at : slice_get nodes f.from ≡ Some sender
+  pub mine : address_of sender.ring ≡ Some from
+  pub below : counter < sender.counter.next
   pub send : Sending
   pub is : slice_get sent (f.note - 1) ≡ Some send
   pub target : Node
   pub there : slice_get nodes send.to ≡ Some target
-  pub address : target.address ≡ Some f.to
+  pub address : address_of target.ring ≡ Some to
   pub unit : WholeUnit
-  pub reads : whole_in f.unit ≡ Some unit
-  pub to : unit.mesh.to ≡ f.to
-  pub octets : unit.octets ≡ send.datagram
+  pub reads : whole_in payload ≡ Some unit
+  pub own : unit.mesh.to ≡ to
+  pub octets_are : unit.octets ≡ send.datagram
 
--- what was handed up came by the flight of its send, whose counter its hearer took in
-pub record IsTaken (nodes : List Node) (flights : List Flight) (sent : List Sending) (up : Handed) : Type 0 where
-  pub sent_so : WasSent up sent
-  pub flight : Flight
-  pub is : slice_get flights (up.note - 1) ≡ Some flight
-  pub hearer : Node
-  pub at : slice_get nodes up.node ≡ Some hearer
-  pub seen : is_above (mark_of hearer.marks flight.from) flight.counter ≡ false
+pub flown_on : (nodes nodes' : List Node) (sent more : List Sending) (f : Flight) → Later nodes nodes' → IsFlown nodes sent f → IsFlown nodes' (sent ++ more) f
+flown_on nodes nodes' sent more f later h =
+    let sender = later.kept.on f.from h.sender h.sender_at in
+    let target = later.kept.on h.send.to h.target h.there in record {
+      key = h.key;
+      key_is = h.key_is;
+      ack = h.ack;
+      seq = h.seq;
+      pan = h.pan;
+      to = h.to;
+      from = h.from;
+      counter = h.counter;
+      index = h.index;
+      payload = h.payload;
+      sealed_so = h.sealed_so;
+      fits = h.fits;
+      low = h.low;
+      sender = sender.node;
+      sender_at = sender.is;
+      mine = ap address_of sender.stays.ring ∙ h.mine;
+      below = omega (arith, h.below, later.next f.from h.sender sender.node h.sender_at sender.is);
+      send = h.send;
+      is = get_stays sent more (f.note - 1) h.send h.is;
+      target = target.node;
+      there = target.is;
+      address = ap address_of target.stays.ring ∙ h.address;
+      unit = h.unit;
+      reads = h.reads;
+      own = h.own;
+      octets_are = h.octets_are;
+    }
 
-pub record Keeps (w : World) (sent : List Sending) (handed : List Handed) : Type 0 where
-  pub named : IsNamed w.nodes w.depots
-  pub depots : w.depots ≤ w.events
-  pub count : w.sends ≡ length sent
-  pub flights : length w.flights ≡ length sent
-  pub notes : (j : ℕ) (f : Flight) → slice_get w.flights j ≡ Some f → f.note ≡ j + 1
-  pub carried : (j : ℕ) (f : Flight) → slice_get w.flights j ≡ Some f → IsCarried w.nodes sent f
-  pub taken : All (IsTaken w.nodes w.flights sent) handed
-  pub begun : w.running ≡ true → 0 < length w.nodes
-  pub quiet : w.running ≡ false → (w.flights ≡ []) × (sent ≡ []) × (handed ≡ [])
+pub flown_still : (nodes nodes' : List Node) (sent : List Sending) (f : Flight) → Later nodes nodes' → IsFlown nodes sent f → IsFlown nodes' sent f
+flown_still nodes nodes' sent f later h = subst (λ (s : List Sending). IsFlown nodes' s f) (append-nil sent) (flown_on nodes nodes' sent [] f later h)
 
-pub none_there : {X : Type 0} (xs : List X) (j : ℕ) (x : X) → xs ≡ [] → slice_get xs j ≡ Some x → ⊥
-none_there xs j x empty is = let e : slice_get [] j ≡ Some x = ap (λ ys. slice_get ys j) (sym empty) ∙ is in cc (e)
-
-pub all_none : {X : Type 0} (P : X → Type 0) (xs : List X) → xs ≡ [] → All P xs
-all_none P xs empty = λ k d within. absurd (omega (arith, within, ap length empty))
-
--- an event of a setup kind, before any flight
-pub keeps_setup : (w : World) (sent : List Sending) (handed : List Handed) (nodes : List Node) (depots : ℕ) → Keeps w sent handed → w.running ≡ false → IsNamed nodes depots → depots ≤ w.events + 1
-    → Keeps (record (set_up w) { nodes = nodes; depots = depots }) sent handed
-keeps_setup w sent handed nodes depots k still named low = let q = k.quiet still in record {
-  named = named;
-  depots = low;
-  count = k.count;
-  flights = k.flights;
-  notes = k.notes;
-  carried = λ j f is. absurd (none_there w.flights j f q.0 is);
-  taken = all_none (IsTaken nodes w.flights sent) handed q.2;
-  begun = λ on. absurd (cc (on, still));
-  quiet = k.quiet;
-}
-
-pub carried_on : (nodes nodes' : List Node) (sent more : List Sending) (f : Flight) → Kept nodes nodes' → IsCarried nodes sent f → IsCarried nodes' (sent ++ more) f
-carried_on nodes nodes' sent more f kept h = let on = kept.on h.send.to h.target h.there in record {
+-- a flight that was lost is the same flight
+pub flown_lost : (nodes : List Node) (sent : List Sending) (f : Flight) → IsFlown nodes sent f → IsFlown nodes sent (record f { lost = true })
+flown_lost nodes sent f h = record {
+  key = h.key;
+  key_is = h.key_is;
+  ack = h.ack;
+  seq = h.seq;
+  pan = h.pan;
+  to = h.to;
+  from = h.from;
+  counter = h.counter;
+  index = h.index;
+  payload = h.payload;
+  sealed_so = h.sealed_so;
+  fits = h.fits;
+  low = h.low;
+  sender = h.sender;
+  sender_at = h.sender_at;
+  mine = h.mine;
+  below = h.below;
   send = h.send;
-  is = get_stays sent more (f.note - 1) h.send h.is;
-  target = on.node;
-  there = on.is;
-  address = on.address ∙ h.address;
+  is = h.is;
+  target = h.target;
+  there = h.there;
+  address = h.address;
   unit = h.unit;
   reads = h.reads;
-  to = h.to;
-  octets = h.octets;
+  own = h.own;
+  octets_are = h.octets_are;
 }
 
-pub sent_on : (up : Handed) (sent more : List Sending) → WasSent up sent → WasSent up (sent ++ more)
-sent_on up sent more h = record { send = h.send; is = stays up.note h.is; node = h.node; octets = h.octets }
+-- # Counters
+
+-- of two flights of one node the later one has the greater counter
+abbrev pub Rising : List Flight → Type 0
+Rising flights = (i j : ℕ) (f g : Flight) (c d : ℕ) → i < j → slice_get flights i ≡ Some f → slice_get flights j ≡ Some g → f.from ≡ g.from → HasCounter f.octets c → HasCounter g.octets d → c < d
+
+-- the counter of a flight is read in one way
+pub counter_is : (nodes : List Node) (sent : List Sending) (f : Flight) (h : IsFlown nodes sent f) (c : ℕ) → HasCounter f.octets c → c ≡ h.counter
+counter_is nodes sent f h c counted =
+    let same = (one_value counted.head (Sealed h.ack h.seq h.pan h.to h.from h.counter h.index) counted.body _ f.octets counted.frame h.sealed_so.frame).0 in
+    same_some (sym counted.sealed ∙ ap counter_in same)
+
+pub has_counter : (nodes : List Node) (sent : List Sending) (f : Flight) (h : IsFlown nodes sent f) → HasCounter f.octets h.counter
+has_counter nodes sent f h = record { head = Sealed h.ack h.seq h.pan h.to h.from h.counter h.index; body = _; frame = h.sealed_so.frame; sealed = refl }
+
+-- a flight of a counter that no flight of its node has reached
+pub rising_push : (nodes : List Node) (sent : List Sending) (flights : List Flight) (new : Flight) (x : Node) → Rising flights → ((j : ℕ) (f : Flight) → slice_get flights j ≡ Some f → IsFlown nodes sent f)
+    → slice_get nodes new.from ≡ Some x → ((d : ℕ) → HasCounter new.octets d → d ≡ x.counter.next) → Rising (flights ++ new ∷ [])
+rising_push nodes sent flights new x rising flown is_x next i j f g c d before is_f is_g same count_f count_g = elim (get_push flights new j g is_g) [
+  | inl old ↦ elim (get_push flights new i f is_f) [
+    | inl old' ↦ rising i j f g c d before old' old same count_f count_g
+    | inr last ↦ absurd (omega (arith, last.0, before, slice_get_within flights j g old))
+  ]
+  | inr last ↦ elim (get_push flights new i f is_f) [
+    | inl old ↦
+        let h = flown i f old in
+        let sender_is : h.sender ≡ x = same_some (sym h.sender_at ∙ ap (slice_get nodes) (same ∙ ap (λ (v : Flight). v.from) (sym last.1)) ∙ is_x) in
+        let d_is : d ≡ x.counter.next = next d (subst (λ (v : Flight). HasCounter v.octets d) (sym last.1) count_g) in
+        omega (arith, counter_is nodes sent f h c count_f, h.below, d_is, ap (λ (v : Node). v.counter.next) sender_is)
+    | inr last' ↦ absurd (omega (arith, last.0, last'.0, before))
+  ]
+]
+
+-- the flight at a place, before one was lost
+pub record WasFlight (flights : List Flight) (place : ℕ) (v : Flight) : Type 0 where
+  pub flight : Flight
+  pub is : slice_get flights place ≡ Some flight
+  pub from : flight.from ≡ v.from
+  pub octets_are : flight.octets ≡ v.octets
+  pub note : flight.note ≡ v.note
+
+-- a flight that is lost keeps its counter
+pub rising_lost : (flights : List Flight) (k : ℕ) (l : Flight) → slice_get flights k ≡ Some l → Rising flights → Rising (slice_set flights k (record l { lost = true }))
+rising_lost flights k l is_l rising i j f g c d before is_f is_g same count_f count_g =
+    let a = was i f is_f in
+    let b = was j g is_g in
+    rising i j a.flight b.flight c d before a.is b.is (a.from ∙ same ∙ sym b.from) (subst (λ (o : List ℕ). HasCounter o c) (sym a.octets_are) count_f) (subst (λ (o : List ℕ). HasCounter o d) (sym b.octets_are) count_g)
   where
-    stays : (n : ℕ) → send_at sent n ≡ Some h.send → send_at (sent ++ more) n ≡ Some h.send
-    stays n is = elim (cases_eq n 0) [
-      | inl none ↦ absurd (let e : send_at sent 0 ≡ Some h.send = ap (send_at sent) (sym none) ∙ is in cc (e))
-      | inr some ↦ rw (ne_eqb n 0 some) (get_stays sent more (n - 1) h.send (let P : Bool → Type 0 = λ b. (if b then None else slice_get sent (n - 1)) ≡ Some h.send in subst P (ne_eqb n 0 some) is))
+    was : (n : ℕ) (v : Flight) → slice_get (slice_set flights k (record l { lost = true })) n ≡ Some v → WasFlight flights n v
+    was n v is = elim (get_set flights k (record l { lost = true }) n v is) [
+      | inl here ↦ record { flight = l; is = ap (slice_get flights) here.0 ∙ is_l; from = ap (λ (z : Flight). z.from) here.1; octets_are = ap (λ (z : Flight). z.octets) here.1; note = ap (λ (z : Flight). z.note) here.1 }
+      | inr other ↦ record { flight = v; is = other.1; from = refl; octets_are = refl; note = refl }
     ]
-
-pub taken_on : (nodes nodes' : List Node) (flights more : List Flight) (sent sent' : List Sending) (up : Handed) → Kept nodes nodes' → IsTaken nodes flights sent up → IsTaken nodes' (flights ++ more) (sent ++ sent') up
-taken_on nodes nodes' flights more sent sent' up kept h = let on = kept.on up.node h.hearer h.at in record {
-  sent_so = sent_on up sent sent' h.sent_so;
-  flight = h.flight;
-  is = get_stays flights more (up.note - 1) h.flight h.is;
-  hearer = on.node;
-  at = on.is;
-  seen = on.marks h.flight.from h.flight.counter h.seen;
-}
-
-taken_still : (nodes nodes' : List Node) (flights : List Flight) (sent : List Sending) (up : Handed) → Kept nodes nodes' → IsTaken nodes flights sent up → IsTaken nodes' flights sent up
-taken_still nodes nodes' flights sent up kept h = let on = kept.on up.node h.hearer h.at in record {
-  sent_so = h.sent_so;
-  flight = h.flight;
-  is = h.is;
-  hearer = on.node;
-  at = on.is;
-  seen = on.marks h.flight.from h.flight.counter h.seen;
-}
-
--- a node that is there keeps the list from being empty
-pub some_nodes : (nodes : List Node) (n : ℕ) (x : Node) → slice_get nodes n ≡ Some x → 0 < length nodes
-some_nodes nodes n x is = omega (arith, slice_get_within nodes n x is)
-
--- an event of another kind, with no new flight
-pub keeps_ran : (w : World) (sent : List Sending) (handed : List Handed) (nodes : List Node) (ups : ℕ) → Keeps w sent handed → Kept w.nodes nodes → 0 < length nodes
-    → Keeps (record (ran w) { nodes = nodes; ups = ups }) sent handed
-keeps_ran w sent handed nodes ups k kept some = record {
-  named = named_kept w.nodes nodes w.depots kept k.named;
-  depots = omega (arith, k.depots);
-  count = k.count;
-  flights = k.flights;
-  notes = k.notes;
-  carried = λ j f is. subst (λ (s : List Sending). IsCarried nodes s f) (append-nil sent) (carried_on w.nodes nodes sent [] f kept (k.carried j f is));
-  taken = λ i d within. taken_still w.nodes nodes w.flights sent (get_or handed i d) kept (k.taken i d within);
-  begun = λ on. some;
-  quiet = λ off. absurd (cc (off));
-}
-
--- a datagram is handed up
-pub keeps_up : (w : World) (sent : List Sending) (handed : List Handed) (up : Handed) → Keeps w sent handed → w.running ≡ true → IsTaken w.nodes w.flights sent up → Keeps w sent (handed ++ up ∷ [])
-keeps_up w sent handed up k on taken = record {
-  named = k.named;
-  depots = k.depots;
-  count = k.count;
-  flights = k.flights;
-  notes = k.notes;
-  carried = k.carried;
-  taken = All-push (IsTaken w.nodes w.flights sent) handed up k.taken taken;
-  begun = k.begun;
-  quiet = λ off. absurd (cc (on, off));
-}
-
--- a datagram goes out over a hop
-module _ (w : World) (sent : List Sending) (handed : List Handed) (from to own next : ℕ) (x y : Node) (datagram : List ℕ) (k : Keeps w sent handed) where
-  abbrev new_send : Sending
-  new_send = record { from = from; to = to; datagram = datagram }
-
-  abbrev new_flight : Flight
-  new_flight = record { from = from; to = next; counter = x.next_counter; note = w.sends + 1; unit = unit_of own next datagram }
-
-  abbrev counted : Node
-  counted = record x { next_counter = x.next_counter + 1 }
-
-  pub keeps_went : slice_get w.nodes from ≡ Some x → slice_get w.nodes to ≡ Some y → y.address ≡ Some next → own < 0xFFFE → next < 0xFFFE → 0 < length datagram → length datagram ≤ 375
-      → Keeps (went w from x own next datagram).0 (sent ++ record { from = from; to = to; datagram = datagram } ∷ []) handed
-  unfolding went unit_of
-  keeps_went is_x is_y address own_low next_low some few = record {
-    named = named_kept w.nodes (slice_set w.nodes from counted) w.depots kept k.named;
-    depots = omega (arith, k.depots);
-    count = omega (arith, k.count, length-append sent (new_send ∷ []));
-    flights = omega (arith, k.flights, length-append sent (new_send ∷ []), length-append w.flights (new_flight ∷ []));
-    notes = λ j f is. elim (get_push w.flights new_flight j f is) [
-      | inl old ↦ k.notes j f old
-      | inr last ↦ sym (ap (λ (g : Flight). g.note) last.1) ∙ omega (arith, last.0, k.count, k.flights)
-    ];
-    carried = λ j f is. elim (get_push w.flights new_flight j f is) [
-      | inl old ↦ carried_on w.nodes (slice_set w.nodes from counted) sent (new_send ∷ []) f kept (k.carried j f old)
-      | inr last ↦ subst (λ g. IsCarried (slice_set w.nodes from counted) (sent ++ new_send ∷ []) g) last.1 carries
-    ];
-    taken = λ i d within. taken_on w.nodes (slice_set w.nodes from counted) w.flights (new_flight ∷ []) sent (new_send ∷ []) (get_or handed i d) kept (k.taken i d within);
-    begun = λ on. some_nodes (slice_set w.nodes from counted) from counted (set_here w.nodes from x counted is_x);
-    quiet = λ off. absurd (cc (off));
-  }
-    where
-      kept : Kept w.nodes (slice_set w.nodes from counted)
-      kept = kept_set w.nodes from x counted is_x refl (λ s c h. h)
-
-      reads : whole_in (unit_of own next datagram) ≡ Some (record { mesh = record { hops = 14; origin = own; to = next }; octets = datagram })
-      reads = whole_found (record { hops = 14; origin = own; to = next }) datagram (unit_of own next datagram) ((record { hops = omega arith; origin = own_low; to = next_low }, some, few), refl)
-
-      carries : IsCarried (slice_set w.nodes from counted) (sent ++ new_send ∷ []) new_flight
-      carries = let on = kept.on to y is_y in record {
-        send = new_send;
-        is = get_last sent new_send (w.sends + 1 - 1) (omega (arith, k.count));
-        target = on.node;
-        there = on.is;
-        address = on.address ∙ address;
-        unit = record { mesh = record { hops = 14; origin = own; to = next }; octets = datagram };
-        reads = reads;
-        to = refl;
-        octets = refl;
-      }

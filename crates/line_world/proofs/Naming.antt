@@ -1,116 +1,143 @@
 -- Each address is of one node.
-use Rattle.std.proofs.Common.{◌≡◌, ◌≢◌, ◌⊎◌, inl, inr, ℕ, ◌+◌, ◌<◌, ◌≤◌, List, [], ◌∷◌, ◌++◌, length, Some, None, Option, refl, sym, ◌∙◌, ap, subst, arith, slice_set, false, true, Bool}
+use Rattle.std.proofs.Common.{◌≡◌, inl, inr, ℕ, zero, suc, ◌<◌, ◌≤◌, List, [], ◌∷◌, ◌++◌, length, Some, None, Option, refl, sym, ◌∙◌, ap, subst, arith, slice_set}
 use Rattle.std.proofs.lemmas.Bool.{cases_eq}
 use Rattle.std.specs.Prelude.{slice_get}
-use Rattle.line_world.specs.declared.node.Node.{Node}
-use Rattle.line_world.specs.Nodes.{mark_of, is_above}
-use Rattle.line_world.proofs.Places.{get_push, get_set, set_here, set_there, same_some}
+use Rattle.group_keys.specs.KeyBook as book
+use Rattle.line_world.specs.Nodes.{Node, address_of}
+use Rattle.line_world.proofs.Places.{get_push, get_set, set_here, set_there, same_some, first_there}
+use Rattle.line_world.proofs.Meters.{one_meter, address_within}
 
--- no address passes the number of depots, and no two nodes have one
-pub record IsNamed (nodes : List Node) (depots : ℕ) : Type 0 where
-  pub limit : (n : ℕ) (x : Node) (p : ℕ) → slice_get nodes n ≡ Some x → x.address ≡ Some p → p ≤ depots
-  pub distinct : (m n : ℕ) (x y : Node) (p : ℕ) → slice_get nodes m ≡ Some x → slice_get nodes n ≡ Some y → x.address ≡ Some p → y.address ≡ Some p → m ≡ n
+-- no two nodes have one number; the coordinator has the address 0, and a meter that which the coordinator's book has for it
+pub record IsNamed (nodes : List Node) : Type 0 where
+  pub apart : (m n : ℕ) (x y : Node) → slice_get nodes m ≡ Some x → slice_get nodes n ≡ Some y → book.eui_number x.eui ≡ book.eui_number y.eui → m ≡ n
+  pub center : (c : Node) → slice_get nodes 0 ≡ Some c → address_of c.ring ≡ Some 0
+  pub meters : (c x : Node) (n p : ℕ) → slice_get nodes 0 ≡ Some c → slice_get nodes n ≡ Some x → 0 < n → address_of x.ring ≡ Some p → book.address_of c.book x.eui ≡ Some p
 
-pub named_none : (depots : ℕ) → IsNamed [] depots
-named_none depots = record { limit = λ n x p is address. absurd (cc); distinct = λ m n x y p is_m is_n address_m address_n. absurd (cc) }
+pub named_none : IsNamed []
+named_none = record { apart = λ m n x y is_m is_n same. absurd (cc (is_m)); center = λ c is. absurd (cc (is)); meters = λ c x n p is_c is_n above address. absurd (cc (is_c)) }
 
--- one node more, with no address that is there
-pub named_push : (nodes : List Node) (depots : ℕ) (new : Node) → IsNamed nodes depots → ((p : ℕ) → new.address ≡ Some p → p ≤ depots)
-    → ((n : ℕ) (x : Node) (p : ℕ) → slice_get nodes n ≡ Some x → x.address ≡ Some p → new.address ≡ Some p → ⊥) → IsNamed (nodes ++ new ∷ []) depots
-named_push nodes depots new h low fresh = record {
-  limit = λ n x p is address. elim (get_push nodes new n x is) [
-    | inl old ↦ h.limit n x p old address
-    | inr last ↦ low p (ap (λ (z : Node). z.address) last.1 ∙ address)
-  ];
-  distinct = λ m n x y p is_m is_n address_m address_n. elim (get_push nodes new m x is_m) [
+-- so no two nodes have one address
+pub distinct : (nodes : List Node) (m n : ℕ) (x y : Node) (p : ℕ) → IsNamed nodes → slice_get nodes m ≡ Some x → slice_get nodes n ≡ Some y → address_of x.ring ≡ Some p → address_of y.ring ≡ Some p → m ≡ n
+distinct nodes zero zero x y p h is_m is_n address_m address_n = refl
+distinct nodes zero (suc n) x y p h is_m is_n address_m address_n =
+    let p_is : 0 ≡ p = same_some (sym (h.center x is_m) ∙ address_m) in
+    let low = address_within x.book y.eui p (h.meters x y (suc n) p is_m is_n (omega arith) address_n) in
+    absurd (omega (arith, low.0, p_is))
+distinct nodes (suc m) zero x y p h is_m is_n address_m address_n =
+    let p_is : 0 ≡ p = same_some (sym (h.center y is_n) ∙ address_n) in
+    let low = address_within y.book x.eui p (h.meters y x (suc m) p is_n is_m (omega arith) address_m) in
+    absurd (omega (arith, low.0, p_is))
+distinct nodes (suc m) (suc n) x y p h is_m is_n address_m address_n =
+    let c = first_there nodes (suc m) x is_m in
+    h.apart (suc m) (suc n) x y is_m is_n (one_meter c.first.book x.eui y.eui p (h.meters c.first x (suc m) p c.is is_m (omega arith) address_m) (h.meters c.first y (suc n) p c.is is_n (omega arith) address_n))
+
+-- no address passes the number of meters in the coordinator's book
+pub low_address : (nodes : List Node) (n : ℕ) (x : Node) (p : ℕ) → IsNamed nodes → ((c : Node) → slice_get nodes 0 ≡ Some c → length c.book ≤ 999) → slice_get nodes n ≡ Some x → address_of x.ring ≡ Some p → p ≤ 999
+low_address nodes zero x p h short is address = let p_is : 0 ≡ p = same_some (sym (h.center x is) ∙ address) in omega (arith, p_is)
+low_address nodes (suc n) x p h short is address =
+    let c = first_there nodes (suc n) x is in
+    let low = address_within c.first.book x.eui p (h.meters c.first x (suc n) p c.is is (omega arith) address) in
+    omega (arith, low.1, short c.first c.is)
+
+-- ---- one node more
+
+-- the first node, with the address 0
+pub named_first : (new : Node) → address_of new.ring ≡ Some 0 → IsNamed (new ∷ [])
+named_first new zero_is = record { apart = apart; center = λ c is. ap (λ (x : Node). address_of x.ring) (sym (same_some is)) ∙ zero_is; meters = meters }
+  where
+    apart : (m n : ℕ) (x y : Node) → slice_get (new ∷ []) m ≡ Some x → slice_get (new ∷ []) n ≡ Some y → book.eui_number x.eui ≡ book.eui_number y.eui → m ≡ n
+    apart zero zero x y is_m is_n same = refl
+    apart zero (suc n) x y is_m is_n same = absurd (cc (is_n))
+    apart (suc m) n x y is_m is_n same = absurd (cc (is_m))
+
+    meters : (c x : Node) (n p : ℕ) → slice_get (new ∷ []) 0 ≡ Some c → slice_get (new ∷ []) n ≡ Some x → 0 < n → address_of x.ring ≡ Some p → book.address_of c.book x.eui ≡ Some p
+    meters c x zero p is_c is_n above address = absurd (omega (arith, above))
+    meters c x (suc n) p is_c is_n above address = absurd (cc (is_n))
+
+-- a node behind others, with a new number and no address
+pub named_push : (nodes : List Node) (new : Node) → 0 < length nodes → IsNamed nodes → address_of new.ring ≡ None
+    → ((n : ℕ) (x : Node) → slice_get nodes n ≡ Some x → book.eui_number x.eui ≡ book.eui_number new.eui → ⊥) → IsNamed (nodes ++ new ∷ [])
+named_push nodes new some h none fresh = record {
+  apart = λ m n x y is_m is_n same. elim (get_push nodes new m x is_m) [
     | inl old ↦ elim (get_push nodes new n y is_n) [
-      | inl old' ↦ h.distinct m n x y p old old' address_m address_n
-      | inr last ↦ absurd (fresh m x p old address_m (ap (λ (z : Node). z.address) last.1 ∙ address_n))
+      | inl old' ↦ h.apart m n x y old old' same
+      | inr last ↦ absurd (fresh m x old (same ∙ ap (λ (z : Node). book.eui_number z.eui) (sym last.1)))
     ]
     | inr last ↦ elim (get_push nodes new n y is_n) [
-      | inl old' ↦ absurd (fresh n y p old' address_n (ap (λ (z : Node). z.address) last.1 ∙ address_m))
+      | inl old' ↦ absurd (fresh n y old' (sym same ∙ ap (λ (z : Node). book.eui_number z.eui) (sym last.1)))
       | inr last' ↦ last.0 ∙ sym last'.0
     ]
   ];
-}
-
--- a node gets the next address
-pub named_join : (nodes : List Node) (depots number : ℕ) (new : Node) → IsNamed nodes depots → new.address ≡ Some (depots + 1) → IsNamed (slice_set nodes number new) (depots + 1)
-named_join nodes depots number new h next = record {
-  limit = λ n x p is address. elim (get_set nodes number new n x is) [
-    | inl here ↦ let e : Some (depots + 1) ≡ Some p = sym next ∙ ap (λ (z : Node). z.address) here.1 ∙ address in omega (arith, same_some e)
-    | inr other ↦ omega (arith, h.limit n x p other.1 address)
-  ];
-  distinct = λ m n x y p is_m is_n address_m address_n. elim (get_set nodes number new m x is_m) [
-    | inl here ↦ elim (get_set nodes number new n y is_n) [
-      | inl here' ↦ here.0 ∙ sym here'.0
-      | inr other' ↦ let e : Some (depots + 1) ≡ Some p = sym next ∙ ap (λ (z : Node). z.address) here.1 ∙ address_m in absurd (omega (arith, same_some e, h.limit n y p other'.1 address_n))
-    ]
-    | inr other ↦ elim (get_set nodes number new n y is_n) [
-      | inl here' ↦ let e : Some (depots + 1) ≡ Some p = sym next ∙ ap (λ (z : Node). z.address) here'.1 ∙ address_n in absurd (omega (arith, same_some e, h.limit m x p other.1 address_m))
-      | inr other' ↦ h.distinct m n x y p other.1 other'.1 address_m address_n
-    ]
+  center = λ c is. elim (get_push nodes new 0 c is) [ inl old ↦ h.center c old | inr last ↦ absurd (omega (arith, last.0, some)) ];
+  meters = λ c x n p is_c is_n above address. elim (get_push nodes new n x is_n) [
+    | inl old ↦ elim (get_push nodes new 0 c is_c) [ inl first ↦ h.meters c x n p first old above address | inr last ↦ absurd (omega (arith, last.0, some)) ]
+    | inr last ↦ let e : None ≡ Some p = sym none ∙ ap (λ (z : Node). address_of z.ring) last.1 ∙ address in absurd (cc (e))
   ];
 }
 
--- ---- nodes that keep their addresses, and whose marks rise
+-- ---- nodes that keep what they are
 
--- the marks of x are those of y or below them
-abbrev pub Rises : Node → Node → Type 0
-Rises x y = (sender counter : ℕ) → is_above (mark_of x.marks sender) counter ≡ false → is_above (mark_of y.marks sender) counter ≡ false
+-- a node keeps its number, its ring and its book
+pub record Stays (x y : Node) : Type 0 where
+  pub eui : y.eui ≡ x.eui
+  pub ring : y.ring ≡ x.ring
+  pub book : y.book ≡ x.book
 
 pub record Goes (x : Node) (there : Option Node) : Type 0 where
   pub node : Node
   pub is : there ≡ Some node
-  pub address : node.address ≡ x.address
-  pub marks : Rises x node
+  pub stays : Stays x node
 
 pub record Came (y : Node) (there : Option Node) : Type 0 where
   pub node : Node
   pub is : there ≡ Some node
-  pub address : node.address ≡ y.address
+  pub stays : Stays node y
 
 pub record Kept (nodes nodes' : List Node) : Type 0 where
   pub on : (n : ℕ) (x : Node) → slice_get nodes n ≡ Some x → Goes x (slice_get nodes' n)
   pub back : (n : ℕ) (y : Node) → slice_get nodes' n ≡ Some y → Came y (slice_get nodes n)
 
+pub stays_all : (x : Node) → Stays x x
+stays_all x = record { eui = refl; ring = refl; book = refl }
+
+stays_twice : (x y z : Node) → Stays x y → Stays y z → Stays x z
+stays_twice x y z h k = record { eui = k.eui ∙ h.eui; ring = k.ring ∙ h.ring; book = k.book ∙ h.book }
+
 pub kept_all : (nodes : List Node) → Kept nodes nodes
-kept_all nodes = record {
-  on = λ n x is. record { node = x; is = is; address = refl; marks = λ s c h. h };
-  back = λ n y is. record { node = y; is = is; address = refl };
-}
+kept_all nodes = record { on = λ n x is. record { node = x; is = is; stays = stays_all x }; back = λ n y is. record { node = y; is = is; stays = stays_all y } }
 
 -- one of them changes
-pub kept_set : (nodes : List Node) (number : ℕ) (x new : Node) → slice_get nodes number ≡ Some x → new.address ≡ x.address → Rises x new → Kept nodes (slice_set nodes number new)
-kept_set nodes number x new is address marks = record {
+pub kept_set : (nodes : List Node) (number : ℕ) (x new : Node) → slice_get nodes number ≡ Some x → Stays x new → Kept nodes (slice_set nodes number new)
+kept_set nodes number x new is stays = record {
   on = λ n z z_is. elim (cases_eq n number) [
     | inl here ↦ let same : x ≡ z = same_some (sym is ∙ ap (slice_get nodes) (sym here) ∙ z_is) in record {
       node = new;
       is = ap (slice_get (slice_set nodes number new)) here ∙ set_here nodes number x new is;
-      address = address ∙ ap (λ (v : Node). v.address) same;
-      marks = subst (λ (v : Node). Rises v new) same marks;
+      stays = subst (λ (v : Node). Stays v new) same stays;
     }
-    | inr other ↦ record { node = z; is = set_there nodes number new n z other z_is; address = refl; marks = λ s c h. h }
+    | inr other ↦ record { node = z; is = set_there nodes number new n z other z_is; stays = stays_all z }
   ];
   back = λ n y y_is. elim (get_set nodes number new n y y_is) [
-    | inl here ↦ record { node = x; is = ap (slice_get nodes) here.0 ∙ is; address = sym address ∙ ap (λ (v : Node). v.address) here.1 }
-    | inr other ↦ record { node = y; is = other.1; address = refl }
+    | inl here ↦ record { node = x; is = ap (slice_get nodes) here.0 ∙ is; stays = subst (Stays x) here.1 stays }
+    | inr other ↦ record { node = y; is = other.1; stays = stays_all y }
   ];
 }
 
 pub kept_twice : (a b c : List Node) → Kept a b → Kept b c → Kept a c
 kept_twice a b c h k = record {
-  on = λ n x is. let first = h.on n x is in let second = k.on n first.node first.is in record {
-    node = second.node;
-    is = second.is;
-    address = second.address ∙ first.address;
-    marks = λ s d low. second.marks s d (first.marks s d low);
-  };
-  back = λ n y is. let first = k.back n y is in let second = h.back n first.node first.is in record { node = second.node; is = second.is; address = second.address ∙ first.address };
+  on = λ n x is. let first = h.on n x is in let second = k.on n first.node first.is in record { node = second.node; is = second.is; stays = stays_twice x first.node second.node first.stays second.stays };
+  back = λ n y is. let first = k.back n y is in let second = h.back n first.node first.is in record { node = second.node; is = second.is; stays = stays_twice second.node first.node y second.stays first.stays };
 }
 
-pub named_kept : (nodes nodes' : List Node) (depots : ℕ) → Kept nodes nodes' → IsNamed nodes depots → IsNamed nodes' depots
-named_kept nodes nodes' depots k h = record {
-  limit = λ n y p is address. let was = k.back n y is in h.limit n was.node p was.is (was.address ∙ address);
-  distinct = λ m n x y p is_m is_n address_m address_n. let x_was = k.back m x is_m in let y_was = k.back n y is_n in h.distinct m n x_was.node y_was.node p x_was.is y_was.is (x_was.address ∙ address_m) (y_was.address ∙ address_n);
+pub named_kept : (nodes nodes' : List Node) → Kept nodes nodes' → IsNamed nodes → IsNamed nodes'
+named_kept nodes nodes' k h = record {
+  apart = λ m n x y is_m is_n same.
+      let was = k.back m x is_m in
+      let old = k.back n y is_n in
+      h.apart m n was.node old.node was.is old.is (ap book.eui_number (sym was.stays.eui) ∙ same ∙ ap book.eui_number old.stays.eui);
+  center = λ c is. let was = k.back 0 c is in ap address_of was.stays.ring ∙ h.center was.node was.is;
+  meters = λ c x n p is_c is_n above address.
+      let was = k.back 0 c is_c in
+      let old = k.back n x is_n in
+      (λ i. book.address_of (was.stays.book i) (old.stays.eui i)) ∙ h.meters was.node old.node n p was.is old.is above (ap address_of (sym old.stays.ring) ∙ address);
 }

@@ -1,5 +1,5 @@
 -- What stands at the places of a list that grows, or in which one place changes.
-use Rattle.std.proofs.Common.{◌≡◌, ◌≢◌, ◌⊎◌, inl, inr, ℕ, zero, suc, ◌+◌, ◌-◌, ◌<◌, List, [], ◌∷◌, ◌++◌, length, Some, None, refl, arith, slice_set}
+use Rattle.std.proofs.Common.{◌≡◌, ◌≢◌, ◌⊎◌, inl, inr, ℕ, zero, suc, List, [], ◌∷◌, ◌++◌, length, Some, refl, sym, subst, arith, slice_set}
 use Rattle.std.specs.Prelude.{slice_get}
 
 pub get_push : {X : Type 0} (xs : List X) (y : X) (n : ℕ) (z : X) → slice_get (xs ++ y ∷ []) n ≡ Some z → (slice_get xs n ≡ Some z) ⊎ ((n ≡ length xs) × (y ≡ z))
@@ -40,3 +40,23 @@ set_there (x ∷ xs) (suc i) y (suc n) z other is = set_there xs i y n z (λ e. 
 
 pub same_some : {X : Type 0} {x y : X} → Some x ≡ Some y → x ≡ y
 same_some e = cc
+
+-- where something stands, a first one does
+pub record HasFirst {X : Type 0} (xs : List X) : Type 0 where
+  pub first : X
+  pub is : slice_get xs 0 ≡ Some first
+
+pub first_there : {X : Type 0} (xs : List X) (n : ℕ) (x : X) → slice_get xs n ≡ Some x → HasFirst xs
+first_there [] n x is = absurd (cc (is))
+first_there (y ∷ xs) n x is = record { first = y; is = refl }
+
+-- ---- what holds at each place
+
+abbrev pub Each : {X : Type 0} → (ℕ → X → Type 0) → List X → Type 0
+Each P xs = (n : ℕ) (x : _) → slice_get xs n ≡ Some x → P n x
+
+pub each_push : {X : Type 0} (P : ℕ → X → Type 0) (xs : List X) (y : X) → Each P xs → P (length xs) y → Each P (xs ++ y ∷ [])
+each_push P xs y h new n x is = elim (get_push xs y n x is) [ inl old ↦ h n x old | inr last ↦ (let here : P n y = subst (λ k. P k y) (sym last.0) new in subst (P n) last.1 here) ]
+
+pub each_set : {X : Type 0} (P : ℕ → X → Type 0) (xs : List X) (i : ℕ) (y : X) → Each P xs → P i y → Each P (slice_set xs i y)
+each_set P xs i y h new n x is = elim (get_set xs i y n x is) [ inl here ↦ (let at : P n y = subst (λ k. P k y) (sym here.0) new in subst (P n) here.1 at) | inr other ↦ h n x other.1 ]

@@ -1,21 +1,19 @@
 -- The whole datagram in octets is the one that they spell.
-use Rattle.std.proofs.Common.{◌≡◌, ℕ, ◌+◌, ◌-◌, ◌<◌, ◌≤◌, ◌&&◌, Bool, true, false, List, [], ◌∷◌, ◌++◌, length, nat_lt, Some, None, Option, if◌then◌else◌, ◌⊎◌, inl, inr, refl, sym, ◌∙◌, ap, subst, arith}
+use Rattle.std.proofs.Common.{◌≡◌, ℕ, ◌+◌, ◌-◌, ◌<◌, ◌≤◌, Bool, true, false, List, [], ◌∷◌, ◌++◌, length, Some, None, Option, if◌then◌else◌, ◌⊎◌, inl, inr, refl, sym, ◌∙◌, ap, subst, arith}
 use Rattle.std.proofs.lemmas.Bool.{cases_lt}
 use Rattle.std.specs.Bool.{Decides}
 use Rattle.std.proofs.lemmas.Bool.Decides.{Decides-and, Decides-like, Decides-ltb}
 use Rattle.std.proofs.lemmas.Slice.Eq.{bytes_eq-Decides}
-use Rattle.std.specs.Str.{bytes_eq}
 use Rattle.byteorder.specs.Endian.{big_bytes}
 use Rattle.octet_fields.specs.Fields.{octet, two, after}
 use Rattle.octet_fields.proofs.Places.{octet_behind, two_behind, after_behind}
 use Rattle.mesh_header.specs.declared.unit.Mesh.{Mesh}
-use Rattle.mesh_header.specs.declared.unit.Unit.{Unit}
 use Rattle.mesh_header.specs.declared.unit.Unit.TheVariants.{Whole}
-use Rattle.mesh_header.specs.Grammar.{IsMesh, IsUnit, Spells, spelling, mesh_then}
+use Rattle.mesh_header.specs.Grammar.{Spells, spelling}
 use Rattle.mesh_header.proofs.Laws.{few_then, many_then}
 use Rattle.mesh_header.proofs.Values.{one_value}
 use Rattle.line_world.specs.declared.hearing.WholeUnit.{WholeUnit}
-use Rattle.line_world.specs.Units.{whole_at, is_whole, is_spelled, whole_in}
+use Rattle.line_world.specs.Units.{whole_at, is_spelled, whole_in}
 
 -- the test says that the octets spell the unit
 spelled : (u : WholeUnit) (us : List ℕ) → Decides (is_spelled u us) (Spells (Whole u.mesh u.octets) us)

@@ -1,5 +1,12 @@
+pub mod Enrolling
+pub mod Flights
+pub mod Hearing
+pub mod Names
 pub mod Nodes
+pub mod Opening
 pub mod Runs
+pub mod Sending
+pub mod Setup
 pub mod Steps
 pub mod Units
 pub mod Worlds

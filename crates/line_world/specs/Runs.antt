@@ -1,13 +1,25 @@
 -- Runs of the world, and what holds of each of them.
-use Rattle.std.specs.Prelude.{◌≡◌, ◌≢◌, ℕ, ◌+◌, ◌-◌, ◌<◌, ◌==◌, nat_lt, Bool, true, false, List, [], ◌∷◌, ◌++◌, All, Option, None, Some, Ok, Err, Result, IfSome, slice_get, if◌then◌else◌}
+use Rattle.std.specs.Prelude.{◌≡◌, ◌≢◌, ◌↔◌, ℕ, ◌+◌, ◌-◌, ◌<◌, ◌≤◌, ◌==◌, nat_lt, Bool, true, false, List, [], ◌∷◌, ◌++◌, length, All, Option, None, Some, Ok, Err, IfSome, slice_get, if◌then◌else◌}
+use Rattle.plc_base.specs.declared.address.Eui.{Eui}
+use Rattle.plc_base.specs.declared.key.Key.{Key}
+use Rattle.mac_frames.specs.declared.head.MacHead.{MacHead}
+use Rattle.mac_frames.specs.declared.head.MacHead.TheVariants as heads
+use Rattle.mac_frames.specs.Grammar.{Frame, IsSealed}
+use Rattle.mac_frames.specs.Sealing.{nonce_of}
+use Rattle.group_keys.specs.KeyRing.{Ring, key_in_ring}
 use Rattle.line_world.specs.declared.event.Answer.{Answer}
-use Rattle.line_world.specs.declared.event.Answer.TheVariants.{Sent, Up, NotForMe, Replayed}
+use Rattle.line_world.specs.declared.event.Answer.TheVariants.{Sent, Restarted, Up, NotForMe, NoKey, BadTag, Replayed, PeersFull}
 use Rattle.line_world.specs.declared.event.Event.{Event}
-use Rattle.line_world.specs.declared.event.Event.TheVariants.{Send, Deliver}
+use Rattle.line_world.specs.declared.event.Event.TheVariants.{Depot, Send, Deliver, Inject, Restart}
 use Rattle.line_world.specs.declared.event.Handed.{Handed}
 use Rattle.line_world.specs.declared.event.Happenings.{Happenings}
-use Rattle.line_world.specs.Worlds.{World}
-use Rattle.line_world.specs.Steps.{Step, step}
+use Rattle.line_world.specs.declared.opening.Opened.{Opened}
+use Rattle.line_world.specs.declared.world.Flight.{Flight}
+use Rattle.line_world.specs.Nodes.{Node, address_of}
+use Rattle.line_world.specs.Flights.{not_lost}
+use Rattle.line_world.specs.Opening.{opening}
+use Rattle.line_world.specs.Worlds.{World, Step, node_at, flight_at}
+use Rattle.line_world.specs.Steps.{step}
 
 -- One event that was taken. The list of the entries is the history of a run: nothing is ever taken out of it.
 pub record Entry : Type 0 where
@@ -72,6 +84,59 @@ ups (x ∷ xs) = ups_by x.happened.up ++ ups xs
 abbrev pub send_at : List Sending → ℕ → Option Sending
 send_at sent number = if number == 0 then None else slice_get sent (number - 1)
 
+-- ---- what a history says of keys
+
+-- a group key that was issued to a meter, at an index
+pub record Issue : Type 0 where
+  pub eui : Eui
+  pub index : ℕ
+  pub key : Key
+
+abbrev pub issue_at : Eui → ℕ → Option Key → List Issue
+issue_at eui index None = []
+issue_at eui index (Some key) = record { eui = eui; index = index; key = key } ∷ []
+
+-- each key of the coordinator's ring, at its index
+abbrev pub issues_of : Eui → Ring → List Issue
+issues_of eui None = []
+issues_of eui (Some granted) = issue_at eui 0 granted.key0 ++ issue_at eui 1 granted.key1
+
+abbrev pub issues_by : Option Node → Option Node → List Issue
+issues_by None meter = []
+issues_by (Some center) None = []
+issues_by (Some center) (Some meter) = issues_of meter.eui center.ring
+
+-- what an entry issued: a depot issues to its meter each key that the coordinator, node 0, holds
+abbrev pub issues_at : Event → World → List Issue
+issues_at (Depot number) after = issues_by (node_at after 0) (node_at after number)
+issues_at _ after = []
+
+-- this key stands in the history, issued to this meter at this index
+pub record WasIssued (issues : List Issue) (eui : Eui) (index : ℕ) (key : Key) : Type 0 where
+  pub place : ℕ
+  pub is : slice_get issues place ≡ Some (record { eui = eui; index = index; key = key })
+
+-- each key that a node's ring has at an index was issued to that node
+abbrev pub HoldsIssued : List Issue → Node → Type 0
+HoldsIssued issues node = (index : ℕ) (key : Key) → index ≤ 1 → key_in_ring node.ring index ≡ Some key → WasIssued issues node.eui index key
+
+-- so it is for every meter of a world; only one that has an address has a ring
+abbrev pub HoldOnlyIssued : List Issue → World → Type 0
+HoldOnlyIssued issues w = (number : ℕ) (node : Node) → 0 < number → node_at w number ≡ Some node → HoldsIssued issues node
+
+-- ---- sizes
+
+-- a node holds at most 64 senders, 64 routes, and 999 meters in its book
+pub record IsNodeWithin (node : Node) : Type 0 where
+  pub peers : length node.marks ≤ 64
+  pub near : length node.near ≤ 64
+  pub book : length node.book ≤ 999
+
+-- and a line has at most 1,000 nodes
+pub record IsWithin (w : World) : Type 0 where
+  pub nodes : length w.nodes ≤ 1000
+  pub each : (number : ℕ) (node : Node) → node_at w number ≡ Some node → IsNodeWithin node
+
 -- ---- a safe run
 
 -- What is handed up was sent to that node with the same octets: its note is the number of that send.
@@ -89,28 +154,161 @@ IsNew up handed = All (λ v. v.note ≢ up.note) handed
 abbrev pub IsSafeAt : List Sending → List Handed → Happenings → Type 0
 IsSafeAt sent handed happened = IfSome happened.up (λ up. WasSent up sent × IsNew up handed)
 
--- each event of a history is safe, after what was sent and handed up before it
-abbrev pub IsSafeAfter : List Sending → List Handed → List Entry → Type 0
-IsSafeAfter sent handed [] = Unit {0}
-IsSafeAfter sent handed (x ∷ xs) = IsSafeAt sent handed x.happened × IsSafeAfter (sent ++ sends_at x.event x.happened) (handed ++ ups_by x.happened.up) xs
+-- An event that is safe, after what was sent and handed up before it, and what was issued up to it.
+pub record IsSafeEntry (sent : List Sending) (handed : List Handed) (issues : List Issue) (x : Entry) : Type 0 where
+  pub handed_up : IsSafeAt sent handed x.happened
+  pub keys : HoldOnlyIssued issues x.after
+  pub within : IsWithin x.after
+  -- at most one frame goes out
+  pub frames : x.happened.flights ≤ 1
 
--- Every datagram that a run hands up was sent to that node with the same octets, and none is handed up twice.
+-- Each event is safe if neither it nor an event before it is forged.
+abbrev pub IsSafeAfter : List Sending → List Handed → List Issue → List Entry → Type 0
+IsSafeAfter sent handed issues [] = Unit {0}
+IsSafeAfter sent handed issues (x ∷ xs) = x.happened.forged ≡ false
+    → IsSafeEntry sent handed (issues ++ issues_at x.event x.after) x
+    × IsSafeAfter (sent ++ sends_at x.event x.happened) (handed ++ ups_by x.happened.up) (issues ++ issues_at x.event x.after) xs
+
+-- Up to its first forged event, every datagram that a run hands up was sent to that node with the same octets and none is handed up
+-- twice, every meter holds only keys that were issued to it, and no table passes its size.
 abbrev pub IsSafe : List Entry → Type 0
-IsSafe entries = IsSafeAfter [] [] entries
+IsSafe entries = IsSafeAfter [] [] [] entries
 
--- whether an answer is one that a flight of `send` can meet
+-- ---- forged events
+
+abbrev pub octets_of : Option Flight → List ℕ
+octets_of None = []
+octets_of (Some f) = f.octets
+
+-- the octets that an event brings to a node, and that node
+abbrev pub brought : World → Event → List ℕ
+brought w (Deliver flight node cost) = octets_of (not_lost (flight_at w flight))
+brought w (Inject node cost octets) = octets
+brought w _ = []
+
+abbrev pub hearer_of : World → Event → Option Node
+hearer_of w (Deliver flight node cost) = node_at w node
+hearer_of w (Inject node cost octets) = node_at w node
+hearer_of w _ = None
+
+-- A node opens these octets, and no flight from before, lost or not, has them under the key that opens them.
+pub record IsForged (w : World) (event : Event) : Type 0 where
+  pub node : Node
+  pub is : hearer_of w event ≡ Some node
+  pub opened : Opened
+  pub opens : opening node (brought w event) ≡ Ok opened
+  pub unsent : All (λ (f : Flight). (f.octets ≡ brought w event) × (f.key ≡ Some opened.key) → ⊥) w.flights
+
+-- exactly such events are told to be forged
+abbrev pub IsForgedRight : World → List Entry → Type 0
+IsForgedRight w [] = Unit {0}
+IsForgedRight w (x ∷ xs) = ((x.happened.forged ≡ true) ↔ IsForged w x.event) × IsForgedRight x.after xs
+
+-- ---- counts
+
+-- What an event adds to the counts of a world: its sends, what was handed up, itself where it is forged, and its flights.
+pub record Adds (w : World) (event : Event) (v : World) (happened : Happenings) : Type 0 where
+  pub events : v.events ≡ w.events + 1
+  pub sends : v.sends ≡ w.sends + length (sends_at event happened)
+  pub ups : v.ups ≡ w.ups + length (ups_by happened.up)
+  pub forged : v.forged ≡ w.forged + (if happened.forged then 1 else 0)
+  pub first : happened.first_flight ≡ length w.flights + 1
+  pub flights : length v.flights ≡ length w.flights + happened.flights
+
+-- so the counts of a world are those of its history
+abbrev pub CountsRight : World → List Entry → Type 0
+CountsRight w [] = Unit {0}
+CountsRight w (x ∷ xs) = Adds w x.event x.after x.happened × CountsRight x.after xs
+
+-- ---- counters
+
+-- the counter in the head of a sealed frame
+abbrev pub counter_in : MacHead → Option ℕ
+counter_in (heads.Sealed ack seq pan to from counter index) = Some counter
+counter_in (heads.Up ack version seq pan to from) = None
+counter_in (heads.Down ack version seq pan to from) = None
+
+-- the octets are a sealed frame with this counter
+pub record HasCounter (octets : List ℕ) (counter : ℕ) : Type 0 where
+  pub head : MacHead
+  pub body : List ℕ
+  pub frame : Frame head body octets
+  pub sealed : counter_in head ≡ Some counter
+
+-- Every flight is a sealed frame, and of two flights of one node the later one has the greater counter.
+pub record CountersRise (flights : List Flight) : Type 0 where
+  pub each : (j : ℕ) (f : Flight) → slice_get flights j ≡ Some f → (counter : ℕ) × HasCounter f.octets counter
+  pub rise : (i j : ℕ) (f g : Flight) (c d : ℕ) → i < j → slice_get flights i ≡ Some f → slice_get flights j ≡ Some g → f.from ≡ g.from
+      → HasCounter f.octets c → HasCounter g.octets d → c < d
+
+-- so it is after each event
+abbrev pub IsCounted : List Entry → Type 0
+IsCounted [] = Unit {0}
+IsCounted (x ∷ xs) = CountersRise x.after.flights × IsCounted xs
+
+-- ---- addresses
+
+-- the sender's address in the head of a sealed frame
+abbrev pub sender_in : MacHead → Option ℕ
+sender_in (heads.Sealed ack seq pan to from counter index) = Some from
+sender_in (heads.Up ack version seq pan to from) = None
+sender_in (heads.Down ack version seq pan to from) = None
+
+-- No two nodes have one address, and every flight has that of the node that sent it.
+pub record AreAddressed (w : World) : Type 0 where
+  pub apart : (m n : ℕ) (x y : Node) (address : ℕ) → node_at w m ≡ Some x → node_at w n ≡ Some y → address_of x.ring ≡ Some address → address_of y.ring ≡ Some address → m ≡ n
+  pub senders : (j : ℕ) (f : Flight) (head : MacHead) (body : List ℕ) (node : Node) → slice_get w.flights j ≡ Some f → Frame head body f.octets → node_at w f.from ≡ Some node → sender_in head ≡ address_of node.ring
+
+-- so it is after each event
+abbrev pub HaveAddresses : List Entry → Type 0
+HaveAddresses [] = Unit {0}
+HaveAddresses (x ∷ xs) = AreAddressed x.after × HaveAddresses xs
+
+-- ---- nonces
+
+-- the octets are a sealed frame with this nonce
+pub record HasNonce (octets nonce : List ℕ) : Type 0 where
+  pub head : MacHead
+  pub body : List ℕ
+  pub frame : Frame head body octets
+  pub sealed : IsSealed head
+  pub is : nonce_of head ≡ nonce
+
+-- no two flights have one nonce
+abbrev pub NoncesDiffer : List Flight → Type 0
+NoncesDiffer flights = (i j : ℕ) (f g : Flight) (m n : List ℕ) → i < j → slice_get flights i ≡ Some f → slice_get flights j ≡ Some g → HasNonce f.octets m → HasNonce g.octets n → m ≢ n
+
+-- so it is after each event
+abbrev pub HaveNewNonces : List Entry → Type 0
+HaveNewNonces [] = Unit {0}
+HaveNewNonces (x ∷ xs) = NoncesDiffer x.after.flights × HaveNewNonces xs
+
+-- ---- answers
+
+-- a restart finds a store that has a reading
+abbrev pub RestartsAt : Event → Answer → Type 0
+RestartsAt (Restart node) answer = answer ≡ Restarted
+RestartsAt _ answer = Unit {0}
+
+abbrev pub IsRestarting : List Entry → Type 0
+IsRestarting [] = Unit {0}
+IsRestarting (x ∷ xs) = RestartsAt x.event x.happened.answer × IsRestarting xs
+
+-- whether an answer is one that a flight can meet: its frame is whole, and what opens is a datagram for the node
 abbrev pub is_delivery : Answer → Bool
 is_delivery Up = true
 is_delivery NotForMe = true
+is_delivery NoKey = true
+is_delivery BadTag = true
 is_delivery Replayed = true
+is_delivery PeersFull = true
 is_delivery _ = false
 
-abbrev pub IsDelivered : Event → Answer → Type 0
-IsDelivered (Deliver flight node cost) answer = is_delivery answer ≡ true
-IsDelivered _ answer = Unit {0}
+abbrev pub IsDelivered : Event → Happenings → Type 0
+IsDelivered (Deliver flight node cost) happened = happened.forged ≡ false → is_delivery happened.answer ≡ true
+IsDelivered _ happened = Unit {0}
 
--- every flight is a whole datagram for the address that it goes to, so that a delivery hands it up, or it is for another node, or it
--- is a repeat
+-- A delivery that is not forged is never answered Malformed, BadUnit or NoRoute.
 abbrev pub IsReadable : List Entry → Type 0
 IsReadable [] = Unit {0}
-IsReadable (x ∷ xs) = IsDelivered x.event x.happened.answer × IsReadable xs
+IsReadable (x ∷ xs) = IsDelivered x.event x.happened × IsReadable xs

@@ -38,6 +38,13 @@ pub enum Event {
         /// What the link between them costs.
         cost: LinkCost,
     },
+    /// Sets the next counter of a node's frames, and stores it as the limit.
+    Counter {
+        /// The node.
+        node: u32,
+        /// The counter.
+        value: u32,
+    },
     /// Sends a datagram from a node to a node.
     Send {
         /// The node that sends it.
@@ -56,6 +63,25 @@ pub enum Event {
         /// What the link that it came over costs.
         cost: LinkCost,
     },
+    /// Brings octets that no node sent to a node over a link of this cost.
+    Inject {
+        /// The node that hears them.
+        node: u32,
+        /// What the link that they came over costs.
+        cost: LinkCost,
+        /// The octets.
+        octets: LineOctets,
+    },
+    /// Takes a flight away.
+    Lose {
+        /// The flight's number, from 1.
+        flight: u32,
+    },
+    /// Starts a node anew from its store.
+    Restart {
+        /// The node.
+        node: u32,
+    },
 }
 
 /// How an event that was taken ended: the words of the report.
@@ -71,14 +97,34 @@ pub enum Answer {
     Sent,
     /// A datagram was handed up.
     Up,
+    /// A flight was taken away.
+    Lost,
+    /// A node was started anew.
+    Restarted,
+    /// The target has no address.
+    NoAddress,
+    /// The sender is not joined.
+    NotJoined,
     /// The datagram has not 1 to 375 octets.
     BadSize,
+    /// The target is the sender.
+    ToSelf,
     /// No route to that address is there.
     NoRoute,
-    /// The frame is for another node.
+    /// No counter is left for the frame.
+    CounterSpent,
+    /// The octets are no MAC frame.
+    Malformed,
+    /// The frame is of another network, for another node, or of the node itself.
     NotForMe,
+    /// No key is held at the index that the frame names.
+    NoKey,
+    /// The frame's tag is another one than that of the key.
+    BadTag,
     /// The frame's counter is not above the last one that came from its sender.
     Replayed,
+    /// The frame's sender is new, and 64 senders are held.
+    PeersFull,
     /// The unit is no whole datagram.
     BadUnit,
 }
@@ -88,7 +134,7 @@ pub enum Answer {
 pub struct Handed {
     /// The node's number.
     pub node: u16,
-    /// The number of the send, from 1.
+    /// The number of the send that the frame carried, from 1, and 0 where no flight had these octets under its key.
     pub note: u32,
     /// The datagram.
     pub octets: DatagramBuf,
@@ -99,6 +145,8 @@ pub struct Handed {
 pub struct Happenings {
     /// How it ended.
     pub answer: Answer,
+    /// Whether a sealed frame was opened that no flight had been under its key.
+    pub forged: bool,
     /// The datagram that was handed up, if one was.
     pub up: Option<Handed>,
     /// One more than the number of flights before the event.
@@ -119,7 +167,7 @@ pub enum StepFault {
     /// A node is not there.
     #[error("there is no such node")]
     Node,
-    /// The flight is not there.
+    /// The flight is not there, or it was lost.
     #[error("there is no such flight")]
     Flight,
 }

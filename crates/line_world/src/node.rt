@@ -1,9 +1,15 @@
 //! What the world keeps of a node.
-ghost use Rattle.std.specs.Prelude.{◌≡◌, ◌==◌, ◌<◌, ◌++◌, ◌∷◌, [], IfSome, OnOk, OnErr, length, position};
-ghost use Rattle.line_world.specs.Nodes.{has_neighbour, mark_of, marked};
+ghost use Rattle.std.specs.Prelude.{◌≡◌, ◌<◌, ◌≤◌, ◌+◌, ◌++◌, ◌∷◌, [], IfOk, Ok, true, length, nat_lt};
+ghost use Rattle.frame_counters.specs.PeerMarks.{room_for, kept_after};
+ghost use Rattle.frame_counters.specs.SendCounter.{counting_at, reserved};
+ghost use Rattle.group_keys.specs.KeyBook.{eui_number, has_room, place_for};
+ghost use Rattle.line_world.specs.Nodes.{new_node, restarted, has_neighbour, address_of};
 
 use arrayvec::ArrayVec;
-use plc_base::{Eui, Key, LinkCost, Short};
+use byteorder::{BigEndian, ByteOrder};
+use frame_counters::{PeerMarks, SendCounter};
+use group_keys::{KeyBook, KeyRing};
+use plc_base::{Eui, Grant, Key, LinkCost, MemKeeper, Short};
 use std::alloc::{AllocError, Global};
 use std::marker::Model;
 
@@ -69,125 +75,198 @@ impl Neighbours {
     }
 }
 
-/// The counter of the last frame that came from a sender.
-#[derive(Clone, Copy, Debug, PartialEq, Eq)]
-pub struct Mark {
-    /// The node that sent it.
-    pub sender: u16,
-    /// The frame's counter.
-    pub counter: u32,
-}
-
-/// The marks of a node, one for each sender that was heard. A contract sees the list.
-#[derive(Drop)]
-pub struct Marks {
-    items: Vec<Mark>,
-}
-
-impl Model for Marks {
-    ghost use Rattle.std.specs.Prelude.{List};
-    ghost use Rattle.line_world.specs.declared.node.Mark.{Mark};
-
-    ghost Value = { List Mark };
-
-    ghost view = { λ m. m.items.items };
-}
-
-impl Marks {
-    /// No mark.
-    pub fn new(alloc: Global) -> Marks
-        ensures { result ≡ [] }
-    {
-        Marks {
-            items: Vec::new(alloc),
-        }
-    }
-
-    /// The counter of the last frame that came from a sender, if one came.
-    pub fn mark(&self, sender: u16) -> Option<u32>
-        ensures { result ≡ mark_of self.now sender }
-    {
-        for mark in self.items.as_slice() {
-            if mark.sender == sender {
-                return Some(mark.counter);
-            }
-        }
-        None
-    }
-
-    /// Takes in the counter of a frame. Without memory for a new sender nothing changes.
-    pub fn set(&mut self, sender: u16, counter: u32) -> Result<(), AllocError>
-        ensures ok { OnOk result (self.new ≡ marked self.old sender counter) }
-        ensures err { OnErr result (self.new ≡ self.old) }
-    {
-        let mark = Mark { sender, counter };
-        if let Some(place) = self.place(sender) {
-            self.items[place] = mark;
-            return Ok(());
-        }
-        self.items.push(mark)?;
-        Ok(())
-    }
-
-    fn place(&self, sender: u16) -> Option<usize>
-        ensures place { result ≡ position (λ m. m.sender == sender) self.now }
-        ensures within { IfSome result (λ place. place < length self.now) }
-    {
-        self.items.iter().position(|mark| mark.sender == sender)
-    }
-}
-
-/// One node of the line.
+/// One node of the line. It holds its store, and what stands on it agrees with it.
+///
+/// A contract sees all but the store.
 #[derive(Drop)]
 pub struct Node {
-    /// The identity that it has from its maker.
-    pub eui: Eui,
-    /// The coordinator's group key, or a meter's preshared key.
-    pub key: Key,
-    /// Its short address, where it is joined.
-    pub address: Option<Short>,
-    /// The counter of its next frame.
-    pub next_counter: u32,
-    /// The routes over one hop that it has.
-    pub near: Neighbours,
-    /// The counters that it took in.
-    pub marks: Marks,
+    pub(crate) eui: Eui,
+    key: Key,
+    keeper: MemKeeper,
+    pub(crate) ring: KeyRing,
+    counter: SendCounter,
+    pub(crate) marks: PeerMarks,
+    near: Neighbours,
+    book: KeyBook,
+}
+
+impl Model for Node {
+    ghost use Rattle.line_world.specs.Nodes.{Node, IsStored};
+
+    ghost Value = { Node };
+
+    ghost view = { λ n. record { eui = n.eui; key = n.key; ring = n.ring; counter = n.counter; marks = n.marks; near = n.near; book = n.book } };
+
+    ghost invariant = { λ n. IsStored (record { eui = n.eui; key = n.key; ring = n.ring; counter = n.counter; marks = n.marks; near = n.near; book = n.book }) n.keeper };
 }
 
 impl Node {
-    ghost use Rattle.line_world.specs.Nodes.{new_node, is_own, is_above};
+    ghost use Rattle.line_world.specs.Setup.{granted, grant_of, with_neighbour};
+    ghost use Rattle.line_world.specs.Enrolling.{allowed_in, issued_in};
 
-    /// A node that has heard nothing.
-    pub fn new(alloc: Global, eui: Eui, key: Key, address: Option<Short>) -> Node
-        ensures { result ≡ new_node eui key address }
+    /// A node with nothing in its store. It fails only for want of memory.
+    pub fn new(alloc: Global, eui: Eui, key: Key) -> Result<Node, AllocError>
+        ensures { IfOk result (λ node. node ≡ new_node eui key) }
     {
-        Node {
+        let keeper = MemKeeper::new(alloc)?;
+        let ring = KeyRing::open(&keeper).unwrap();
+        let counter = SendCounter::open(&keeper).unwrap();
+        let marks = PeerMarks::open(&keeper).unwrap();
+        let book = KeyBook::open(&keeper).unwrap();
+        Ok(Node {
             eui,
             key,
-            address,
-            next_counter: 0,
+            keeper,
+            ring,
+            counter,
+            marks,
             near: Neighbours::new(),
-            marks: Marks::new(alloc),
-        }
+            book,
+        })
     }
 
-    /// Whether this is its address.
-    pub fn is_at(&self, address: Short) -> bool
-        ensures { result ≡ is_own self.now.address address }
+    /// Starts the node anew from its store.
+    pub fn restart(&mut self)
+        ensures { self.new ≡ restarted self.old }
     {
-        match self.address {
-            None => false,
-            Some(own) => own.number() == address.number(),
-        }
+        self.ring = KeyRing::open(&self.keeper).unwrap();
+        self.counter = SendCounter::open(&self.keeper).unwrap();
+        self.marks = PeerMarks::open(&self.keeper).unwrap();
+        self.book = KeyBook::open(&self.keeper).unwrap();
+        self.near = Neighbours::new();
     }
 
-    /// Whether a frame's counter is above the last one that came from its sender.
-    pub fn is_above(&self, sender: u16, counter: u32) -> bool
-        ensures { result ≡ is_above (mark_of self.now.marks sender) counter }
+    /// Its identity.
+    pub fn eui(&self) -> Eui
+        ensures { result ≡ self.now.eui }
     {
-        match self.marks.mark(sender) {
-            None => true,
-            Some(mark) => mark < counter,
-        }
+        self.eui
+    }
+
+    /// The coordinator's group key, or a meter's preshared key.
+    pub fn key(&self) -> Key
+        ensures { result ≡ self.now.key }
+    {
+        self.key
+    }
+
+    /// The number that its EUI is.
+    pub fn number(&self) -> u64
+        ensures { result ≡ eui_number self.now.eui }
+    {
+        BigEndian::read_u64(&self.eui.0)
+    }
+
+    /// Its short address, where it is joined.
+    pub fn address(&self) -> Option<Short>
+        ensures { result ≡ address_of self.now.ring }
+    {
+        self.ring.joined()
+    }
+
+    /// Its grant, where it is joined.
+    pub fn grant(&self) -> Option<Grant>
+        ensures { result ≡ self.now.ring }
+    {
+        self.ring.grant()
+    }
+
+    /// Whether it has the route to an address.
+    pub fn has_route(&self, address: Short) -> bool
+        ensures { result ≡ has_neighbour self.now.near address }
+    {
+        self.near.contains(address)
+    }
+
+    /// Whether it has no place for another route.
+    pub fn is_full(&self) -> bool
+        ensures { result ≡ nat_lt 63 (length self.now.near) }
+    {
+        self.near.len() >= MAX_NEIGHBOURS
+    }
+
+    /// Makes its ring that of a grant.
+    pub fn install(&mut self, grant: &Grant)
+        ensures { self.new ≡ granted self.old grant.now }
+    {
+        self.ring.install(&mut self.keeper, grant).unwrap();
+    }
+
+    /// Whether its book has a place for a meter.
+    pub fn has_room(&self, eui: Eui) -> bool
+        ensures { result ≡ has_room self.now.book eui }
+    {
+        self.book.has_room(eui)
+    }
+
+    /// Allows a meter in the book, and answers the address that the book has for it.
+    fn allow(&mut self, eui: Eui, psk: &Key) -> Short
+        requires { has_room self.old.book eui ≡ true }
+        ensures address { result ≡ place_for self.old.book eui + 1 }
+        ensures node { self.new ≡ record self.old { book = allowed_in self.old.book eui psk.now } }
+    {
+        self.book.allow(&mut self.keeper, eui, psk).unwrap()
+    }
+
+    /// Issues the keys of a grant to a meter that is allowed; nothing changes for another.
+    fn issue(&mut self, eui: Eui, grant: &Grant)
+        ensures { self.new ≡ record self.old { book = issued_in self.old.book eui grant.now } }
+    {
+        let _ = self.book.issue(&mut self.keeper, eui, grant);
+    }
+
+    /// Allows a meter in the book, issues the keys of a ring to it, and answers its grant.
+    pub fn enrol(&mut self, eui: Eui, psk: &Key, ring: &Grant) -> Grant
+        requires { has_room self.old.book eui ≡ true }
+        ensures grant { result ≡ grant_of ring.now (place_for self.old.book eui + 1) }
+        ensures node { self.new ≡ record self.old { book = issued_in (allowed_in self.old.book eui psk.now) eui (grant_of ring.now (place_for self.old.book eui + 1)) } }
+    {
+        let address = self.allow(eui, psk);
+        let keys = ring.keys;
+        let grant = Grant {
+            address,
+            active: ring.active,
+            keys,
+        };
+        self.issue(eui, &grant);
+        grant
+    }
+
+    /// Gives it the route to a neighbour.
+    pub fn add_neighbour(&mut self, address: Short, cost: LinkCost)
+        requires { length self.old.near < MAX_NEIGHBOURS }
+        ensures { self.new ≡ with_neighbour self.old address cost }
+    {
+        self.near.push(Neighbour { address, cost });
+    }
+
+    /// Stores the limit of its counter, and goes on at it.
+    pub fn preset(&mut self, value: u32)
+        ensures { self.new ≡ record self.old { counter = counting_at value } }
+    {
+        self.counter.preset(&mut self.keeper, value).unwrap();
+    }
+
+    /// How many counters are left for its frames.
+    pub fn left(&self) -> u32
+        ensures { result + self.now.counter.next ≡ 4294967295 }
+    {
+        self.counter.left()
+    }
+
+    /// Takes the next counter of its frames.
+    pub fn count(&mut self)
+        requires { self.old.counter.next < 4294967295 }
+        ensures { self.new ≡ record self.old { counter = reserved self.old.counter 1 } }
+    {
+        self.counter.reserve(&mut self.keeper, 1).unwrap();
+    }
+
+    /// Takes in the counter of a frame of a sender, where there is room for it.
+    pub fn admit(&mut self, from: Short, counter: u32)
+        requires { room_for self.old.marks from counter ≡ Ok tt }
+        ensures { self.new ≡ record self.old { marks = kept_after self.old.marks from counter } }
+    {
+        self.marks.keep(&mut self.keeper, from, counter).unwrap();
     }
 }

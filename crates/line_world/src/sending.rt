@@ -1,11 +1,13 @@
-//! A datagram that goes out.
-ghost use Rattle.std.specs.Prelude.{◌≡◌, ◌<◌, ◌≤◌, length, IfSome, IsTrue, Ok};
-ghost use Rattle.line_world.specs.Steps.{unit_of, goes_whole};
+//! A datagram that goes out, a flight that is lost, a node that starts anew.
+ghost use Rattle.std.specs.Prelude.{◌≡◌, false, ◌<◌, ◌≤◌, length, IfSome, IsTrue, Ok};
+ghost use Rattle.line_world.specs.Sending.{frame_of, sealing_key, unit_of, goes_whole};
 
-use crate::world::{Flight, World};
-use crate::{Answer, Happenings, LineOctets, Node, StepFault};
+use crate::world::World;
+use crate::{Answer, Flight, Happenings, LineOctets, StepFault};
+use aes_modes::Aes;
+use mac_frames::{MacHead, seal_frame};
 use mesh_header::{Mesh, Unit, write_unit};
-use plc_base::{FrameBuf, Short};
+use plc_base::{FrameBuf, Grant, Key, PAN, Short};
 
 /// The longest datagram that goes out whole, in octets.
 const MAX_WHOLE: usize = 375;
@@ -13,31 +15,8 @@ const MAX_WHOLE: usize = 375;
 /// The hops that a unit may go from its origin.
 const FIRST_HOPS: u8 = 14;
 
-/// The own address and that of a neighbour, over one hop.
-#[derive(Clone, Copy)]
-struct Hop {
-    own: Short,
-    next: Short,
-}
-
-impl Node {
-    ghost use Rattle.line_world.specs.Steps.{hop};
-
-    /// The hop to a neighbour, where the route to it is there.
-    fn hop(&self, target: &Node) -> Option<Hop>
-        ensures { result ≡ hop self.now target.now }
-    {
-        let own = self.address?;
-        let next = target.address?;
-        if !self.near.contains(next) {
-            return None;
-        }
-        Some(Hop { own, next })
-    }
-}
-
 /// Whether a datagram goes out whole.
-#[tactic(auto, unfolding(crate::specs::Steps::goes_whole))]
+#[tactic(auto, unfolding(crate::specs::Sending::goes_whole))]
 fn goes_whole(datagram: &[u8]) -> bool
     ensures value { result ≡ goes_whole datagram.now }
     ensures some { IsTrue result → 0 < length datagram.now }
@@ -47,16 +26,17 @@ fn goes_whole(datagram: &[u8]) -> bool
 }
 
 /// The octets of a whole datagram's unit.
-#[tactic(auto, unfolding(crate::specs::Steps::unit_of))]
-fn unit_of(hop: Hop, datagram: &[u8]) -> FrameBuf
+#[tactic(auto, unfolding(crate::specs::Sending::unit_of))]
+fn unit_of(own: Short, to: Short, datagram: &[u8]) -> FrameBuf
     requires some { 0 < length datagram.now }
     requires whole { length datagram.now ≤ 375 }
-    ensures { result ≡ unit_of hop.own hop.next datagram.now }
+    ensures value { result ≡ unit_of own to datagram.now }
+    ensures fits { length result ≤ 381 }
 {
     let mesh = Mesh {
         hops: FIRST_HOPS,
-        origin: hop.own,
-        to: hop.next,
+        origin: own,
+        to,
     };
     let octets = FrameBuf::from_octets(datagram);
     let mut out = FrameBuf::new();
@@ -64,36 +44,80 @@ fn unit_of(hop: Hop, datagram: &[u8]) -> FrameBuf
     out
 }
 
+/// The key that seals.
+fn sealing_key(ring: &Grant) -> Key
+    ensures { result ≡ sealing_key ring.now }
+{
+    ring.key(ring.active).unwrap()
+}
+
+/// The octets of the frame of a datagram to a neighbour.
+#[tactic(auto, unfolding(crate::specs::Sending::frame_of, crate::specs::Sending::sealed))]
+fn frame_of(ring: &Grant, counter: u32, to: Short, datagram: &[u8]) -> FrameBuf
+    requires some { 0 < length datagram.now }
+    requires whole { length datagram.now ≤ 375 }
+    ensures { result ≡ frame_of ring.now counter to datagram.now }
+{
+    let head = MacHead::Sealed {
+        ack: true,
+        seq: (counter % 256) as u8,
+        pan: PAN,
+        to: to.number(),
+        from: ring.address,
+        counter,
+        index: ring.active,
+    };
+    let unit = unit_of(ring.address, to, datagram);
+    let mut out = FrameBuf::new();
+    seal_frame(
+        &Aes::new(&sealing_key(ring)),
+        &head,
+        unit.octets(),
+        &mut out,
+    );
+    out
+}
+
 impl World {
     ghost use Rattle.line_world.specs.Worlds.{node_at};
-    ghost use Rattle.line_world.specs.Steps.{Gives, sending, went};
+    ghost use Rattle.line_world.specs.Steps.{Gives, HasMemory};
+    ghost use Rattle.line_world.specs.Sending.{sending, went, losing, restarting};
 
-    /// Sends a datagram over a hop.
-    #[tactic(auto, unfolding(crate::specs::Steps::went))]
-    fn go(&mut self, from: u32, hop: Hop, datagram: &[u8]) -> Result<Happenings, StepFault>
+    /// Sends a datagram to a neighbour.
+    #[tactic(auto, unfolding(crate::specs::Sending::went))]
+    fn go(
+        &mut self,
+        from: u32,
+        ring: &Grant,
+        to: Short,
+        datagram: &[u8],
+    ) -> Result<Happenings, StepFault>
         requires events { self.old.events < 50000 }
         requires node { from < length self.old.nodes }
+        requires left { IfSome (node_at self.old from) (λ node. node.counter.next < 4294967295) }
         requires some { 0 < length datagram.now }
         requires whole { length datagram.now ≤ 375 }
-        ensures { IfSome (node_at self.old from) (λ node. Gives self.old result self.new (Ok (went self.old from node hop.own hop.next datagram.now))) }
+        ensures { IfSome (node_at self.old from) (λ node. Gives self.old result self.new (Ok (went self.old from node ring.now to datagram.now))) }
     {
         let first_flight = self.flights.len() as u32 + 1;
+        let counter = u32::MAX - self.nodes[from as usize].left();
         let flight = Flight {
             from: from as u16,
-            to: hop.next,
-            counter: self.nodes[from as usize].next_counter,
+            octets: frame_of(ring, counter, to, datagram),
+            key: Some(sealing_key(ring)),
             note: self.sends + 1,
-            unit: unit_of(hop, datagram),
+            lost: false,
         };
         if self.flights.push(flight).is_err() {
             return Err(StepFault::Memory);
         }
-        self.nodes[from as usize].next_counter += 1;
+        self.nodes[from as usize].count();
         self.sends += 1;
         self.events += 1;
         self.running = true;
         Ok(Happenings {
             answer: Answer::Sent,
+            forged: false,
             up: None,
             first_flight,
             flights: 1,
@@ -101,7 +125,7 @@ impl World {
     }
 
     /// Sends a datagram from a node to a node.
-    #[tactic(auto, unfolding(crate::specs::Steps::sending, crate::specs::Steps::sent))]
+    #[tactic(auto, unfolding(crate::specs::Sending::sending, crate::specs::Sending::sent))]
     pub(crate) fn send(
         &mut self,
         from: u32,
@@ -114,18 +138,63 @@ impl World {
         if !self.has_begun() {
             return Err(StepFault::Setup);
         }
-        let Some(sender) = self.nodes.get(from as usize) else {
+        let Some(sender) = self.node(from) else {
             return Err(StepFault::Node);
         };
-        let Some(target) = self.nodes.get(to as usize) else {
+        let Some(target) = self.node(to) else {
             return Err(StepFault::Node);
+        };
+        let Some(to) = target.address() else {
+            return Ok(self.answered(Answer::NoAddress));
+        };
+        let Some(ring) = sender.grant() else {
+            return Ok(self.answered(Answer::NotJoined));
         };
         if !goes_whole(datagram.octets()) {
             return Ok(self.answered(Answer::BadSize));
         }
-        let Some(hop) = sender.hop(target) else {
+        if ring.address.number() == to.number() {
+            return Ok(self.answered(Answer::ToSelf));
+        }
+        if !sender.has_route(to) {
             return Ok(self.answered(Answer::NoRoute));
-        };
-        self.go(from, hop, datagram.octets())
+        }
+        if sender.left() == 0 {
+            return Ok(self.answered(Answer::CounterSpent));
+        }
+        self.go(from, &ring, to, datagram.octets())
+    }
+
+    /// Takes a flight away.
+    #[tactic(auto, unfolding(crate::specs::Sending::losing, crate::specs::Sending::lost))]
+    pub(crate) fn lose(&mut self, flight: u32) -> Result<Happenings, StepFault>
+        requires { self.old.events < 50000 }
+        ensures step { Gives self.old result self.new (losing self.old flight) }
+        ensures memory { HasMemory false result }
+    {
+        if !self.has_begun() {
+            return Err(StepFault::Setup);
+        }
+        if !self.flights.lose(flight) {
+            return Err(StepFault::Flight);
+        }
+        Ok(self.answered(Answer::Lost))
+    }
+
+    /// Starts a node anew from its store.
+    #[tactic(auto, unfolding(crate::specs::Sending::restarting, crate::specs::Sending::renewed))]
+    pub(crate) fn restart(&mut self, number: u32) -> Result<Happenings, StepFault>
+        requires { self.old.events < 50000 }
+        ensures step { Gives self.old result self.new (restarting self.old number) }
+        ensures memory { HasMemory false result }
+    {
+        if !self.has_begun() {
+            return Err(StepFault::Setup);
+        }
+        if self.nodes.len() <= number as usize {
+            return Err(StepFault::Node);
+        }
+        self.nodes[number as usize].restart();
+        Ok(self.answered(Answer::Restarted))
     }
 }

@@ -1,11 +1,12 @@
-use Rattle.std.proofs.Common.{◌+◌, arith}
-use Rattle.line_replay.specs.Texts.{happened_text}
+use Rattle.std.proofs.Common.{◌+◌, ◌++◌, arith}
+use Rattle.line_replay.specs.Texts.{happened_text, sent_text}
 use Rattle.line_replay.proofs.Turning.{event_taken}
 use Rattle.line_replay.proofs.replay.Replay.take_event.Goals as goal
 
 pub returns-clause-turned : goal.returns-clause-turned
 returns-clause-turned g c =
     rw (← c.self.view_is) (event_taken
+    c.self.inside.quiet
     c.args.number
     c.counts-taken.result.events
     c.self.inside.world
@@ -16,4 +17,4 @@ returns-clause-turned g c =
     c.counts-taken.ensures.events
     (omega arith)
     c.in-Ok.ensures
-    (c.tell.ensures.told (happened_text (c.counts-taken.result.events + 1) c.in-Ok.happened) c.happened_text.ensures))
+    (c.tell.ensures.told (happened_text (c.counts-taken.result.events + 1) c.in-Ok.happened ++ sent_text c.self.inside.quiet c.step.new.self c.in-Ok.happened.first_flight) c.entry_text.ensures))

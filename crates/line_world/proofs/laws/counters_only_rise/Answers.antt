@@ -1,0 +1,10 @@
+use Rattle.line_world.specs.Worlds.{start}
+use Rattle.line_world.specs.Runs.{run}
+use Rattle.line_world.proofs.Safety.{counted_entries, run_is}
+use Rattle.line_world.proofs.laws.counters_only_rise.Goals as goal
+
+pub returns-clause-events : goal.returns-clause-events
+returns-clause-events c = λ events. counted_entries (run start events) (run_is events start)
+
+pub returns-clause-entries : goal.returns-clause-entries
+returns-clause-entries c = counted_entries

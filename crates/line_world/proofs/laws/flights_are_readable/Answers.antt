@@ -1,0 +1,10 @@
+use Rattle.line_world.specs.Worlds.{start}
+use Rattle.line_world.specs.Runs.{run}
+use Rattle.line_world.proofs.Safety.{readable_entries, run_is}
+use Rattle.line_world.proofs.laws.flights_are_readable.Goals as goal
+
+pub returns-clause-events : goal.returns-clause-events
+returns-clause-events c = λ events. readable_entries (run start events) (run_is events start)
+
+pub returns-clause-entries : goal.returns-clause-entries
+returns-clause-entries c = readable_entries
