@@ -16,5 +16,5 @@ returns-clause-turned g c =
     c.tell.result
     c.counts-taken.ensures.events
     (omega arith)
-    c.in-Ok.ensures
+    c.in-Ok.ensures.step
     (c.tell.ensures.told (happened_text (c.counts-taken.result.events + 1) c.in-Ok.happened ++ sent_text c.self.inside.quiet c.step.new.self c.in-Ok.happened.first_flight) c.entry_text.ensures))
