@@ -12,3 +12,4 @@ pub mod CenterShapes
 pub mod Refusals
 pub mod Bounds
 pub mod StepsOn
+pub mod Readings

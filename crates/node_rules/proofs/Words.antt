@@ -73,7 +73,7 @@ due_turn floors (Some e) = by_rise (routing.raises floors e)
     by_rise false = omega arith
 
 offer_turn : (r : routing.Routing) (dest : ℕ) (rank : Rank) (next now : ℕ) → InTurn 0 1 (routing.offer_writes r dest rank next now)
-unfolding routing.offer_writes
+unfolding routing.entry_writes
 offer_turn r dest rank next now = InTurn-append 0 1 1 _ _ (due_turn r.floors (routing.forgotten r dest now))
     (table_turn routing.ranks (unwrap_or (routing.place_after r.entries dest (routing.forgotten r dest now)) (length r.entries)) (routing.offered_entry dest rank next now) (omega arith))
 

@@ -1,4 +1,13 @@
 -- What holds of the rules whatever a node holds and whatever comes.
+use Rattle.mesh_header.specs.declared.unit.Unit.{Unit as MeshUnit}
+use Rattle.mesh_header.specs.Grammar as units
+use Rattle.mesh_header.specs.Reading.{unit_in}
+use Rattle.loadng_messages.specs.declared.message.Message.{Message}
+use Rattle.loadng_messages.specs.Grammar as messages
+use Rattle.loadng_messages.specs.Reading.{message_in}
+use Rattle.joining_messages.specs.declared.message.JoinMessage.{JoinMessage}
+use Rattle.joining_messages.specs.Messages as joining
+use Rattle.joining_messages.specs.Reading.{join_in}
 use Rattle.std.specs.Option.{option_map}
 use Rattle.std.specs.Prelude.{IfSome, ◌<◌, ◌≡◌, ◌⊎◌, ℕ, ◌-◌, ◌≤◌, ◌==◌, All, List, [], ◌∷◌, ◌++◌, length, Option, Some, None, Result, Ok, Err, true, ◌+◌, if◌then◌else◌}
 use Rattle.std.specs.FinMap.{insert}
@@ -269,3 +278,15 @@ pub record GoesOn (w v : World) : Type 0 where
 -- every event that is taken leads one event on
 abbrev pub StepsGoOn : Type 0
 StepsGoOn = (ciphers : Ciphers) (w v : World) (event : Event) (d : Deeds) → step ciphers w event ≡ Ok (v, d) → GoesOn w v
+
+-- # Readings
+
+-- what is read out of octets is the value that they spell
+abbrev pub MessagesAreRead : Type 0
+MessagesAreRead = (m : Message) (octets : List ℕ) → messages.Spells m octets → message_in octets ≡ Some m
+
+abbrev pub JoinsAreRead : Type 0
+JoinsAreRead = (m : JoinMessage) (octets : List ℕ) → joining.Spells m octets → join_in octets ≡ Some m
+
+abbrev pub UnitsAreRead : Type 0
+UnitsAreRead = (u : MeshUnit) (octets : List ℕ) → units.Spells u octets → unit_in octets ≡ Some u

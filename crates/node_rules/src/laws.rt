@@ -1,5 +1,5 @@
 //! Laws of the rules: each carried by a function that does nothing.
-ghost use Rattle.node_rules.specs.Laws.{WritesFailCleanly, NoCutNoFailure, HaltedHasNoAddress, RinglessHasNoAddress, HaltedDoesNothing, AFrameRefusedChangesNothing, ADropChangesNothing, AMetersDropChangesNothing, ACentersDropChangesNothing, ASendRefusedChangesNothing, AJoinRefusedChangesNothing, AnOrderRefusedChangesNothing, HearingIsBounded, AMetersHearingIsBounded, ACentersHearingIsBounded, ASendIsBounded, AJoinIsBounded, AnOrderIsBounded, AcceptingOnlyMarks, StepsGoOn};
+ghost use Rattle.node_rules.specs.Laws.{WritesFailCleanly, NoCutNoFailure, HaltedHasNoAddress, RinglessHasNoAddress, HaltedDoesNothing, AFrameRefusedChangesNothing, ADropChangesNothing, AMetersDropChangesNothing, ACentersDropChangesNothing, ASendRefusedChangesNothing, AJoinRefusedChangesNothing, AnOrderRefusedChangesNothing, HearingIsBounded, AMetersHearingIsBounded, ACentersHearingIsBounded, ASendIsBounded, AJoinIsBounded, AnOrderIsBounded, AcceptingOnlyMarks, StepsGoOn, MessagesAreRead, JoinsAreRead, UnitsAreRead};
 
 /// Where the write of a plan fails, the writes in front of it are stored and those behind it are not; the failed one is stored as the
 /// loss of power says. The node answers the word of a failed write, and nothing is sent, made or kept in memory. A plan whose writes are
@@ -124,4 +124,19 @@ pub fn accepting_only_marks()
 #[tactic(auto)]
 pub fn steps_go_on()
     ensures { StepsGoOn }
+{}
+
+/// The message that is read out of octets is the one that they spell.
+pub fn messages_are_read()
+    ensures { MessagesAreRead }
+{}
+
+/// The joining message that is read out of octets is the one that they spell.
+pub fn joins_are_read()
+    ensures { JoinsAreRead }
+{}
+
+/// The unit that is read out of octets is the one that they spell.
+pub fn units_are_read()
+    ensures { UnitsAreRead }
 {}

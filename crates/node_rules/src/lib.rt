@@ -18,8 +18,8 @@ pub use laws::{
     a_meters_drop_changes_nothing, a_meters_hearing_is_bounded, a_send_is_bounded,
     a_send_refused_changes_nothing, accepting_only_marks, an_order_is_bounded,
     an_order_refused_changes_nothing, halted_does_nothing, halted_has_no_address,
-    hearing_is_bounded, no_cut_no_failure, ringless_has_no_address, steps_go_on,
-    writes_fail_cleanly,
+    hearing_is_bounded, joins_are_read, messages_are_read, no_cut_no_failure,
+    ringless_has_no_address, steps_go_on, units_are_read, writes_fail_cleanly,
 };
 pub use refusal::{
     CoordRefusal, Dropped, FrameRefusal, Halted, JoinRefusal, LeaveRefusal, PresetFault,
