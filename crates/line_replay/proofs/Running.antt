@@ -1,5 +1,5 @@
 -- What a run over the driver is as a replay.
-use Rattle.std.proofs.Common.{◌≡◌, ℕ, ◌+◌, ◌<◌, ◌≤◌, Bool, true, false, List, [], ◌∷◌, ◌++◌, nat_lt, if◌then◌else◌, Ok, Err, Result, refl, sym, ◌∙◌, ap, subst, append_assoc, add-zero, arith}
+use Rattle.std.proofs.Common.{◌≡◌, ℕ, ◌+◌, ◌<◌, Bool, true, false, List, [], ◌∷◌, ◌++◌, nat_lt, if◌then◌else◌, Ok, Err, refl, sym, ◌∙◌, ap, subst, append_assoc, add-zero, arith}
 use Rattle.std.proofs.lemmas.Bool.{ltb-true, ltb-false}
 use Rattle.line_driver.specs.Lines.{Content, Text, Long, TooMuch, Line, lines}
 use Rattle.line_driver.specs.Outcomes.{Turn, Outcome, Ending, Bad, Ended, Open, outcome_turn, outcome_from, outcome as outcome_of}
@@ -20,7 +20,6 @@ use Rattle.line_replay.specs.Report.{Taking, Skipped, Taken, Refused, step_takin
 use Rattle.line_replay.specs.declared.status.Status.{Status}
 use Rattle.line_replay.specs.declared.status.Status.TheVariants as status
 use Rattle.line_replay.specs.Tool.{status_of, EndsIn, Comes, Ran, Names, is_whole}
-use Rattle.line_replay.specs.Texts.{end_text}
 
 -- what a taking says of the run that goes on
 abbrev GoesOn : World → Taking → Type 0

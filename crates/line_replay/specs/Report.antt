@@ -1,10 +1,9 @@
 -- What a script does, line by line, and its report.
-use Rattle.std.specs.Prelude.{ℕ, ◌+◌, Bool, List, [], ◌∷◌, ◌++◌, if◌then◌else◌, nat_lt, Result, Ok, Err}
+use Rattle.std.specs.Prelude.{ℕ, ◌+◌, Bool, List, [], ◌∷◌, ◌++◌, if◌then◌else◌, nat_lt, Ok, Err}
 use Rattle.line_driver.specs.Lines.{Content, Text, Long, TooMuch, Line, lines}
 use Rattle.line_driver.specs.Clauses.{IsStop}
 use Rattle.line_driver.specs.Outcomes.{Turn, Skips, Takes, Stops, Outcome, outcome as outcome_of}
 use Rattle.line_world.specs.declared.event.Event.{Event}
-use Rattle.line_world.specs.declared.event.StepFault.{StepFault}
 use Rattle.line_world.specs.declared.event.StepFault.TheVariants as faults
 use Rattle.line_world.specs.Worlds.{World, Step, start}
 use Rattle.line_world.specs.Steps.{step}

@@ -13,7 +13,6 @@ use Rattle.line_replay.specs.declared.tool.Command.{Command}
 use Rattle.line_replay.specs.declared.tool.Command.TheVariants.{Replay, Show, Vectors}
 use Rattle.line_replay.specs.declared.status.Status.{Status}
 use Rattle.line_replay.specs.declared.status.Status.TheVariants as status
-use Rattle.line_replay.specs.Shown.{shown}
 use Rattle.line_replay.specs.Report.{is_forged, outcome, report, entries, entries_text, last_text, forged_in}
 
 -- the command that words name, if they are of a form

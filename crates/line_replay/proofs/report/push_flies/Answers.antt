@@ -1,4 +1,4 @@
-use Rattle.std.proofs.Common.{◌≡◌, ◌++◌, ◌+◌, ◌-◌, ◌≤◌, length, string_bytes, ◌∙◌, ap, rules, arith}
+use Rattle.std.proofs.Common.{◌≡◌, ◌++◌, ◌+◌, ◌-◌, ◌≤◌, length, string_bytes, ◌∙◌, ap, arith}
 use Rattle.line_replay.specs.Texts.{flies_text, fly_text}
 use Rattle.line_replay.proofs.Flies.{flies_none, flies_more}
 use Rattle.line_replay.proofs.report.push_flies.Goals as goal

@@ -2,7 +2,6 @@ use Rattle.std.proofs.Common.{sym, true}
 use Rattle.line_world.specs.Worlds.{start}
 use Rattle.line_replay.proofs.Running.{entries_run, report_by_entries, names, ran_of, whole_of, read_cause, write_cause}
 use Rattle.line_replay.specs.Report.{entries, is_forged, outcome, turn_of, end_of}
-use Rattle.line_replay.specs.Tool.{Ran}
 use Rattle.line_replay.proofs.tool.replay.Goals as goal
 
 pub returns-clause-replays : goal.returns-clause-replays
