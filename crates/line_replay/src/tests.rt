@@ -256,7 +256,7 @@ const BAD: [(&str, &str); 39] = [
 ];
 
 // Scripts whose report has the octets of the flights, which AES-CCM of another maker sealed, with their reports and how they end.
-const SEALED: [(&str, &str, Status); 11] = [
+const SEALED: [(&str, &str, Status); 12] = [
     // the octets of a flight
     (
         "coordinator 0000000000000001 000102030405060708090a0b0c0d0e0f\nmeter 0000000000000002 101112131415161718191a1b1c1d1e1f\nmeter 0000000000000003 202122232425262728292a2b2c2d2e2f\ndepot 1\ndepot 2\nnear 1 2 3\nsend 1 2 48656c6c6f\ndeliver 1 2 3\n",
@@ -323,6 +323,12 @@ const SEALED: [(&str, &str, Status); 11] = [
         "1 ok Made\n2 ok Made\n3 no NoAddress\n4 no NotJoined\nend 4 0 0 0 0\n",
         Status::Fine,
     ),
+    // each octet of a frame with its lowest bit turned is refused by name, and leaves the node as it was
+    (
+        "coordinator 0000000000000001 000102030405060708090a0b0c0d0e0f\nmeter 0000000000000002 101112131415161718191a1b1c1d1e1f\nmeter 0000000000000003 202122232425262728292a2b2c2d2e2f\ndepot 1\ndepot 2\nnear 1 2 3\ninject 2 1 6898091d78020001000d09000000009335a1ded1b73f81f3fb65\ninject 2 1 6999091d78020001000d09000000009335a1ded1b73f81f3fb65\ninject 2 1 6998081d78020001000d09000000009335a1ded1b73f81f3fb65\ninject 2 1 6998091c78020001000d09000000009335a1ded1b73f81f3fb65\ninject 2 1 6998091d79020001000d09000000009335a1ded1b73f81f3fb65\ninject 2 1 6998091d78030001000d09000000009335a1ded1b73f81f3fb65\ninject 2 1 6998091d78020101000d09000000009335a1ded1b73f81f3fb65\ninject 2 1 6998091d78020000000d09000000009335a1ded1b73f81f3fb65\ninject 2 1 6998091d78020001010d09000000009335a1ded1b73f81f3fb65\ninject 2 1 6998091d78020001000c09000000009335a1ded1b73f81f3fb65\ninject 2 1 6998091d78020001000d08000000009335a1ded1b73f81f3fb65\ninject 2 1 6998091d78020001000d09010000009335a1ded1b73f81f3fb65\ninject 2 1 6998091d78020001000d09000100009335a1ded1b73f81f3fb65\ninject 2 1 6998091d78020001000d09000001009335a1ded1b73f81f3fb65\ninject 2 1 6998091d78020001000d09000000019335a1ded1b73f81f3fb65\ninject 2 1 6998091d78020001000d09000000009235a1ded1b73f81f3fb65\ninject 2 1 6998091d78020001000d09000000009334a1ded1b73f81f3fb65\ninject 2 1 6998091d78020001000d09000000009335a0ded1b73f81f3fb65\ninject 2 1 6998091d78020001000d09000000009335a1dfd1b73f81f3fb65\ninject 2 1 6998091d78020001000d09000000009335a1ded0b73f81f3fb65\ninject 2 1 6998091d78020001000d09000000009335a1ded1b63f81f3fb65\ninject 2 1 6998091d78020001000d09000000009335a1ded1b73e81f3fb65\ninject 2 1 6998091d78020001000d09000000009335a1ded1b73f80f3fb65\ninject 2 1 6998091d78020001000d09000000009335a1ded1b73f81f2fb65\ninject 2 1 6998091d78020001000d09000000009335a1ded1b73f81f3fa65\ninject 2 1 6998091d78020001000d09000000009335a1ded1b73f81f3fb64\ninject 2 1 6998091d78020001000d09000000009335a1ded1b73f81f3fb65\ninject 2 1 6998091d78020001000d09000000009335a1ded1b73f81f3fb65\n",
+        "1 ok Made\n2 ok Made\n3 ok Made\n4 ok Joined\n5 ok Joined\n6 ok Set\n7 no Malformed\n8 no Malformed\n9 no BadTag\n10 no NotForMe\n11 no NotForMe\n12 no NotForMe\n13 no NotForMe\n14 no BadTag\n15 no BadTag\n16 no Malformed\n17 no BadTag\n18 no BadTag\n19 no BadTag\n20 no BadTag\n21 no NoKey\n22 no BadTag\n23 no BadTag\n24 no BadTag\n25 no BadTag\n26 no BadTag\n27 no BadTag\n28 no BadTag\n29 no BadTag\n30 no BadTag\n31 no BadTag\n32 no BadTag\n33 ok Up\nforged 33\nup 2 0 00\n34 no Replayed\nend 34 0 0 1 1\n",
+        Status::Forged,
+    ),
 ];
 
 fn run(
@@ -379,6 +385,31 @@ fn frames_in_the_report(rt: HostRuntime) -> Result<(), Fail> {
         assert_eq!(rt; text.as_str(), report);
         assert_eq!(rt; status, ended);
     }
+    Ok(())
+}
+
+// Zeros of every length up to one more than a frame may have are no frame.
+#[test]
+fn octets_of_every_length(rt: HostRuntime) -> Result<(), Fail> {
+    let alloc = rt.alloc();
+    let mut script = String::from_str(
+        alloc,
+        "coordinator 0000000000000001 000102030405060708090a0b0c0d0e0f\n",
+    )?;
+    let mut octets = String::new(alloc);
+    for _ in 1..=401u32 {
+        octets.push_str("00")?;
+        script.push_str("inject 0 1 ")?;
+        script.push_str(octets.as_str())?;
+        script.push_str("\n")?;
+    }
+    let (status, text) = replay(alloc, script.as_bytes(), 8192)?;
+    assert_eq!(rt; status, Status::Fine);
+    assert_eq!(rt; text.as_str().matches("no Malformed").count(), 401);
+    assert!(rt;
+        text.as_str()
+            .ends_with("\n402 no Malformed\nend 402 0 0 0 0\n")
+    );
     Ok(())
 }
 
