@@ -22,14 +22,14 @@ use Rattle.node_rules.specs.declared.heard.Way.TheVariants.{Air, Near, Mesh}
 use Rattle.node_rules.specs.declared.refusal.Dropped.{Dropped}
 use Rattle.node_rules.specs.declared.refusal.Dropped.TheVariants as drops
 use Rattle.node_rules.specs.declared.refusal.CoordRefusal.TheVariants as refusal
-use Rattle.node_rules.specs.Memory.{Line, Memory, CenterSession, next_hop}
+use Rattle.node_rules.specs.Memory.{Line, Memory, CoordinatorSession, next_hop}
 use Rattle.node_rules.specs.Plans.{Plan}
 use Rattle.node_rules.specs.Doings.{counters_left, Doing, begun, refused, sealing, checked, choose}
 use Rattle.node_rules.specs.Hearing as station
 use Rattle.node_rules.specs.Hearing.{dropped}
 use Rattle.node_rules.specs.Joining.{message, server_for, rand_p_in}
 use Rattle.node_rules.specs.Holding.{remembered, is_commanded, in_memory, oldest, Unread, unread}
-use Rattle.node_rules.specs.Coordinators.{Center, Hearing, drop_it, ends, session_of, allowed_entry, grant_for, declines, challenges, open_session, asked, keys_for, take_second, accepts, take_fourth, take_packet, answered, hear_join, hear_join_in, heard_by, hear_center, entered, changed, Ordering, orders, allow, depot_by, depot, rekey, activate_self, challenge_by, challenge_at, challenge, allowed_address, activate_by, activate, kick_by, kick, changes, told_off, without_session}
+use Rattle.node_rules.specs.Coordinators.{CoordinatorIdentity, Hearing, drop_it, ends, session_of, allowed_entry, grant_for, declines, challenges, open_session, asked, keys_for, take_second, accepts, take_fourth, take_packet, answered, hear_join, hear_join_in, heard_by, hear_coordinator, entered, changed, Ordering, orders, allow, depot_by, depot, rekey, activate_self, challenge_by, challenge_at, challenge, allowed_address, activate_by, activate, kick_by, kick, changes, kick_goes, without_session}
 use Rattle.node_rules.proofs.Shapes.{Rests, rests_shape, checked_shape, choose_shape, sealed_shape, sealing_shape, option_shape}
 use Rattle.node_rules.proofs.Words.{IsDone, memory_leaves, Fits, begun_fits, commanded_done, remembered_fits, entered_fits, quiet_done}
 use Rattle.node_rules.proofs.HearingShapes.{LineShape, hear_shape}
@@ -37,7 +37,7 @@ use Rattle.node_rules.proofs.HoldingShapes.{MemoryShape, within_shape}
 
 ruleset words = (rests_shape, checked_shape, choose_shape, sealed_shape, sealing_shape, memory_leaves)
 
-module _ (own : Center) (m : Memory) where
+module _ (own : CoordinatorIdentity) (m : Memory) where
   abbrev IsRule : Hearing → Type 0
   IsRule p = MemoryShape dropped m p
 
@@ -72,7 +72,7 @@ module _ (own : Center) (m : Memory) where
   asked_shape : (way : Way) (eui : Eui) (now : ℕ) → IsRule (asked own m way eui now)
   asked_shape way eui now = chosen _ _ _ (open_shape way eui now) (declines_shape way _ now)
 
-  keys_shape : (s : CenterSession) (e : BookEntry) (rand_p : Rand) (granted : Granted) (now : ℕ) → IsRule (keys_for own m s e rand_p granted now)
+  keys_shape : (s : CoordinatorSession) (e : BookEntry) (rand_p : Rand) (granted : Granted) (now : ℕ) → IsRule (keys_for own m s e rand_p granted now)
   keys_shape s e rand_p granted now = by_way s.way refl
     where
       by_way : (way : Way) → s.way ≡ way → IsRule (keys_for own m s e rand_p granted now)
@@ -80,12 +80,12 @@ module _ (own : Center) (m : Memory) where
       by_way (Near agent) is = rw is (search words depth 16)
       by_way (Mesh origin) is = rw is (search words depth 16)
 
-  second_shape : (s : CenterSession) (e : BookEntry) (packet : List ℕ) (now : ℕ) → IsRule (take_second own m s e packet now)
+  second_shape : (s : CoordinatorSession) (e : BookEntry) (packet : List ℕ) (now : ℕ) → IsRule (take_second own m s e packet now)
   second_shape s e packet now = passed _ _
       (by_option (λ granted. keys_for own m s e (rand_p_in packet) granted now) (grant_for m s.server.eui) (drop_it m drops.NotAllowed)
       (λ granted. keys_shape s e _ granted now) (Rests _))
 
-  fourth_shape : (s : CenterSession) (e : BookEntry) (packet : List ℕ) (rand_p : Rand) (now : ℕ) → IsRule (take_fourth own m s e packet rand_p now)
+  fourth_shape : (s : CoordinatorSession) (e : BookEntry) (packet : List ℕ) (rand_p : Rand) (now : ℕ) → IsRule (take_fourth own m s e packet rand_p now)
   fourth_shape s e packet rand_p now = passed _ _ (by_way s.way refl)
     where
       by_way : (way : Way) → s.way ≡ way → IsRule (accepts m s rand_p now)
@@ -93,7 +93,7 @@ module _ (own : Center) (m : Memory) where
       by_way (Near agent) is = rw is (search words depth 16)
       by_way (Mesh origin) is = rw is (search words depth 16)
 
-  packet_shape : (e : BookEntry) (packet : List ℕ) (now : ℕ) (s : CenterSession) → IsRule (take_packet own m e packet now s)
+  packet_shape : (e : BookEntry) (packet : List ℕ) (now : ℕ) (s : CoordinatorSession) → IsRule (take_packet own m e packet now s)
   packet_shape e packet now s = by_option (λ rand_p. take_fourth own m s e packet rand_p now) s.server.rand_p (take_second own m s e packet now) (λ rand_p. fourth_shape s e packet rand_p now) (second_shape s e packet now)
 
   answered_shape : (eui : Eui) (packet : List ℕ) (now : ℕ) → IsRule (answered own m eui packet now)
@@ -113,7 +113,7 @@ module _ (own : Center) (m : Memory) where
   heard_by_shape now p None s = within_shape heard.Line m p s
   heard_by_shape now p (Some u) s = join_in_shape u.way (join_in u.body) now
 
-  pub center_shape : (got : Accepted) (cost note now : ℕ) → MemoryShape dropped m (hear_center own m got cost note now)
+  pub center_shape : (got : Accepted) (cost note now : ℕ) → MemoryShape dropped m (hear_coordinator own m got cost note now)
   center_shape got cost note now =
       let p = station.hear m.line got cost note now in heard_by_shape now p (unread p.answer) (hear_shape m.line got cost note now)
 
@@ -135,7 +135,7 @@ module _ (own : Center) (m : Memory) where
       by_change true = remembered_fits m.line _ _ (entered_fits m.line e _ (begun_fits m.line 1 m))
       by_change false = begun_fits m.line 1 m
 
-  told_off_done : (to : ℕ) (join : JoinMessage) (d : Doing Memory) → Fits m.line 0 1 d → IsDone m.line (told_off m to join d)
+  told_off_done : (to : ℕ) (join : JoinMessage) (d : Doing Memory) → Fits m.line 0 1 d → IsDone m.line (kick_goes m to join d)
   told_off_done to join d f = by_route (is_some (next_hop m.line to) && nat_lt 0 (counters_left m.line))
     where
       by_route : (b : Bool) → IsDone m.line (if b then is_commanded to join 0 d else d)
@@ -178,7 +178,7 @@ module _ (own : Center) (m : Memory) where
 
   kick_by_shape : (e : BookEntry) (to : ℕ) → MemoryShape orders m (kick_by m e to)
   kick_by_shape e to = sealing_shape in_memory orders m (IsDone m.line)
-      (told_off m to (message e.eui body.Kick) (remembered (without_session e.eui) (entered (book.kicked_entry e.eui e) (begun m)))) tt
+      (kick_goes m to (message e.eui body.Kick) (remembered (without_session e.eui) (entered (book.kicked_entry e.eui e) (begun m)))) tt
       (told_off_done to _ _ (remembered_fits m.line _ _ (entered_fits m.line _ _ (begun_fits m.line 1 m))))
 
   pub kick_shape : (eui : Eui) → MemoryShape orders m (kick m eui)

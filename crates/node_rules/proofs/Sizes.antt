@@ -12,7 +12,8 @@ use Rattle.std.proofs.lemmas.List.Sums.{sum_by-cons}
 use Rattle.fragment_buffers.specs.Cutting.{cut, pieces_of, piece_of}
 use Rattle.mesh_header.specs.declared.unit.Unit.{Unit as MeshUnit}
 use Rattle.node_rules.specs.Memory.{Line, Body, Load, Datagram, Command, load_octets}
-use Rattle.node_rules.specs.Doings.{Outgoing, units_of, all_go, waits_for, blocks}
+use Rattle.node_rules.specs.Doings.{Outgoing, units_of, all_go, waits_for}
+use Rattle.fragment_buffers.specs.Taking.{blocks}
 use Rattle.node_rules.specs.Laws.{IsShort, IsWithinSizes}
 
 -- the units of a load

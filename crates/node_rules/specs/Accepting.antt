@@ -1,6 +1,5 @@
 -- Which frames a node accepts.
 use Rattle.std.specs.Prelude.{ℕ, Bool, false, not, ◌==◌, ◌&&◌, ◌||◌, List, [], Option, Some, None, Result, Ok, Err, if◌then◌else◌}
-use Rattle.std.specs.Str.{bytes_eq}
 use Rattle.std.specs.Option.{option_map_or}
 use Rattle.octet_fields.specs.Faults.{◌then◌}
 use Rattle.plc_base.specs.declared.address.TheConstants.{PAN}
@@ -12,6 +11,7 @@ use Rattle.mac_frames.specs.declared.head.MacHead.TheVariants as heads
 use Rattle.frame_counters.specs.declared.fault.PeerFault.{PeerFault}
 use Rattle.frame_counters.specs.declared.fault.PeerFault.TheVariants as peers
 use Rattle.frame_counters.specs.PeerMarks as marks
+use Rattle.group_keys.specs.KeyBook.{eui_number}
 use Rattle.group_keys.specs.KeyRing as ring
 use Rattle.node_rules.specs.declared.heard.Path.TheVariants as paths
 use Rattle.node_rules.specs.declared.heard.Accepted.{Accepted}
@@ -28,8 +28,9 @@ Accepting = Plan Line (Result Accepted FrameRefusal)
 abbrev pub is_own : Line → ℕ → Bool
 is_own l address = option_map_or (λ own. own == address) (address_of l) false
 
+-- whether two identities are the same: they are compared by their numbers, as the book does
 abbrev pub same_eui : Eui → Eui → Bool
-same_eui a b = bytes_eq a.0 b.0
+same_eui a b = eui_number a == eui_number b
 
 -- whether a frame is for this node and from another one: a sealed one to the own address or to all, a plain one up to the own
 -- address or down to the own EUI

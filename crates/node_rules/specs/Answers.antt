@@ -122,20 +122,20 @@ pub record Up : Type 0 where
   pub octets : List ℕ
 
 -- A grant that went out to a meter, and a joining that is done with one.
-pub record Keying : Type 0 where
+pub record SentGrant : Type 0 where
   pub eui : Eui
   pub granted : Granted
 
-pub record Doneness : Type 0 where
+pub record CompletedJoining : Type 0 where
   pub eui : Eui
   pub agreed : Agreed
 
 pub record Reception : Type 0 where
   pub answer : Answer
   pub up : Option Up
-  pub keyed : Option Keying
+  pub keyed : Option SentGrant
   pub took : Option Agreed
-  pub done : Option Doneness
+  pub done : Option CompletedJoining
 
 abbrev pub only : Answer → Reception
 only answer = record { answer = answer; up = None; keyed = None; took = None; done = None }

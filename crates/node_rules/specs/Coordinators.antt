@@ -31,7 +31,7 @@ use Rattle.node_rules.specs.declared.refusal.Dropped.TheVariants as drops
 use Rattle.node_rules.specs.declared.refusal.CoordRefusal.{CoordRefusal}
 use Rattle.node_rules.specs.declared.refusal.CoordRefusal.TheVariants as refusal
 use Rattle.node_rules.specs.Ciphers.{Ciphers}
-use Rattle.node_rules.specs.Memory.{Line, Memory, CenterSession, next_hop}
+use Rattle.node_rules.specs.Memory.{Line, Memory, CoordinatorSession, next_hop}
 use Rattle.node_rules.specs.Plans.{Plan, resting, within}
 use Rattle.node_rules.specs.Accepting.{same_eui}
 use Rattle.node_rules.specs.Doings.{Doing, Ends, Lack, OfRoom, OfNumbers, begun, ringed, counters_left, refused, sealing, sealed, checked, choose}
@@ -45,7 +45,7 @@ abbrev pub Hearing : Type 0
 Hearing = Plan Memory (Result CoordHeard Dropped)
 
 -- The coordinator: its identity, and what its packets are made with.
-pub record Center : Type 0 where
+pub record CoordinatorIdentity : Type 0 where
   pub eui : Eui
   pub ciphers : Ciphers
 
@@ -57,10 +57,10 @@ ends m d answer = sealed in_memory dropped m d answer
 
 -- # Sessions
 
-abbrev pub is_of : Eui → CenterSession → Bool
+abbrev pub is_of : Eui → CoordinatorSession → Bool
 is_of eui s = same_eui s.server.eui eui
 
-abbrev pub session_of : Memory → Eui → Option CenterSession
+abbrev pub session_of : Memory → Eui → Option CoordinatorSession
 session_of m eui = option_and_then (slice_get m.sessions) (position (is_of eui) m.sessions)
 
 -- the session of a meter ends
@@ -68,7 +68,7 @@ abbrev pub without_session : Eui → Memory → Memory
 without_session eui m = record m { sessions = filter (λ s. not (is_of eui s)) m.sessions }
 
 -- a session stands in the place of that of its meter, or behind the others
-abbrev pub with_session : CenterSession → Memory → Memory
+abbrev pub with_session : CoordinatorSession → Memory → Memory
 with_session s m = record m {
   sessions = option_map_or (λ place. set m.sessions place s) (position (is_of s.server.eui) m.sessions) (m.sessions ++ s ∷ []);
 }
@@ -118,7 +118,7 @@ abbrev pub session_fault : Memory → Eui → Option Dropped
 session_fault m eui = Some drops.SessionsFull when sessions_full m eui
 
 -- the oldest random value is taken, and a session of the meter begins
-abbrev pub opens : CenterSession → Doing Memory → Doing Memory
+abbrev pub opens : CoordinatorSession → Doing Memory → Doing Memory
 opens s d = remembered (λ n. with_session s (without_oldest n)) d
 
 abbrev pub challenges : Memory → Way → Server → ℕ → Hearing
@@ -127,19 +127,19 @@ challenges m way server now =
     checked dropped m (say_lack m way join)
     (ends m (says way join now (opens (record { server = server; way = way; since = now }) (begun m))) heard.Challenged)
 
-abbrev pub open_session : Center → Memory → Way → Eui → ℕ → Hearing
+abbrev pub open_session : CoordinatorIdentity → Memory → Way → Eui → ℕ → Hearing
 open_session own m way eui now =
     checked dropped m (session_fault m eui)
     (option_map_or (λ value. challenges m way (server_for eui own.eui value) now) (oldest m) (drop_it m drops.NoRandom))
 
-abbrev pub asked : Center → Memory → Way → Eui → ℕ → Hearing
+abbrev pub asked : CoordinatorIdentity → Memory → Way → Eui → ℕ → Hearing
 asked own m way eui now =
     choose (book.is_allowed m.book eui) (open_session own m way eui now) (declines m way (message eui body.Decline) now)
 
 -- # JOIN with a packet
 
 -- the second packet: the grant's keys are noted as issued, and the third packet goes the session's way
-abbrev pub keys_for : Center → Memory → CenterSession → BookEntry → Rand → Granted → ℕ → Hearing
+abbrev pub keys_for : CoordinatorIdentity → Memory → CoordinatorSession → BookEntry → Rand → Granted → ℕ → Hearing
 keys_for own m s e rand_p granted now =
     let join = message s.server.eui (body.Challenge (own.ciphers.third e.psk s.server rand_p granted)) in
     checked dropped m (say_lack m s.way join)
@@ -151,13 +151,13 @@ keys_for own m s e rand_p granted now =
     (remembered (with_session (record s { server = record s.server { rand_p = Some rand_p } })) (begun m)))))
     (heard.Keyed s.server.eui granted))
 
-abbrev pub take_second : Center → Memory → CenterSession → BookEntry → List ℕ → ℕ → Hearing
+abbrev pub take_second : CoordinatorIdentity → Memory → CoordinatorSession → BookEntry → List ℕ → ℕ → Hearing
 take_second own m s e packet now =
     checked dropped m (option_map packet_fault (own.ciphers.second_fault e.psk s.server packet))
     (option_map_or (λ granted. keys_for own m s e (rand_p_in packet) granted now) (grant_for m s.server.eui) (drop_it m drops.NotAllowed))
 
 -- the fourth packet: the session ends, and the acceptance goes its way
-abbrev pub accepts : Memory → CenterSession → Rand → ℕ → Hearing
+abbrev pub accepts : Memory → CoordinatorSession → Rand → ℕ → Hearing
 accepts m s rand_p now =
     let join = message s.server.eui (body.Accept 2) in
     checked dropped m (say_lack m s.way join)
@@ -167,14 +167,14 @@ accepts m s rand_p now =
     (remembered (without_session s.server.eui) (begun m))))
     (heard.Done s.server.eui (server_agrees s.server rand_p)))
 
-abbrev pub take_fourth : Center → Memory → CenterSession → BookEntry → List ℕ → Rand → ℕ → Hearing
+abbrev pub take_fourth : CoordinatorIdentity → Memory → CoordinatorSession → BookEntry → List ℕ → Rand → ℕ → Hearing
 take_fourth own m s e packet rand_p now =
     checked dropped m (option_map packet_fault (own.ciphers.fourth_fault e.psk s.server rand_p packet)) (accepts m s rand_p now)
 
-abbrev pub take_packet : Center → Memory → BookEntry → List ℕ → ℕ → CenterSession → Hearing
+abbrev pub take_packet : CoordinatorIdentity → Memory → BookEntry → List ℕ → ℕ → CoordinatorSession → Hearing
 take_packet own m e packet now s = option_map_or (λ rand_p. take_fourth own m s e packet rand_p now) s.server.rand_p (take_second own m s e packet now)
 
-abbrev pub answered : Center → Memory → Eui → List ℕ → ℕ → Hearing
+abbrev pub answered : CoordinatorIdentity → Memory → Eui → List ℕ → ℕ → Hearing
 answered own m eui packet now =
     option_map_or (λ e. option_map_or (take_packet own m e packet now) (session_of m eui) (drop_it m drops.NoSession)) (allowed_entry m eui) (drop_it m drops.NotAllowed)
 
@@ -186,12 +186,12 @@ may_come (Air from) eui = same_eui from eui
 may_come (Near agent) eui = false
 may_come (Mesh origin) eui = true
 
-abbrev pub hear_join : Center → Memory → Way → Eui → JoinBody → ℕ → Hearing
+abbrev pub hear_join : CoordinatorIdentity → Memory → Way → Eui → JoinBody → ℕ → Hearing
 hear_join own m way eui (body.Join []) now = asked own m way eui now
 hear_join own m way eui (body.Join (x ∷ packet)) now = answered own m eui (x ∷ packet) now
 hear_join own m way eui _ now = drop_it m drops.BadUnit
 
-abbrev pub hear_join_in : Center → Memory → Way → Option JoinMessage → ℕ → Hearing
+abbrev pub hear_join_in : CoordinatorIdentity → Memory → Way → Option JoinMessage → ℕ → Hearing
 hear_join_in own m way None now = drop_it m drops.BadUnit
 hear_join_in own m way (Some join) now = choose (may_come way join.eui) (hear_join own m way join.eui join.body now) (drop_it m drops.BadUnit)
 
@@ -201,13 +201,13 @@ abbrev pub on_station : Result Heard Dropped → Result CoordHeard Dropped
 on_station (Ok h) = Ok (heard.Line h)
 on_station (Err reason) = Err reason
 
-abbrev pub heard_by : Center → Memory → ℕ → Plan Line (Result Heard Dropped) → Option Unread → Hearing
+abbrev pub heard_by : CoordinatorIdentity → Memory → ℕ → Plan Line (Result Heard Dropped) → Option Unread → Hearing
 heard_by own m now p None = within (λ l. with_line l m) on_station p
 heard_by own m now p (Some u) = hear_join_in own m u.way (join_in u.body) now
 
 -- what the coordinator makes of an accepted frame, which came over a link of this cost under this note
-abbrev pub hear_center : Center → Memory → Accepted → (cost note now : ℕ) → Hearing
-hear_center own m got cost note now = let p = hear m.line got cost note now in heard_by own m now p (unread p.answer)
+abbrev pub hear_coordinator : CoordinatorIdentity → Memory → Accepted → (cost note now : ℕ) → Hearing
+hear_coordinator own m got cost note now = let p = hear m.line got cost note now in heard_by own m now p (unread p.answer)
 
 -- # Beginning
 
@@ -316,13 +316,13 @@ activate m eui index now =
 
 -- a meter is shut out, its session ends, and it is told where there is a route and a counter for it; so the command never waits,
 -- and the time that it would wait from is no matter
-abbrev pub told_off : Memory → ℕ → JoinMessage → Doing Memory → Doing Memory
-told_off m to join d = if is_some (next_hop m.line to) && nat_lt 0 (counters_left m.line) then is_commanded to join 0 d else d
+abbrev pub kick_goes : Memory → ℕ → JoinMessage → Doing Memory → Doing Memory
+kick_goes m to join d = if is_some (next_hop m.line to) && nat_lt 0 (counters_left m.line) then is_commanded to join 0 d else d
 
 abbrev pub kick_by : Memory → BookEntry → ℕ → Ordering (Unit {0})
 kick_by m e to =
     sealing in_memory orders
-    (told_off m to (message e.eui body.Kick) (remembered (without_session e.eui) (entered (book.kicked_entry e.eui e) (begun m)))) tt
+    (kick_goes m to (message e.eui body.Kick) (remembered (without_session e.eui) (entered (book.kicked_entry e.eui e) (begun m)))) tt
 
 abbrev pub kick : Memory → Eui → Ordering (Unit {0})
 kick m eui =
@@ -332,4 +332,4 @@ kick m eui =
 -- # Time
 
 abbrev pub tick : ℕ → Memory → Memory
-tick now m = record m { line = calls.tick now m.line; sessions = filter (λ (s : CenterSession). calls.is_within 120 now s.since) m.sessions }
+tick now m = record m { line = calls.tick now m.line; sessions = filter (λ (s : CoordinatorSession). calls.is_within 120 now s.since) m.sessions }

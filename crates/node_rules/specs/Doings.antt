@@ -1,7 +1,6 @@
 -- The words that rules are made of: each one phrase of what a node does on the line.
 use Rattle.std.specs.Prelude.{ℕ, ◌+◌, ◌-◌, ◌%◌, Bool, true, false, not, ◌==◌, nat_lt, nat_le, List, [], ◌∷◌, ◌++◌, length, map, drop, Option, Some, None, is_some, Result, Ok, Err, if◌then◌else◌}
 use Rattle.std.specs.List.{filter, list_any, sum_by, flat_map}
-use Rattle.std.specs.Int.{div_ceil}
 use Rattle.std.specs.Option.{option_map_or}
 use Rattle.byteorder.specs.Endian.{big_bytes}
 use Rattle.octet_fields.specs.Faults.{◌then◌, ◌when◌}
@@ -16,6 +15,7 @@ use Rattle.routing_set.specs.declared.rank.Rank.{Rank}
 use Rattle.routing_set.specs.RoutingSet as routing
 use Rattle.routing_set.specs.OwnNumber as own_number
 use Rattle.fragment_buffers.specs.Cutting as cutting
+use Rattle.fragment_buffers.specs.Taking.{blocks}
 use Rattle.mesh_header.specs.declared.unit.Mesh.{Mesh}
 use Rattle.mesh_header.specs.declared.unit.Unit.{Unit}
 use Rattle.mesh_header.specs.declared.unit.Unit.TheVariants.{Whole, Part, Carried, Local}
@@ -161,10 +161,6 @@ leave own dest hop d = record d {
 pub data Lack : Type 0 where
   OfRoom : Lack
   OfNumbers : Lack
-
--- blocks of 64 octets, rounded up
-abbrev pub blocks : ℕ → ℕ
-blocks octets = div_ceil octets 64
 
 abbrev pub blocks_waiting : Line → ℕ
 blocks_waiting l = sum_by (λ (b : Body). blocks (length (load_octets b.load))) l.waiting

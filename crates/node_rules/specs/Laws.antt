@@ -128,7 +128,7 @@ AMetersDropChangesNothing =
 
 abbrev pub ACentersDropChangesNothing : Type 0
 ACentersDropChangesNothing =
-    (own : center.Center) (m : Memory) (got : Accepted) (cost note now : ℕ) → RefusesCleanly drops.Store m (center.hear_center own m got cost note now)
+    (own : center.CoordinatorIdentity) (m : Memory) (got : Accepted) (cost note now : ℕ) → RefusesCleanly drops.Store m (center.hear_coordinator own m got cost note now)
 
 -- a send that is refused changes nothing
 abbrev pub ASendRefusedChangesNothing : Type 0
@@ -203,7 +203,7 @@ AMetersHearingIsBounded =
 
 abbrev pub ACentersHearingIsBounded : Type 0
 ACentersHearingIsBounded =
-    (own : center.Center) (m : Memory) (got : Accepted) (cost note now : ℕ) → IsBounded m.line (center.hear_center own m got cost note now)
+    (own : center.CoordinatorIdentity) (m : Memory) (got : Accepted) (cost note now : ℕ) → IsBounded m.line (center.hear_coordinator own m got cost note now)
 
 -- a send, of any datagram and of any command
 abbrev pub ASendIsBounded : Type 0

@@ -12,6 +12,7 @@ pub mod Meters
 pub mod Coordinators
 pub mod Opening
 pub mod Answers
+pub mod Events
 pub mod Worlds
 pub mod Showing
 pub mod Steps

@@ -77,7 +77,7 @@ pub record MeterSession : Type 0 where
   pub since : ℕ
 
 -- The coordinator's end of a joining with the server's meter, whose answers go this way.
-pub record CenterSession : Type 0 where
+pub record CoordinatorSession : Type 0 where
   pub server : Server
   pub way : Way
   pub since : ℕ
@@ -91,7 +91,7 @@ pub record Memory : Type 0 where
   -- the random values that it was given, the oldest first
   pub randoms : List Rand
   pub session : Option MeterSession
-  pub sessions : List CenterSession
+  pub sessions : List CoordinatorSession
   pub book : book.Book
 
 -- what a node is made for: the coordinator, or a meter with its pair key

@@ -33,15 +33,15 @@ use Rattle.node_rules.specs.Ciphers.{Ciphers}
 use Rattle.node_rules.specs.Frames.{Sent, spelled, arrived}
 use Rattle.node_rules.specs.Memory.{Line, Memory, Node, Role, Coordinator, Meter, node_address}
 use Rattle.node_rules.specs.Plans.{Plan, Outcome, carry_out, resting, within}
-use Rattle.node_rules.specs.Accepting.{accept}
+use Rattle.node_rules.specs.Accepting.{accept, same_eui}
 use Rattle.node_rules.specs.Calls as calls
 use Rattle.node_rules.specs.Holding.{with_line, give_random}
 use Rattle.node_rules.specs.Meters as meters
 use Rattle.node_rules.specs.Coordinators as center
 use Rattle.node_rules.specs.Opening.{memory_of, remembering, blank_line, first_grant}
-use Rattle.node_rules.specs.Answers.{Reception, Up, Keying, Doneness, frame_word, sent_word, random_word, join_word, leave_word, ordered_word, meter_reception, center_reception}
+use Rattle.node_rules.specs.Answers.{Reception, Up, SentGrant, CompletedJoining, frame_word, sent_word, random_word, join_word, leave_word, ordered_word, meter_reception, center_reception}
 use Rattle.node_rules.specs.Showing.{shown_of}
-use Rattle.node_rules.specs.Worlds.{Flight, World, node_at, flight_at, note_of, is_forged_frame, is_forged_tag, same_eui, Handed, Admission, Happenings, Issued, Pairing, Deeds}
+use Rattle.node_rules.specs.Worlds.{Flight, World, node_at, flight_at, note_of, is_forged_frame, is_forged_tag, Handed, Admission, Happenings, Issued, Pairing, Deeds}
 
 -- what an event gives: the world after it and what it was, or why it was not taken
 abbrev pub Step : Type 0
@@ -339,7 +339,7 @@ abbrev pub hears : Ciphers → Node → Accepted → (cost note now : ℕ) → D
 hears ciphers x got cost note now = hears_by x.role
   where
     hears_by : Role → Did Reception
-    hears_by Coordinator = answering center_reception (acts x (Err drops.Store) (λ m. center.hear_center (record { eui = x.eui; ciphers = ciphers }) m got cost note now))
+    hears_by Coordinator = answering center_reception (acts x (Err drops.Store) (λ m. center.hear_coordinator (record { eui = x.eui; ciphers = ciphers }) m got cost note now))
     hears_by (Meter psk) = answering meter_reception (acts x (Err drops.Store) (λ m. meters.hear_meter (identity ciphers x psk) m got cost note now))
 
 -- the note of octets that a node accepted, and whether they are forged
@@ -364,11 +364,11 @@ handed_by number up = option_map (λ (u : Up). record { node = number; note = u.
 abbrev pub number_of : World → Eui → ℕ
 number_of w eui = option_map_or (λ n. n) (position (λ (x : Node). same_eui x.eui eui) w.nodes) 0
 
-abbrev pub done_by : World → Option Doneness → Option Pairing
-done_by w done = option_map (λ (d : Doneness). record { node = number_of w d.eui; agreed = d.agreed }) done
+abbrev pub done_by : World → Option CompletedJoining → Option Pairing
+done_by w done = option_map (λ (d : CompletedJoining). record { node = number_of w d.eui; agreed = d.agreed }) done
 
-abbrev pub issued_of : Option Keying → List Issued
-issued_of keyed = option_map_or (λ (k : Keying). issued_by k.eui k.granted) keyed []
+abbrev pub issued_of : Option SentGrant → List Issued
+issued_of keyed = option_map_or (λ (k : SentGrant). issued_by k.eui k.granted) keyed []
 
 abbrev pub reception_deeds : World → ℕ → Bool → Did Reception → Deeds
 reception_deeds w number forged d = record {

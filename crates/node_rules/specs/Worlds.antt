@@ -10,7 +10,9 @@ use Rattle.plc_base.specs.declared.tags.PairTag.{PairTag}
 use Rattle.plc_base.specs.declared.tags.PairTag.TheVariants as tags
 use Rattle.eap_psk.specs.declared.server.Agreed.{Agreed}
 use Rattle.node_rules.specs.declared.event.Answer.{Answer}
+use Rattle.group_keys.specs.KeyBook.{same_key}
 use Rattle.node_rules.specs.Memory.{Node}
+use Rattle.node_rules.specs.Accepting.{same_eui}
 
 -- A frame that was sent. It may come any number of times, until it is lost; its octets stay.
 pub record Flight : Type 0 where
@@ -55,9 +57,6 @@ flight_at w number = if number == 0 then None else slice_get w.flights (number -
 
 -- # What is forged
 
-abbrev pub same_key : Key → Key → Bool
-same_key a b = bytes_eq a.0 b.0
-
 -- whether a flight has these octets, sealed under this key
 abbrev pub has_octets : List ℕ → Key → Flight → Bool
 has_octets octets key f = bytes_eq f.octets octets && option_map_or (same_key key) f.key false
@@ -70,9 +69,6 @@ note_of (f ∷ rest) octets key = if has_octets octets key f then f.note else no
 -- whether a sealed frame that a node accepted under a key was sent by no node
 abbrev pub is_forged_frame : List Flight → List ℕ → Key → Bool
 is_forged_frame flights octets key = not (list_any (has_octets octets key) flights)
-
-abbrev pub same_eui : Eui → Eui → Bool
-same_eui a b = bytes_eq a.0 b.0
 
 abbrev pub same_rand : Rand → Rand → Bool
 same_rand a b = bytes_eq a.0 b.0
