@@ -8,7 +8,7 @@ use Rattle.group_keys.specs.KeyRing as ring
 use Rattle.node_rules.specs.Memory.{Line}
 use Rattle.node_rules.specs.Plans.{Plan, resting}
 use Rattle.node_rules.specs.Doings.{Holder, Ends, Outgoing, letters, sealed_by, sealing_key}
-use Rattle.node_rules.specs.Laws.{IsBounded, HearingIsBounded, AMetersHearingIsBounded, ACentersHearingIsBounded, ASendIsBounded, AJoinIsBounded, AnOrderIsBounded}
+use Rattle.node_rules.specs.Laws.{IsBounded, HearingIsBounded, AMetersHearingIsBounded, ACoordinatorsHearingIsBounded, ASendIsBounded, AJoinIsBounded, AnOrderIsBounded}
 use Rattle.node_rules.proofs.Sizes.{pending_bound}
 use Rattle.node_rules.proofs.Words.{IsDone, InTurn-append, in_turn, counter_turn}
 use Rattle.node_rules.proofs.Shapes.{Shape, Rests, Keeps, Ended}
@@ -16,7 +16,7 @@ use Rattle.node_rules.proofs.HearingShapes.{hear_shape}
 use Rattle.node_rules.proofs.CallShapes.{send_shape, send_command_shape}
 use Rattle.node_rules.proofs.MeterShapes.{meter_shape, joins_shape, leaves_shape}
 use Rattle.node_rules.specs.Ciphers.{network}
-use Rattle.node_rules.proofs.CenterShapes.{center_shape, allow_shape, depot_shape, rekey_shape, activate_self_shape, challenge_shape, activate_shape, kick_shape}
+use Rattle.node_rules.proofs.CoordinatorShapes.{coordinator_shape, allow_shape, depot_shape, rekey_shape, activate_self_shape, challenge_shape, activate_shape, kick_shape}
 
 -- # Letters
 
@@ -54,8 +54,8 @@ hears l got cost note now = bounded _ _ l l _ (hear_shape l got cost note now)
 pub meters_hear : AMetersHearingIsBounded
 meters_hear x m got cost note now = bounded _ _ m m.line _ (meter_shape x m got cost note now)
 
-pub centers_hear : ACentersHearingIsBounded
-centers_hear own m got cost note now = bounded _ _ m m.line _ (center_shape own m got cost note now)
+pub coordinators_hear : ACoordinatorsHearingIsBounded
+coordinators_hear own m got cost note now = bounded _ _ m m.line _ (coordinator_shape own m got cost note now)
 
 pub sends_bounded : ASendIsBounded
 sends_bounded l to octets note now = (bounded _ _ l l _ (send_shape l to octets note now), bounded _ _ l l _ (send_command_shape l to octets now))

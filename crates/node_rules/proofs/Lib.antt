@@ -8,7 +8,7 @@ pub mod HearingShapes
 pub mod CallShapes
 pub mod HoldingShapes
 pub mod MeterShapes
-pub mod CenterShapes
+pub mod CoordinatorShapes
 pub mod Refusals
 pub mod Bounds
 pub mod StepsOn

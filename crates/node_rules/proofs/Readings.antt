@@ -1,14 +1,17 @@
 -- What is read out of a spelling is the value that it spells.
-use Rattle.std.proofs.Common.{◌≡◌, ℕ, ◌+◌, ◌-◌, ◌/◌, ◌%◌, ◌<◌, ◌≤◌, ◌==◌, List, [], ◌∷◌, ◌++◌, length, drop, take, Option, None, Some, if◌then◌else◌, refl, sym, ap, ◌∙◌, subst, inl, inr, arith}
+use Rattle.std.proofs.Common.{◌≡◌, ℕ, ◌+◌, ◌-◌, ◌/◌, ◌%◌, ◌<◌, ◌≤◌, ◌==◌, List, [], ◌∷◌, ◌++◌, length, drop, take, Option, None, Some, if◌then◌else◌, refl, sym, ap, ◌∙◌, subst, inl, inr, arith, Bool, true, false}
 use Rattle.std.specs.Prelude.{is_some, nat_lt}
 use Rattle.std.proofs.Math.Seq.{drop-append_seam, take-append_seam}
 use Rattle.std.proofs.lemmas.Bool.{cases_lt}
-use Rattle.std.proofs.lemmas.List.{drop-drop}
+use Rattle.std.proofs.lemmas.List.{drop-drop, length-append}
 use Rattle.std.proofs.lemmas.Grind.{common_steps}
 use Rattle.byteorder.specs.Endian.{big_bytes, big_number}
 use Rattle.octet_fields.specs.Fields.{octet, two, part, after}
 use Rattle.octet_fields.proofs.Places.{octet_behind, octet_past, two_behind, after_behind}
 use Rattle.plc_base.specs.declared.address.Eui.{Eui}
+use Rattle.plc_base.specs.declared.key.Key.{Key}
+use Rattle.plc_base.specs.Grant.{Granted}
+use Rattle.joining_messages.specs.Grants as grants
 use Rattle.loadng_messages.specs.declared.message.Message.{Message}
 use Rattle.loadng_messages.specs.declared.message.Message.TheVariants.{Rreq, Rrep, Rerr}
 use Rattle.loadng_messages.specs.Grammar as messages
@@ -22,6 +25,7 @@ use Rattle.joining_messages.specs.Messages as joining
 use Rattle.joining_messages.specs.Faults.{join_fault}
 use Rattle.joining_messages.specs.Reading as join_reading
 use Rattle.joining_messages.proofs.Laws as join_laws
+use Rattle.joining_messages.proofs.GrantLaws as grant_laws
 use Rattle.mesh_header.specs.declared.unit.Mesh.{Mesh}
 use Rattle.mesh_header.specs.declared.unit.Unit.{Unit}
 use Rattle.mesh_header.specs.declared.unit.Unit.TheVariants.{Whole, Part, Carried, Local}
@@ -30,7 +34,7 @@ use Rattle.mesh_header.specs.Grammar as units
 use Rattle.mesh_header.specs.Faults.{origin_at, unit_fault}
 use Rattle.mesh_header.specs.Reading as unit_reading
 use Rattle.mesh_header.proofs.Laws as unit_laws
-use Rattle.node_rules.specs.Laws.{MessagesAreRead, JoinsAreRead, UnitsAreRead}
+use Rattle.node_rules.specs.Laws.{MessagesAreRead, JoinsAreRead, UnitsAreRead, GrantsAreRead}
 
 -- where there is no fault, the value is read
 read_by : {F V : Type 0} (fault : Option F) (value : V) → fault ≡ None → (if is_some fault then None else Some value) ≡ Some value
@@ -237,3 +241,93 @@ unfolding unit_reading.unit_in
 units_read u octets h =
     subst (λ o. unit_reading.unit_in o ≡ Some u) (sym h.1)
     (read_by (unit_fault (units.spelling u)) _ (unit_laws.no_fault u h.0) ∙ ap Some (unit_fields u h.0))
+
+-- # Grants
+
+key_part : (front : List ℕ) (key : Key) (rest : List ℕ) → length key.0 ≡ 16 → part (length front) 16 (front ++ (key.0 ++ rest)) ≡ key.0
+unfolding part
+key_part front key rest long =
+    ap (take 16) (drop-append_seam front (key.0 ++ rest)) ∙ ap (λ n. take n (key.0 ++ rest)) (sym long) ∙ take-append_seam key.0 rest
+
+key_past : (front : List ℕ) (k : ℕ) (a b : Key) (rest : List ℕ) → length a.0 ≡ 16 → length b.0 ≡ 16
+    → part (length front + (16 + k)) 16 (front ++ (a.0 ++ rest)) ≡ part k 16 rest
+unfolding part
+key_past front k a b rest long other =
+    ap (take 16) (sym (drop-drop (16 + k) (length front) (front ++ (a.0 ++ rest))) ∙ ap (drop (16 + k)) (drop-append_seam front (a.0 ++ rest))
+    ∙ ap (λ n. drop (n + k) (a.0 ++ rest)) (sym long) ∙ sym (drop-drop k (length a.0) (a.0 ++ rest)) ∙ ap (drop k) (drop-append_seam a.0 rest))
+
+granted_is : (address active address' active' : ℕ) (k l k' l' : Option Key) → address ≡ address' → active ≡ active' → k ≡ k' → l ≡ l'
+    → let v : Granted = record { address = address; active = active; key0 = k; key1 = l } in v ≡ record { address = address'; active = active'; key0 = k'; key1 = l' }
+granted_is address active address' active' k l k' l' a b c d = rw (a, b, c, d) refl
+
+chosen_long : (n : ℕ) (a b : Granted) → n ≡ 45 → (if n == 45 then a else b) ≡ a
+chosen_long n a b is = rw is refl
+
+chosen_short : (n : ℕ) (a b : Granted) → n ≡ 26 → (if n == 45 then a else b) ≡ b
+chosen_short n a b is = rw is refl
+
+-- which index is active where one key is held
+zero_if : (active : ℕ) (k : Key) → is_some (if active == 0 then Some k else None) ≡ true → active ≡ 0
+zero_if active k held = grind (arith, common_steps)
+
+one_if : (active : ℕ) (l : Key) → active ≤ 1 → is_some (if active == 0 then None else Some l) ≡ true → active ≡ 1
+one_if active l low held = grind (arith, common_steps)
+
+none_if : (b : Bool) → (let none : Option Key = None in is_some (if b then none else none) ≡ true) → ⊥
+none_if true held = cc
+none_if false held = cc
+
+abbrev granted : ℕ → ℕ → Option Key → Option Key → Granted
+granted address active k l = record { address = address; active = active; key0 = k; key1 = l }
+
+-- what stands in front of the first key, at an index
+abbrev in_front : ℕ → ℕ → ℕ → List ℕ
+in_front address active index = 1 ∷ 2 ∷ big_bytes 2 address ++ (2 ∷ 1 ∷ active ∷ 3 ∷ 0x11 ∷ index ∷ [])
+
+both_read : (address active : ℕ) (k l : Key) → address < 0xFFFE → length k.0 ≡ 16 → length l.0 ≡ 16
+    → join_reading.granted_in (grants.grant_spelling (granted address active (Some k) (Some l))) ≡ granted address active (Some k) (Some l)
+unfolding octet
+both_read address active k l low long other =
+    let rest : List ℕ = 3 ∷ 0x11 ∷ 1 ∷ l.0 ++ [] in
+    let octets : List ℕ = in_front address active 0 ++ (k.0 ++ rest) in
+    chosen_long (length octets) _ _ (omega (arith, long, other, length-append k.0 rest, length-append l.0 []))
+    ∙ granted_is _ _ _ _ _ _ _ _ (two_behind (1 ∷ 2 ∷ []) address (2 ∷ 1 ∷ active ∷ 3 ∷ 0x11 ∷ 0 ∷ k.0 ++ rest) (omega (arith, low))) refl
+    (ap (λ x. let v : Key = record { 0 = x } in Some v) (key_part (in_front address active 0) k rest long))
+    (ap (λ x. let v : Key = record { 0 = x } in Some v) (key_past (in_front address active 0) 3 k l rest long other ∙ key_part (3 ∷ 0x11 ∷ 1 ∷ []) l [] other))
+
+first_read : (address : ℕ) (k : Key) → address < 0xFFFE → length k.0 ≡ 16
+    → join_reading.granted_in (grants.grant_spelling (granted address 0 (Some k) None)) ≡ granted address 0 (Some k) None
+unfolding octet
+first_read address k low long =
+    let octets : List ℕ = in_front address 0 0 ++ (k.0 ++ []) in
+    chosen_short (length octets) _ _ (omega (arith, long, length-append k.0 []))
+    ∙ granted_is _ _ _ _ _ _ _ _ (two_behind (1 ∷ 2 ∷ []) address (2 ∷ 1 ∷ 0 ∷ 3 ∷ 0x11 ∷ 0 ∷ k.0 ++ []) (omega (arith, low))) refl
+    (ap (λ x. let v : Key = record { 0 = x } in Some v) (key_part (in_front address 0 0) k [] long)) refl
+
+second_read : (address : ℕ) (l : Key) → address < 0xFFFE → length l.0 ≡ 16
+    → join_reading.granted_in (grants.grant_spelling (granted address 1 None (Some l))) ≡ granted address 1 None (Some l)
+unfolding octet
+second_read address l low long =
+    let octets : List ℕ = in_front address 1 1 ++ (l.0 ++ []) in
+    chosen_short (length octets) _ _ (omega (arith, long, length-append l.0 []))
+    ∙ granted_is _ _ _ _ _ _ _ _ (two_behind (1 ∷ 2 ∷ []) address (2 ∷ 1 ∷ 1 ∷ 3 ∷ 0x11 ∷ 1 ∷ l.0 ++ []) (omega (arith, low))) refl
+    refl (ap (λ x. let v : Key = record { 0 = x } in Some v) (key_part (in_front address 1 1) l [] long))
+
+abbrev IsRead : ℕ → ℕ → Option Key → Option Key → Type 0
+IsRead address active k l = join_reading.granted_in (grants.grant_spelling (granted address active k l)) ≡ granted address active k l
+
+by_keys : (address active : ℕ) (k l : Option Key) → grants.IsGranted (granted address active k l) → IsRead address active k l
+by_keys address active (Some k) (Some l) h = both_read address active k l h.address h.first h.second
+by_keys address active (Some k) None h = subst (λ n. IsRead address n (Some k) None) (sym (zero_if active k h.active.held)) (first_read address k h.address h.first)
+by_keys address active None (Some l) h = subst (λ n. IsRead address n None (Some l)) (sym (one_if active l h.active.index h.active.held)) (second_read address l h.address h.second)
+by_keys address active None None h = absurd (none_if (active == 0) h.active.held)
+
+grant_by : (b : Bool) (g : Granted) → b ≡ true → (if b then Some g else None) ≡ Some g
+grant_by true g is = refl
+grant_by false g is = cc
+
+pub grants_read : GrantsAreRead
+unfolding join_reading.grant_in
+grants_read g octets h =
+    subst (λ o. join_reading.grant_in o ≡ Some g) (sym h.1)
+    (grant_by (grants.is_parameter_list (grants.grant_spelling g)) _ (grant_laws.spelled_true g h.0) ∙ ap Some (by_keys g.address g.active g.key0 g.key1 h.0))

@@ -1,11 +1,11 @@
 -- What refuses changes nothing.
-use Rattle.node_rules.specs.Laws.{AFrameRefusedChangesNothing, ADropChangesNothing, AMetersDropChangesNothing, ACentersDropChangesNothing, ASendRefusedChangesNothing, AJoinRefusedChangesNothing, AnOrderRefusedChangesNothing}
+use Rattle.node_rules.specs.Laws.{AFrameRefusedChangesNothing, ADropChangesNothing, AMetersDropChangesNothing, ACoordinatorsDropChangesNothing, ASendRefusedChangesNothing, AJoinRefusedChangesNothing, AnOrderRefusedChangesNothing}
 use Rattle.node_rules.proofs.Shapes.{refuses_cleanly}
 use Rattle.node_rules.proofs.HearingShapes.{hear_shape}
 use Rattle.node_rules.proofs.CallShapes.{accept_shape, accepts_cleanly, send_shape, send_command_shape}
 use Rattle.node_rules.proofs.MeterShapes.{meter_shape, joins_shape, leaves_shape}
 use Rattle.node_rules.specs.Ciphers.{network}
-use Rattle.node_rules.proofs.CenterShapes.{center_shape, allow_shape, depot_shape, rekey_shape, activate_self_shape, challenge_shape, activate_shape, kick_shape}
+use Rattle.node_rules.proofs.CoordinatorShapes.{coordinator_shape, allow_shape, depot_shape, rekey_shape, activate_self_shape, challenge_shape, activate_shape, kick_shape}
 
 pub frames_refused : AFrameRefusedChangesNothing
 frames_refused l own a = accepts_cleanly l _ (accept_shape l own a)
@@ -16,8 +16,8 @@ drops l got cost note now = refuses_cleanly _ _ l _ _ (hear_shape l got cost not
 pub meters_drops : AMetersDropChangesNothing
 meters_drops x m got cost note now = refuses_cleanly _ _ m _ _ (meter_shape x m got cost note now)
 
-pub centers_drops : ACentersDropChangesNothing
-centers_drops own m got cost note now = refuses_cleanly _ _ m _ _ (center_shape own m got cost note now)
+pub coordinators_drops : ACoordinatorsDropChangesNothing
+coordinators_drops own m got cost note now = refuses_cleanly _ _ m _ _ (coordinator_shape own m got cost note now)
 
 pub sends_refused : ASendRefusedChangesNothing
 sends_refused l to octets note now = (refuses_cleanly _ _ l _ _ (send_shape l to octets note now), refuses_cleanly _ _ l _ _ (send_command_shape l to octets now))

@@ -14,13 +14,13 @@ use Rattle.node_rules.specs.declared.event.Answer.{Answer}
 use Rattle.node_rules.specs.declared.event.StepFault.{StepFault}
 use Rattle.node_rules.specs.declared.event.StepFault.TheVariants as faults
 use Rattle.node_rules.specs.declared.heard.Accepted.{Accepted}
-use Rattle.node_rules.specs.declared.refusal.CoordRefusal.{CoordRefusal}
-use Rattle.node_rules.specs.declared.refusal.CoordRefusal.TheVariants as orders
+use Rattle.node_rules.specs.declared.refusal.CoordinatorRefusal.{CoordinatorRefusal}
+use Rattle.node_rules.specs.declared.refusal.CoordinatorRefusal.TheVariants as orders
 use Rattle.node_rules.specs.declared.refusal.FrameRefusal.{FrameRefusal}
 use Rattle.node_rules.specs.Ciphers.{Ciphers}
 use Rattle.node_rules.specs.Memory.{Line, Node, node_address}
 use Rattle.node_rules.specs.Calls as calls
-use Rattle.node_rules.specs.Coordinators as center
+use Rattle.node_rules.specs.Coordinators as coordinator_rules
 use Rattle.node_rules.specs.Answers.{Reception}
 use Rattle.node_rules.specs.Worlds.{World, Flight, Deeds, node_at, flight_at}
 use Rattle.node_rules.specs.Steps.{provisioned, ticked, Step, Did, acts, set_up, ran, told, acted, has_begun, takes_setup, once_begun, in_setup, on_node, on_meter, made_node, is_known, coordinator, meter, depot, depot_by, psk_of, near, near_by, preset, allow, allowed, rand, join, joins_by, leave, send, sends_by, sent_if, breaks, breaks_by, deliver, inject, arrives, accepted_by, received, on_flight, lose, tick, restart, cut, show, rekey, challenge, activate, activate_at, kick, step}
@@ -115,17 +115,17 @@ module _ (ciphers : Ciphers) (w : World) where
   unfolding meter
   meter_shape eui psk = branch (not (takes_setup w) || (nat_lt 999 (length w.nodes) || is_known w eui)) _ _ (Fails faults.Setup) (Taken _ (made_goes _))
 
-  depot_by_shape : (number : ℕ) (x : Node) (d : Did (Result Granted CoordRefusal)) → StepShape w (depot_by ciphers w number x d)
+  depot_by_shape : (number : ℕ) (x : Node) (d : Did (Result Granted CoordinatorRefusal)) → StepShape w (depot_by ciphers w number x d)
   depot_by_shape number x d = by_answer d.answer refl
     where
-      by_answer : (r : Result Granted CoordRefusal) → d.answer ≡ r → StepShape w (depot_by ciphers w number x d)
+      by_answer : (r : Result Granted CoordinatorRefusal) → d.answer ≡ r → StepShape w (depot_by ciphers w number x d)
       by_answer (Ok g) e = rw e (Taken (provisioned ciphers (told ciphers (set_up w) 0 (record d { answer = Ok g })) number x g) (told_goes ciphers w _ number _ (told_goes ciphers w _ 0 _ (set_up_goes w))))
       by_answer (Err reason) e = rw e (Fails faults.Setup)
 
   depot_shape : (number : ℕ) → StepShape w (depot ciphers w number)
   unfolding depot
   depot_shape number = setup _ (at_node number _ (λ x. at_node 0 _ (λ c. branch ((number == 0) || is_some (node_address x)) _ _ (Fails faults.Setup)
-      (by_option (λ psk. depot_by ciphers w number x (acts c (Err orders.Halted) (λ m. center.depot m x.eui psk))) (psk_of x) _ (λ psk. depot_by_shape number x _) (Fails faults.Setup)))))
+      (by_option (λ psk. depot_by ciphers w number x (acts c (Err orders.Halted) (λ m. coordinator_rules.depot m x.eui psk))) (psk_of x) _ (λ psk. depot_by_shape number x _) (Fails faults.Setup)))))
 
   near_by_shape : (a b cost : ℕ) (x y : Node) (p q : Option ℕ) → StepShape w (near_by ciphers w a b cost x y p q)
   near_by_shape a b cost x y None q = Fails faults.Setup
@@ -144,7 +144,7 @@ module _ (ciphers : Ciphers) (w : World) where
   allow_shape : (number : ℕ) → StepShape w (allow ciphers w number)
   unfolding allow
   allow_shape number = once _ (at_meter number _ (λ x. at_node 0 _ (λ c.
-      by_option (λ psk. Ok (allowed ciphers w number (acts c (Err orders.Halted) (λ m. center.allow m x.eui psk)))) (psk_of x) _ (λ psk. Taken _ (told_goes ciphers w _ 0 _ (ran_goes w))) (Fails faults.Node))))
+      by_option (λ psk. Ok (allowed ciphers w number (acts c (Err orders.Halted) (λ m. coordinator_rules.allow m x.eui psk)))) (psk_of x) _ (λ psk. Taken _ (told_goes ciphers w _ 0 _ (ran_goes w))) (Fails faults.Node))))
 
   rand_shape : (number : ℕ) (value : Rand) → StepShape w (rand ciphers w number value)
   unfolding rand

@@ -17,16 +17,16 @@ use Rattle.node_rules.specs.declared.refusal.JoinRefusal.{JoinRefusal}
 use Rattle.node_rules.specs.declared.refusal.JoinRefusal.TheVariants as joins
 use Rattle.node_rules.specs.declared.refusal.LeaveRefusal.{LeaveRefusal}
 use Rattle.node_rules.specs.declared.refusal.LeaveRefusal.TheVariants as leaves
-use Rattle.node_rules.specs.declared.refusal.CoordRefusal.{CoordRefusal}
-use Rattle.node_rules.specs.declared.refusal.CoordRefusal.TheVariants as orders
+use Rattle.node_rules.specs.declared.refusal.CoordinatorRefusal.{CoordinatorRefusal}
+use Rattle.node_rules.specs.declared.refusal.CoordinatorRefusal.TheVariants as orders
 use Rattle.node_rules.specs.declared.heard.SentHow.{SentHow}
 use Rattle.node_rules.specs.declared.heard.SentHow.TheVariants as how
 use Rattle.node_rules.specs.declared.heard.Heard.{Heard}
 use Rattle.node_rules.specs.declared.heard.Heard.TheVariants as line
 use Rattle.node_rules.specs.declared.heard.MeterHeard.{MeterHeard}
 use Rattle.node_rules.specs.declared.heard.MeterHeard.TheVariants as meter
-use Rattle.node_rules.specs.declared.heard.CoordHeard.{CoordHeard}
-use Rattle.node_rules.specs.declared.heard.CoordHeard.TheVariants as center
+use Rattle.node_rules.specs.declared.heard.CoordinatorHeard.{CoordinatorHeard}
+use Rattle.node_rules.specs.declared.heard.CoordinatorHeard.TheVariants as coordinator_heard
 
 -- # Refusals
 
@@ -72,7 +72,7 @@ send_word sends.SeqSpent = said.SeqSpent
 send_word sends.CounterSpent = said.CounterSpent
 send_word sends.Store = said.Store
 
-abbrev pub order_word : CoordRefusal → Answer
+abbrev pub order_word : CoordinatorRefusal → Answer
 order_word orders.Halted = said.Halted
 order_word orders.MetersFull = said.MetersFull
 order_word orders.NotAllowed = said.NotAllowed
@@ -110,7 +110,7 @@ leave_word (Err leaves.NotJoined) = said.NotJoined
 leave_word (Err leaves.Store) = said.Store
 
 -- of an order that was carried out
-abbrev pub ordered_word : {A : Type 0} → Answer → Result A CoordRefusal → Answer
+abbrev pub ordered_word : {A : Type 0} → Answer → Result A CoordinatorRefusal → Answer
 ordered_word word (Ok a) = word
 ordered_word word (Err reason) = order_word reason
 
@@ -163,10 +163,10 @@ meter_reception (Ok meter.Left) = only said.Left
 meter_reception (Ok meter.Activated) = only said.Activated
 meter_reception (Err reason) = only (drop_word reason)
 
-abbrev pub center_reception : Result CoordHeard Dropped → Reception
-center_reception (Ok (center.Line h)) = line_reception h
-center_reception (Ok center.Challenged) = only said.Challenged
-center_reception (Ok (center.Keyed eui granted)) = record (only said.Keyed) { keyed = Some (record { eui = eui; granted = granted }) }
-center_reception (Ok (center.Done eui agreed)) = record (only said.Done) { done = Some (record { eui = eui; agreed = agreed }) }
-center_reception (Ok center.Declined) = only said.Declined
-center_reception (Err reason) = only (drop_word reason)
+abbrev pub coordinator_reception : Result CoordinatorHeard Dropped → Reception
+coordinator_reception (Ok (coordinator_heard.Line h)) = line_reception h
+coordinator_reception (Ok coordinator_heard.Challenged) = only said.Challenged
+coordinator_reception (Ok (coordinator_heard.Keyed eui granted)) = record (only said.Keyed) { keyed = Some (record { eui = eui; granted = granted }) }
+coordinator_reception (Ok (coordinator_heard.Done eui agreed)) = record (only said.Done) { done = Some (record { eui = eui; agreed = agreed }) }
+coordinator_reception (Ok coordinator_heard.Declined) = only said.Declined
+coordinator_reception (Err reason) = only (drop_word reason)

@@ -22,14 +22,14 @@ use Rattle.eap_psk.specs.Tags.{mac_p_tag, mac_s_tag, granting_tag, success_tag}
 use Rattle.eap_psk.specs.declared.server.Server.{Server}
 use Rattle.node_rules.specs.declared.heard.Accepted.{Accepted}
 use Rattle.node_rules.specs.declared.heard.Heard.{Heard}
-use Rattle.node_rules.specs.declared.heard.CoordHeard.{CoordHeard}
-use Rattle.node_rules.specs.declared.heard.CoordHeard.TheVariants as heard
+use Rattle.node_rules.specs.declared.heard.CoordinatorHeard.{CoordinatorHeard}
+use Rattle.node_rules.specs.declared.heard.CoordinatorHeard.TheVariants as heard
 use Rattle.node_rules.specs.declared.heard.Way.{Way}
 use Rattle.node_rules.specs.declared.heard.Way.TheVariants.{Air, Near, Mesh}
 use Rattle.node_rules.specs.declared.refusal.Dropped.{Dropped}
 use Rattle.node_rules.specs.declared.refusal.Dropped.TheVariants as drops
-use Rattle.node_rules.specs.declared.refusal.CoordRefusal.{CoordRefusal}
-use Rattle.node_rules.specs.declared.refusal.CoordRefusal.TheVariants as refusal
+use Rattle.node_rules.specs.declared.refusal.CoordinatorRefusal.{CoordinatorRefusal}
+use Rattle.node_rules.specs.declared.refusal.CoordinatorRefusal.TheVariants as refusal
 use Rattle.node_rules.specs.Ciphers.{Ciphers}
 use Rattle.node_rules.specs.Memory.{Line, Memory, CoordinatorSession, next_hop}
 use Rattle.node_rules.specs.Plans.{Plan, resting, within}
@@ -42,7 +42,7 @@ use Rattle.node_rules.specs.Holding.{with_line, in_memory, on_line, remembered, 
 use Rattle.node_rules.specs.Doings as doings
 
 abbrev pub Hearing : Type 0
-Hearing = Plan Memory (Result CoordHeard Dropped)
+Hearing = Plan Memory (Result CoordinatorHeard Dropped)
 
 -- The coordinator: its identity, and what its packets are made with.
 pub record CoordinatorIdentity : Type 0 where
@@ -52,7 +52,7 @@ pub record CoordinatorIdentity : Type 0 where
 abbrev pub drop_it : Memory → Dropped → Hearing
 drop_it m reason = refused dropped m reason
 
-abbrev pub ends : Memory → Doing Memory → CoordHeard → Hearing
+abbrev pub ends : Memory → Doing Memory → CoordinatorHeard → Hearing
 ends m d answer = sealed in_memory dropped m d answer
 
 -- # Sessions
@@ -197,7 +197,7 @@ hear_join_in own m way (Some join) now = choose (may_come way join.eui) (hear_jo
 
 -- # A frame that was accepted
 
-abbrev pub on_station : Result Heard Dropped → Result CoordHeard Dropped
+abbrev pub on_station : Result Heard Dropped → Result CoordinatorHeard Dropped
 on_station (Ok h) = Ok (heard.Line h)
 on_station (Err reason) = Err reason
 
@@ -220,17 +220,17 @@ begin m granted =
 -- # Orders of the operator
 
 abbrev pub Ordering : Type 0 → Type 0
-Ordering A = Plan Memory (Result A CoordRefusal)
+Ordering A = Plan Memory (Result A CoordinatorRefusal)
 
-abbrev pub orders : Ends CoordRefusal
+abbrev pub orders : Ends CoordinatorRefusal
 orders = record { spent = refusal.CounterSpent; store = refusal.Store }
 
-abbrev pub lacking : Lack → CoordRefusal
+abbrev pub lacking : Lack → CoordinatorRefusal
 lacking OfRoom = refusal.WaitingFull
 lacking OfNumbers = refusal.SeqSpent
 
 -- what a command to a meter of this address lacks
-abbrev pub order_lack : Memory → ℕ → JoinMessage → Option CoordRefusal
+abbrev pub order_lack : Memory → ℕ → JoinMessage → Option CoordinatorRefusal
 order_lack m to join = option_map lacking (doings.lack m.line to (length (command_of join)))
 
 -- whether an entry is another one than the book has

@@ -7,7 +7,9 @@ use Rattle.loadng_messages.specs.Grammar as messages
 use Rattle.loadng_messages.specs.Reading.{message_in}
 use Rattle.joining_messages.specs.declared.message.JoinMessage.{JoinMessage}
 use Rattle.joining_messages.specs.Messages as joining
-use Rattle.joining_messages.specs.Reading.{join_in}
+use Rattle.joining_messages.specs.Grants as grants
+use Rattle.plc_base.specs.Grant.{Granted}
+use Rattle.joining_messages.specs.Reading.{join_in, grant_in}
 use Rattle.std.specs.Option.{option_map}
 use Rattle.std.specs.Prelude.{IfSome, ◌<◌, ◌≡◌, ◌⊎◌, ℕ, ◌-◌, ◌≤◌, ◌==◌, All, List, [], ◌∷◌, ◌++◌, length, Option, Some, None, Result, Ok, Err, true, ◌+◌, if◌then◌else◌}
 use Rattle.std.specs.FinMap.{insert}
@@ -21,7 +23,7 @@ use Rattle.node_rules.specs.declared.refusal.FrameRefusal.TheVariants as frames
 use Rattle.node_rules.specs.declared.refusal.SendRefusal.TheVariants as sends
 use Rattle.node_rules.specs.declared.refusal.JoinRefusal.TheVariants as joins
 use Rattle.node_rules.specs.declared.refusal.LeaveRefusal.TheVariants as leaves
-use Rattle.node_rules.specs.declared.refusal.CoordRefusal.TheVariants as orders
+use Rattle.node_rules.specs.declared.refusal.CoordinatorRefusal.TheVariants as orders
 use Rattle.node_rules.specs.declared.event.Event.{Event}
 use Rattle.plc_base.specs.declared.tags.PairTag.{PairTag}
 use Rattle.node_rules.specs.Worlds.{World, Flight, Deeds}
@@ -31,7 +33,7 @@ use Rattle.node_rules.specs.Accepting.{accept}
 use Rattle.node_rules.specs.Hearing.{hear}
 use Rattle.node_rules.specs.Calls as calls
 use Rattle.node_rules.specs.Meters as meters
-use Rattle.node_rules.specs.Coordinators as center
+use Rattle.node_rules.specs.Coordinators as coordinator_rules
 use Rattle.node_rules.specs.Doings.{blocks_waiting}
 use Rattle.node_rules.specs.Memory.{Line, Body, Load, Datagram, Command, Memory, Node, node_address, node_route}
 use Rattle.node_rules.specs.Plans.{Plan, Outcome, carry_out}
@@ -126,9 +128,9 @@ abbrev pub AMetersDropChangesNothing : Type 0
 AMetersDropChangesNothing =
     (x : meters.Identity) (m : Memory) (got : Accepted) (cost note now : ℕ) → RefusesCleanly drops.Store m (meters.hear_meter x m got cost note now)
 
-abbrev pub ACentersDropChangesNothing : Type 0
-ACentersDropChangesNothing =
-    (own : center.CoordinatorIdentity) (m : Memory) (got : Accepted) (cost note now : ℕ) → RefusesCleanly drops.Store m (center.hear_coordinator own m got cost note now)
+abbrev pub ACoordinatorsDropChangesNothing : Type 0
+ACoordinatorsDropChangesNothing =
+    (own : coordinator_rules.CoordinatorIdentity) (m : Memory) (got : Accepted) (cost note now : ℕ) → RefusesCleanly drops.Store m (coordinator_rules.hear_coordinator own m got cost note now)
 
 -- a send that is refused changes nothing
 abbrev pub ASendRefusedChangesNothing : Type 0
@@ -146,13 +148,13 @@ AJoinRefusedChangesNothing =
 abbrev pub AnOrderRefusedChangesNothing : Type 0
 AnOrderRefusedChangesNothing =
     (own : Eui) (m : Memory) (eui : Eui) (key : Key) (index now : ℕ)
-    → RefusesCleanly orders.Store m (center.allow m eui key)
-    × RefusesCleanly orders.Store m (center.depot m eui key)
-    × RefusesCleanly orders.Store m (center.rekey m index key)
-    × RefusesCleanly orders.Store m (center.activate_self m index)
-    × RefusesCleanly orders.Store m (center.challenge own m eui now)
-    × RefusesCleanly orders.Store m (center.activate m eui index now)
-    × RefusesCleanly orders.Store m (center.kick m eui)
+    → RefusesCleanly orders.Store m (coordinator_rules.allow m eui key)
+    × RefusesCleanly orders.Store m (coordinator_rules.depot m eui key)
+    × RefusesCleanly orders.Store m (coordinator_rules.rekey m index key)
+    × RefusesCleanly orders.Store m (coordinator_rules.activate_self m index)
+    × RefusesCleanly orders.Store m (coordinator_rules.challenge own m eui now)
+    × RefusesCleanly orders.Store m (coordinator_rules.activate m eui index now)
+    × RefusesCleanly orders.Store m (coordinator_rules.kick m eui)
 
 -- # How much is sent
 
@@ -201,9 +203,9 @@ abbrev pub AMetersHearingIsBounded : Type 0
 AMetersHearingIsBounded =
     (x : meters.Identity) (m : Memory) (got : Accepted) (cost note now : ℕ) → IsBounded m.line (meters.hear_meter x m got cost note now)
 
-abbrev pub ACentersHearingIsBounded : Type 0
-ACentersHearingIsBounded =
-    (own : center.CoordinatorIdentity) (m : Memory) (got : Accepted) (cost note now : ℕ) → IsBounded m.line (center.hear_coordinator own m got cost note now)
+abbrev pub ACoordinatorsHearingIsBounded : Type 0
+ACoordinatorsHearingIsBounded =
+    (own : coordinator_rules.CoordinatorIdentity) (m : Memory) (got : Accepted) (cost note now : ℕ) → IsBounded m.line (coordinator_rules.hear_coordinator own m got cost note now)
 
 -- a send, of any datagram and of any command
 abbrev pub ASendIsBounded : Type 0
@@ -219,13 +221,13 @@ AJoinIsBounded = (x : meters.Identity) (m : Memory) (agent now : ℕ) → IsBoun
 abbrev pub AnOrderIsBounded : Type 0
 AnOrderIsBounded =
     (own : Eui) (m : Memory) (eui : Eui) (key : Key) (index now : ℕ)
-    → IsBounded m.line (center.allow m eui key)
-    × IsBounded m.line (center.depot m eui key)
-    × IsBounded m.line (center.rekey m index key)
-    × IsBounded m.line (center.activate_self m index)
-    × IsBounded m.line (center.challenge own m eui now)
-    × IsBounded m.line (center.activate m eui index now)
-    × IsBounded m.line (center.kick m eui)
+    → IsBounded m.line (coordinator_rules.allow m eui key)
+    × IsBounded m.line (coordinator_rules.depot m eui key)
+    × IsBounded m.line (coordinator_rules.rekey m index key)
+    × IsBounded m.line (coordinator_rules.activate_self m index)
+    × IsBounded m.line (coordinator_rules.challenge own m eui now)
+    × IsBounded m.line (coordinator_rules.activate m eui index now)
+    × IsBounded m.line (coordinator_rules.kick m eui)
 
 -- # Accepting
 
@@ -290,3 +292,6 @@ JoinsAreRead = (m : JoinMessage) (octets : List ℕ) → joining.Spells m octets
 
 abbrev pub UnitsAreRead : Type 0
 UnitsAreRead = (u : MeshUnit) (octets : List ℕ) → units.Spells u octets → unit_in octets ≡ Some u
+
+abbrev pub GrantsAreRead : Type 0
+GrantsAreRead = (g : Granted) (octets : List ℕ) → grants.SpellsGrant g octets → grant_in octets ≡ Some g

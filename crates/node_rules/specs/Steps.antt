@@ -20,8 +20,8 @@ use Rattle.node_rules.specs.declared.event.StepFault.TheVariants as faults
 use Rattle.node_rules.specs.declared.heard.Accepted.{Accepted}
 use Rattle.node_rules.specs.declared.heard.Path.{Path}
 use Rattle.node_rules.specs.declared.heard.Path.TheVariants as paths
-use Rattle.node_rules.specs.declared.refusal.CoordRefusal.{CoordRefusal}
-use Rattle.node_rules.specs.declared.refusal.CoordRefusal.TheVariants as orders
+use Rattle.node_rules.specs.declared.refusal.CoordinatorRefusal.{CoordinatorRefusal}
+use Rattle.node_rules.specs.declared.refusal.CoordinatorRefusal.TheVariants as orders
 use Rattle.node_rules.specs.declared.refusal.Dropped.TheVariants as drops
 use Rattle.node_rules.specs.declared.refusal.FrameRefusal.{FrameRefusal}
 use Rattle.node_rules.specs.declared.refusal.FrameRefusal.TheVariants as frames
@@ -37,9 +37,9 @@ use Rattle.node_rules.specs.Accepting.{accept, same_eui}
 use Rattle.node_rules.specs.Calls as calls
 use Rattle.node_rules.specs.Holding.{with_line, give_random}
 use Rattle.node_rules.specs.Meters as meters
-use Rattle.node_rules.specs.Coordinators as center
+use Rattle.node_rules.specs.Coordinators as coordinator_rules
 use Rattle.node_rules.specs.Opening.{memory_of, remembering, blank_line, first_grant}
-use Rattle.node_rules.specs.Answers.{Reception, Up, SentGrant, CompletedJoining, frame_word, sent_word, random_word, join_word, leave_word, ordered_word, meter_reception, center_reception}
+use Rattle.node_rules.specs.Answers.{Reception, Up, SentGrant, CompletedJoining, frame_word, sent_word, random_word, join_word, leave_word, ordered_word, meter_reception, coordinator_reception}
 use Rattle.node_rules.specs.Showing.{shown_of}
 use Rattle.node_rules.specs.Worlds.{Flight, World, node_at, flight_at, note_of, is_forged_frame, is_forged_tag, Handed, Admission, Happenings, Issued, Pairing, Deeds}
 
@@ -156,16 +156,16 @@ abbrev pub on_meter : World → ℕ → (Node → Step) → Step
 on_meter w number step = if number == 0 then Err faults.Node else on_node w number step
 
 -- what the coordinator does about a meter
-abbrev pub at_center : World → (Node → Step) → Step
-at_center w step = on_node w 0 step
+abbrev pub at_coordinator : World → (Node → Step) → Step
+at_coordinator w step = on_node w 0 step
 
 -- # coordinator, meter
 
 abbrev pub blank_node : Role → Eui → Node
 blank_node role eui = record { role = role; eui = eui; store = record { records = maps.empty; cut = None }; memory = Some (remembering blank_line []) }
 
-abbrev pub center_node : Eui → Key → Node
-center_node eui key = (acts (blank_node Coordinator eui) (Ok tt) (λ m. center.begin m (first_grant key))).node
+abbrev pub coordinator_node : Eui → Key → Node
+coordinator_node eui key = (acts (blank_node Coordinator eui) (Ok tt) (λ m. coordinator_rules.begin m (first_grant key))).node
 
 abbrev pub made_node : World → Node → World × Deeds
 made_node w x = (record (set_up w) { nodes = w.nodes ++ x ∷ [] }, deeds (happened w said.Made))
@@ -174,7 +174,7 @@ abbrev pub is_known : World → Eui → Bool
 is_known w eui = list_any (λ (x : Node). same_eui x.eui eui) w.nodes
 
 unfoldable pub coordinator : World → Eui → Key → Step
-coordinator w eui key = if has_begun w then Err faults.Setup else Ok (made_node w (center_node eui key))
+coordinator w eui key = if has_begun w then Err faults.Setup else Ok (made_node w (coordinator_node eui key))
 
 unfoldable pub meter : World → Eui → Key → Step
 meter w eui psk =
@@ -206,20 +206,20 @@ provisioned ciphers w number x g = (
   record (deeds (happened w said.Joined)) { issued = issued_by x.eui g },
 )
 
-abbrev pub depot_by : Ciphers → World → ℕ → Node → Did (Result Granted CoordRefusal) → Step
+abbrev pub depot_by : Ciphers → World → ℕ → Node → Did (Result Granted CoordinatorRefusal) → Step
 depot_by ciphers w number x d = by_answer d.answer
   where
-    by_answer : Result Granted CoordRefusal → Step
+    by_answer : Result Granted CoordinatorRefusal → Step
     by_answer (Ok g) = Ok (provisioned ciphers (told ciphers (set_up w) 0 d) number x g)
     by_answer (Err reason) = Err faults.Setup
 
 abbrev pub depot_at : Ciphers → World → ℕ → Node → Node → Step
 depot_at ciphers w number x c =
     if (number == 0) || is_some (node_address x) then Err faults.Setup
-    else option_map_or (λ psk. depot_by ciphers w number x (acts c (Err orders.Halted) (λ m. center.depot m x.eui psk))) (psk_of x) (Err faults.Setup)
+    else option_map_or (λ psk. depot_by ciphers w number x (acts c (Err orders.Halted) (λ m. coordinator_rules.depot m x.eui psk))) (psk_of x) (Err faults.Setup)
 
 unfoldable pub depot : Ciphers → World → ℕ → Step
-depot ciphers w number = in_setup w (on_node w number (λ x. at_center w (λ c. depot_at ciphers w number x c)))
+depot ciphers w number = in_setup w (on_node w number (λ x. at_coordinator w (λ c. depot_at ciphers w number x c)))
 
 -- # near
 
@@ -252,14 +252,14 @@ preset ciphers w number plan =
 
 -- # allow, rand, join, leave
 
-abbrev pub allowed_word : Result ℕ CoordRefusal → Answer
+abbrev pub allowed_word : Result ℕ CoordinatorRefusal → Answer
 allowed_word answer = ordered_word said.Allowed answer
 
-abbrev pub admission_by : ℕ → Result ℕ CoordRefusal → Option Admission
+abbrev pub admission_by : ℕ → Result ℕ CoordinatorRefusal → Option Admission
 admission_by number (Ok address) = Some (record { node = number; address = address })
 admission_by number (Err reason) = None
 
-abbrev pub allowed : Ciphers → World → ℕ → Did (Result ℕ CoordRefusal) → World × Deeds
+abbrev pub allowed : Ciphers → World → ℕ → Did (Result ℕ CoordinatorRefusal) → World × Deeds
 allowed ciphers w number d = (
   told ciphers (ran w) 0 d,
   deeds (record (happened w (allowed_word d.answer)) { grant = admission_by number d.answer }),
@@ -267,8 +267,8 @@ allowed ciphers w number d = (
 
 unfoldable pub allow : Ciphers → World → ℕ → Step
 allow ciphers w number =
-    once_begun w (on_meter w number (λ x. at_center w (λ c.
-    option_map_or (λ psk. Ok (allowed ciphers w number (acts c (Err orders.Halted) (λ m. center.allow m x.eui psk)))) (psk_of x) (Err faults.Node))))
+    once_begun w (on_meter w number (λ x. at_coordinator w (λ c.
+    option_map_or (λ psk. Ok (allowed ciphers w number (acts c (Err orders.Halted) (λ m. coordinator_rules.allow m x.eui psk)))) (psk_of x) (Err faults.Node))))
 
 unfoldable pub rand : Ciphers → World → ℕ → Rand → Step
 rand ciphers w number value =
@@ -339,7 +339,7 @@ abbrev pub hears : Ciphers → Node → Accepted → (cost note now : ℕ) → D
 hears ciphers x got cost note now = hears_by x.role
   where
     hears_by : Role → Did Reception
-    hears_by Coordinator = answering center_reception (acts x (Err drops.Store) (λ m. center.hear_coordinator (record { eui = x.eui; ciphers = ciphers }) m got cost note now))
+    hears_by Coordinator = answering coordinator_reception (acts x (Err drops.Store) (λ m. coordinator_rules.hear_coordinator (record { eui = x.eui; ciphers = ciphers }) m got cost note now))
     hears_by (Meter psk) = answering meter_reception (acts x (Err drops.Store) (λ m. meters.hear_meter (identity ciphers x psk) m got cost note now))
 
 -- the note of octets that a node accepted, and whether they are forged
@@ -439,7 +439,7 @@ abbrev pub ticked : ℕ → Node → Node
 ticked now x = record x { memory = option_map (tick_by x.role) x.memory }
   where
     tick_by : Role → Memory → Memory
-    tick_by Coordinator m = center.tick now m
+    tick_by Coordinator m = coordinator_rules.tick now m
     tick_by (Meter psk) m = meters.tick now m
 
 unfoldable pub tick : World → ℕ → Step
@@ -474,27 +474,27 @@ show w number = once_begun w (on_node w number (λ x. Ok (ran w, deeds (record (
 
 -- # rekey, challenge, activate, kick
 
-abbrev pub by_center : {A : Type 0} → Ciphers → World → Node → Answer → (Memory → Plan Memory (Result A CoordRefusal)) → World × Deeds
-by_center ciphers w c answer order = acted ciphers w 0 (answering (ordered_word answer) (acts c (Err orders.Halted) order))
+abbrev pub by_coordinator : {A : Type 0} → Ciphers → World → Node → Answer → (Memory → Plan Memory (Result A CoordinatorRefusal)) → World × Deeds
+by_coordinator ciphers w c answer order = acted ciphers w 0 (answering (ordered_word answer) (acts c (Err orders.Halted) order))
 
 unfoldable pub rekey : Ciphers → World → ℕ → Key → Step
-rekey ciphers w index key = once_begun w (at_center w (λ c. Ok (by_center ciphers w c said.Drawn (λ m. center.rekey m index key))))
+rekey ciphers w index key = once_begun w (at_coordinator w (λ c. Ok (by_coordinator ciphers w c said.Drawn (λ m. coordinator_rules.rekey m index key))))
 
 unfoldable pub challenge : Ciphers → World → ℕ → Step
 challenge ciphers w number =
-    once_begun w (on_meter w number (λ x. at_center w (λ c. Ok (by_center ciphers w c said.Challenged (λ m. center.challenge c.eui m x.eui w.clock)))))
+    once_begun w (on_meter w number (λ x. at_coordinator w (λ c. Ok (by_coordinator ciphers w c said.Challenged (λ m. coordinator_rules.challenge c.eui m x.eui w.clock)))))
 
 abbrev pub activate_at : Ciphers → World → ℕ → ℕ → Node → Node → World × Deeds
 activate_at ciphers w number index x c =
-    if number == 0 then by_center ciphers w c said.Activated (λ m. center.activate_self m index)
-    else by_center ciphers w c said.Ordered (λ m. center.activate m x.eui index w.clock)
+    if number == 0 then by_coordinator ciphers w c said.Activated (λ m. coordinator_rules.activate_self m index)
+    else by_coordinator ciphers w c said.Ordered (λ m. coordinator_rules.activate m x.eui index w.clock)
 
 unfoldable pub activate : Ciphers → World → ℕ → ℕ → Step
-activate ciphers w number index = once_begun w (on_node w number (λ x. at_center w (λ c. Ok (activate_at ciphers w number index x c))))
+activate ciphers w number index = once_begun w (on_node w number (λ x. at_coordinator w (λ c. Ok (activate_at ciphers w number index x c))))
 
 unfoldable pub kick : Ciphers → World → ℕ → Step
 kick ciphers w number =
-    once_begun w (on_meter w number (λ x. at_center w (λ c. Ok (by_center ciphers w c said.Kicked (λ m. center.kick m x.eui)))))
+    once_begun w (on_meter w number (λ x. at_coordinator w (λ c. Ok (by_coordinator ciphers w c said.Kicked (λ m. coordinator_rules.kick m x.eui)))))
 
 -- # All kinds
 

@@ -122,7 +122,7 @@ pub enum MeterHeard {
 
 /// What the coordinator made of a frame that it accepted.
 #[derive(Debug, Drop)]
-pub enum CoordHeard {
+pub enum CoordinatorHeard {
     /// What its station made of it.
     Line(Heard),
     /// A session is opened, and the meter is challenged.

@@ -1,5 +1,5 @@
 //! Laws of the rules: each carried by a function that does nothing.
-ghost use Rattle.node_rules.specs.Laws.{WritesFailCleanly, NoCutNoFailure, HaltedHasNoAddress, RinglessHasNoAddress, HaltedDoesNothing, AFrameRefusedChangesNothing, ADropChangesNothing, AMetersDropChangesNothing, ACentersDropChangesNothing, ASendRefusedChangesNothing, AJoinRefusedChangesNothing, AnOrderRefusedChangesNothing, HearingIsBounded, AMetersHearingIsBounded, ACentersHearingIsBounded, ASendIsBounded, AJoinIsBounded, AnOrderIsBounded, AcceptingOnlyMarks, StepsGoOn, MessagesAreRead, JoinsAreRead, UnitsAreRead};
+ghost use Rattle.node_rules.specs.Laws.{WritesFailCleanly, NoCutNoFailure, HaltedHasNoAddress, RinglessHasNoAddress, HaltedDoesNothing, AFrameRefusedChangesNothing, ADropChangesNothing, AMetersDropChangesNothing, ACoordinatorsDropChangesNothing, ASendRefusedChangesNothing, AJoinRefusedChangesNothing, AnOrderRefusedChangesNothing, HearingIsBounded, AMetersHearingIsBounded, ACoordinatorsHearingIsBounded, ASendIsBounded, AJoinIsBounded, AnOrderIsBounded, AcceptingOnlyMarks, StepsGoOn, MessagesAreRead, JoinsAreRead, UnitsAreRead, GrantsAreRead};
 
 /// Where the write of a plan fails, the writes in front of it are stored and those behind it are not; the failed one is stored as the
 /// loss of power says. The node answers the word of a failed write, and nothing is sent, made or kept in memory. A plan whose writes are
@@ -52,9 +52,9 @@ pub fn a_meters_drop_changes_nothing()
 {}
 
 /// A frame that the coordinator drops changes nothing of all that it holds in memory.
-#[tactic(auto, using(crate::proofs::Refusals::centers_drops))]
-pub fn a_centers_drop_changes_nothing()
-    ensures { ACentersDropChangesNothing }
+#[tactic(auto, using(crate::proofs::Refusals::coordinators_drops))]
+pub fn a_coordinators_drop_changes_nothing()
+    ensures { ACoordinatorsDropChangesNothing }
 {}
 
 /// A send of a datagram or a command that is refused changes nothing.
@@ -91,8 +91,8 @@ pub fn a_meters_hearing_is_bounded()
 /// The coordinator that hears a frame sends at most 24 frames, and stores in order: floors, a rank or a book entry, the own number,
 /// the counter.
 #[tactic(auto)]
-pub fn a_centers_hearing_is_bounded()
-    ensures { ACentersHearingIsBounded }
+pub fn a_coordinators_hearing_is_bounded()
+    ensures { ACoordinatorsHearingIsBounded }
 {}
 
 /// A send of a datagram or of a command sends at most 24 frames, and stores in order: the tag, the own number, the counter.
@@ -139,4 +139,9 @@ pub fn joins_are_read()
 /// The unit that is read out of octets is the one that they spell.
 pub fn units_are_read()
     ensures { UnitsAreRead }
+{}
+
+/// The grant that is read out of octets is the one that they spell.
+pub fn grants_are_read()
+    ensures { GrantsAreRead }
 {}

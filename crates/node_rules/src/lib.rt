@@ -11,18 +11,18 @@ mod refusal;
 mod runs;
 
 pub use event::{Answer, Event, LineOctets, StepFault};
-pub use heard::{Accepted, CoordHeard, Heard, MeterHeard, Path, SentHow, Way};
+pub use heard::{Accepted, CoordinatorHeard, Heard, MeterHeard, Path, SentHow, Way};
 pub use laws::{
-    a_centers_drop_changes_nothing, a_centers_hearing_is_bounded, a_drop_changes_nothing,
+    a_coordinators_drop_changes_nothing, a_coordinators_hearing_is_bounded, a_drop_changes_nothing,
     a_frame_refused_changes_nothing, a_join_is_bounded, a_join_refused_changes_nothing,
     a_meters_drop_changes_nothing, a_meters_hearing_is_bounded, a_send_is_bounded,
     a_send_refused_changes_nothing, accepting_only_marks, an_order_is_bounded,
-    an_order_refused_changes_nothing, halted_does_nothing, halted_has_no_address,
+    an_order_refused_changes_nothing, grants_are_read, halted_does_nothing, halted_has_no_address,
     hearing_is_bounded, joins_are_read, messages_are_read, no_cut_no_failure,
     ringless_has_no_address, steps_go_on, units_are_read, writes_fail_cleanly,
 };
 pub use refusal::{
-    CoordRefusal, Dropped, FrameRefusal, Halted, JoinRefusal, LeaveRefusal, PresetFault,
+    CoordinatorRefusal, Dropped, FrameRefusal, Halted, JoinRefusal, LeaveRefusal, PresetFault,
     RandomFault, SendRefusal,
 };
 pub use runs::{

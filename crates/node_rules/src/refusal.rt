@@ -182,7 +182,7 @@ pub enum LeaveRefusal {
 
 /// Why the coordinator refuses an order of its operator. Each order names those that it can meet, and the order of their tests.
 #[derive(Clone, Copy, Debug, PartialEq, Eq, Error)]
-pub enum CoordRefusal {
+pub enum CoordinatorRefusal {
     /// The node is halted.
     #[error("the node is halted")]
     Halted,

@@ -15,13 +15,13 @@ use Rattle.joining_messages.specs.Reading.{join_in}
 use Rattle.eap_psk.specs.declared.server.Server.{Server}
 use Rattle.node_rules.specs.declared.heard.Accepted.{Accepted}
 use Rattle.node_rules.specs.declared.heard.Heard.{Heard}
-use Rattle.node_rules.specs.declared.heard.CoordHeard.{CoordHeard}
-use Rattle.node_rules.specs.declared.heard.CoordHeard.TheVariants as heard
+use Rattle.node_rules.specs.declared.heard.CoordinatorHeard.{CoordinatorHeard}
+use Rattle.node_rules.specs.declared.heard.CoordinatorHeard.TheVariants as heard
 use Rattle.node_rules.specs.declared.heard.Way.{Way}
 use Rattle.node_rules.specs.declared.heard.Way.TheVariants.{Air, Near, Mesh}
 use Rattle.node_rules.specs.declared.refusal.Dropped.{Dropped}
 use Rattle.node_rules.specs.declared.refusal.Dropped.TheVariants as drops
-use Rattle.node_rules.specs.declared.refusal.CoordRefusal.TheVariants as refusal
+use Rattle.node_rules.specs.declared.refusal.CoordinatorRefusal.TheVariants as refusal
 use Rattle.node_rules.specs.Memory.{Line, Memory, CoordinatorSession, next_hop}
 use Rattle.node_rules.specs.Plans.{Plan}
 use Rattle.node_rules.specs.Doings.{counters_left, Doing, begun, refused, sealing, checked, choose}
@@ -47,7 +47,7 @@ module _ (own : CoordinatorIdentity) (m : Memory) where
   passed : (fault : Option Dropped) (p : Hearing) → IsRule p → IsRule (checked dropped m fault p)
   passed fault p s = checked_shape in_memory dropped m (IsDone m.line) fault p s
 
-  ended : (d : Doing Memory) (answer : CoordHeard) → IsDone m.line d → IsRule (ends m d answer)
+  ended : (d : Doing Memory) (answer : CoordinatorHeard) → IsDone m.line d → IsRule (ends m d answer)
   ended d answer done = sealed_shape in_memory dropped m (IsDone m.line) d answer done
 
   by_option : {X : Type 0} (f : X → Hearing) (o : Option X) (p : Hearing) → ((y : X) → IsRule (f y)) → IsRule p → IsRule (option_map_or f o p)
@@ -113,8 +113,8 @@ module _ (own : CoordinatorIdentity) (m : Memory) where
   heard_by_shape now p None s = within_shape heard.Line m p s
   heard_by_shape now p (Some u) s = join_in_shape u.way (join_in u.body) now
 
-  pub center_shape : (got : Accepted) (cost note now : ℕ) → MemoryShape dropped m (hear_coordinator own m got cost note now)
-  center_shape got cost note now =
+  pub coordinator_shape : (got : Accepted) (cost note now : ℕ) → MemoryShape dropped m (hear_coordinator own m got cost note now)
+  coordinator_shape got cost note now =
       let p = station.hear m.line got cost note now in heard_by_shape now p (unread p.answer) (hear_shape m.line got cost note now)
 
   -- # Orders
@@ -135,8 +135,8 @@ module _ (own : CoordinatorIdentity) (m : Memory) where
       by_change true = remembered_fits m.line _ _ (entered_fits m.line e _ (begun_fits m.line 1 m))
       by_change false = begun_fits m.line 1 m
 
-  told_off_done : (to : ℕ) (join : JoinMessage) (d : Doing Memory) → Fits m.line 0 1 d → IsDone m.line (kick_goes m to join d)
-  told_off_done to join d f = by_route (is_some (next_hop m.line to) && nat_lt 0 (counters_left m.line))
+  kick_goes_done : (to : ℕ) (join : JoinMessage) (d : Doing Memory) → Fits m.line 0 1 d → IsDone m.line (kick_goes m to join d)
+  kick_goes_done to join d f = by_route (is_some (next_hop m.line to) && nat_lt 0 (counters_left m.line))
     where
       by_route : (b : Bool) → IsDone m.line (if b then is_commanded to join 0 d else d)
       by_route true = commanded_done m.line to join 0 d f
@@ -179,7 +179,7 @@ module _ (own : CoordinatorIdentity) (m : Memory) where
   kick_by_shape : (e : BookEntry) (to : ℕ) → MemoryShape orders m (kick_by m e to)
   kick_by_shape e to = sealing_shape in_memory orders m (IsDone m.line)
       (kick_goes m to (message e.eui body.Kick) (remembered (without_session e.eui) (entered (book.kicked_entry e.eui e) (begun m)))) tt
-      (told_off_done to _ _ (remembered_fits m.line _ _ (entered_fits m.line _ _ (begun_fits m.line 1 m))))
+      (kick_goes_done to _ _ (remembered_fits m.line _ _ (entered_fits m.line _ _ (begun_fits m.line 1 m))))
 
   pub kick_shape : (eui : Eui) → MemoryShape orders m (kick m eui)
   kick_shape eui = by_part (λ e. option_map_or (kick_by m e) (book.address_of m.book eui) (refused orders m refusal.NotAllowed)) (allowed_entry m eui) (refused orders m refusal.NotAllowed)
