@@ -4,7 +4,7 @@ use Rattle.byteorder.specs.Endian.{big_bytes}
 use Rattle.plc_base.specs.declared.key.Key.{Key}
 use Rattle.plc_base.specs.declared.key.Rand.{Rand as RandomValue}
 use Rattle.mesh_header.specs.declared.unit.Unit.TheVariants.{Whole, Local}
-use Rattle.loadng_messages.specs.declared.message.Message.TheVariants.{Rreq}
+use Rattle.loadng_messages.specs.declared.message.Message.TheVariants.{Rreq, Rerr}
 use Rattle.loadng_messages.specs.Grammar as messages
 use Rattle.node_rules.specs.declared.event.Answer.TheVariants as said
 use Rattle.node_rules.specs.declared.event.Event.{Event}
@@ -48,12 +48,19 @@ discovery =
     four_meters
     ++ (Send 1 4 (0xaa ∷ []) ∷ Deliver 1 2 2 ∷ Deliver 1 3 3 ∷ Deliver 2 4 3 ∷ Deliver 3 4 4 ∷ Deliver 4 2 3 ∷ Deliver 5 1 2 ∷ Deliver 6 2 2 ∷ Deliver 7 4 3 ∷ [])
 
--- the cheaper way is answered, the dearer one is refused, and what waited is handed up
+-- the route ends, and is sought anew
+abbrev pub sought_anew : List Event
+sought_anew = discovery ++ (Break 1 2 ∷ Send 1 4 (0xbb ∷ []) ∷ [])
+
+-- the cheaper way is answered, the dearer one is refused, and what waited is handed up; it waits no more, so that the next datagram seeks
+-- the route again
 abbrev pub DiscoveryOverTwoRelays : Type 0
 DiscoveryOverTwoRelays =
     (answers_after 9 discovery ≡ said.Waiting ∷ said.Relayed ∷ said.Relayed ∷ said.Answered ∷ said.NotBetter ∷ said.Relayed ∷ said.Learned ∷ said.Relayed ∷ said.Up ∷ [])
     × (handed_at_last (run plain start discovery) ≡ Some (record { node = 4; note = 1; octets = 0xaa ∷ [] }))
     × (counts_of discovery ≡ record { events = 18; flights = 7; sends = 1; ups = 1; forged = 0 })
+    × (answers_after 18 sought_anew ≡ said.Broken ∷ said.Waiting ∷ [])
+    × (counts_of sought_anew ≡ record { events = 20; flights = 8; sends = 2; ups = 1; forged = 0 })
 
 -- # A broken route stays broken
 
@@ -148,12 +155,23 @@ said_of code n rest = 0x40 ∷ 0x02 ∷ code ∷ big_bytes 8 n ++ rest
 abbrev pub sealed_frame : ℕ → ℕ → List ℕ
 sealed_frame to index = 0x69 ∷ 0x98 ∷ 0x00 ∷ 0x1d ∷ 0x78 ∷ to ∷ 0x00 ∷ 0x00 ∷ 0x00 ∷ 0x0d ∷ 0x00 ∷ 0x00 ∷ 0x00 ∷ 0x00 ∷ index ∷ replicate 4 0
 
+-- a sealed frame of another network
+abbrev pub frame_of_another_network : List ℕ
+frame_of_another_network = 0x69 ∷ 0x98 ∷ 0x00 ∷ 0x1e ∷ 0x78 ∷ 0x01 ∷ 0x00 ∷ 0x00 ∷ 0x00 ∷ 0x0d ∷ 0x00 ∷ 0x00 ∷ 0x00 ∷ 0x00 ∷ 0x00 ∷ replicate 4 0
+
+-- a route error to all, sealed by nobody
+abbrev pub error_to_all : List ℕ
+error_to_all =
+    (spelled plain (Sealed (record { to = 0xFFFF; from = 2; counter = 9; index = 0; key = group_key; unit = Local 1 (messages.spelling (Rerr 2 1)); note = 0 }))).octets
+
 abbrev pub malicious : List Event
 malicious =
     Coordinator (eui 1) group_key ∷ Meter (eui 2) pair_key ∷ Meter (eui 3) pair_key ∷ Depot 1 ∷ Join 2 1
     ∷ Inject 1 1 (0 ∷ [])
     ∷ Inject 1 1 (sealed_frame 1 1)
     ∷ Inject 1 1 (sealed_frame 2 0)
+    ∷ Inject 1 1 frame_of_another_network
+    ∷ Inject 1 1 error_to_all
     ∷ Inject 1 1 (up_frame 1 3 (said_of 1 4 []))
     ∷ Inject 1 1 (up_frame 1 3 (said_of 1 3 []))
     ∷ Inject 2 1 (down_frame 3 1 (said_of 5 3 []))
@@ -172,9 +190,9 @@ malicious =
 abbrev pub MaliciousFramesAreRefused : Type 0
 MaliciousFramesAreRefused =
     (answers_after 5 malicious
-    ≡ said.Malformed ∷ said.NoKey ∷ said.NotForMe ∷ said.BadUnit ∷ said.Carried ∷ said.BadUnit ∷ said.NoSession ∷ said.Form ∷ said.Declined ∷ said.NoSession
+    ≡ said.Malformed ∷ said.NoKey ∷ said.NotForMe ∷ said.NotForMe ∷ said.BadUnit ∷ said.BadUnit ∷ said.Carried ∷ said.BadUnit ∷ said.NoSession ∷ said.Form ∷ said.Declined ∷ said.NoSession
     ∷ said.Declined ∷ said.NotAllowed ∷ said.NoSession ∷ said.NoRandom ∷ said.BadUnit ∷ [])
-    × (counts_of malicious ≡ record { events = 20; flights = 3; sends = 0; ups = 0; forged = 0 })
+    × (counts_of malicious ≡ record { events = 22; flights = 3; sends = 0; ups = 0; forged = 1 })
 
 -- # Rotation and kick
 
@@ -219,7 +237,11 @@ asking = Coordinator (eui 1) group_key ∷ Meter (eui 2) pair_key ∷ Allow 1 �
 abbrev pub joining : List Event
 joining = asking ++ (Deliver 1 0 1 ∷ Deliver 2 1 1 ∷ Deliver 3 0 1 ∷ Deliver 4 1 1 ∷ Deliver 5 0 1 ∷ Deliver 6 1 1 ∷ [])
 
--- both ends come to an end, and the meter has its address
+-- the fourth packet comes again, and the meter is told which key seals
+abbrev pub joined : List Event
+joined = joining ++ (Deliver 5 0 1 ∷ Activate 1 0 ∷ [])
+
+-- both ends come to an end, and the meter has its address; its session is over, and the keys of its grant are known as issued
 abbrev pub AMeterJoinsOverTheAir : Type 0
 AMeterJoinsOverTheAir =
     (answers_after 2 joining
@@ -228,6 +250,7 @@ AMeterJoinsOverTheAir =
     × (takers (run plain start joining) ≡ 1 ∷ [])
     × (doers (run plain start joining) ≡ 1 ∷ [])
     × (counts_of joining ≡ record { events = 12; flights = 6; sends = 0; ups = 0; forged = 0 })
+    × (answers_after 12 joined ≡ said.NoSession ∷ said.Ordered ∷ [])
 
 -- a third packet of an earlier session
 abbrev pub joining_again : List Event
@@ -277,11 +300,12 @@ named_joining =
     Coordinator (record { 0 = big_bytes 8 0xaabbccddeeff0011 }) group_key ∷ Meter (record { 0 = big_bytes 8 0x0102030405060708 }) pair_key ∷ Allow 1 ∷ Rand 0 rand_k ∷ Rand 1 rand_r
     ∷ Join 1 0 ∷ Deliver 1 0 1 ∷ Deliver 2 1 1 ∷ Deliver 3 0 1 ∷ Deliver 4 1 1 ∷ Deliver 5 0 1 ∷ Deliver 6 1 1 ∷ []
 
--- a sealed frame's header and unit, and the plain frames that ask, challenge and accept
+-- a sealed frame's header and unit, the same behind a relay, with one hop less, and the plain frames that ask, challenge and accept
 abbrev pub FramesAreSpelled : Type 0
 FramesAreSpelled =
     (octets_of one_hop 1
     ≡ Some (big_bytes 15 0x6998001d7802000100_0d0000000000 ++ (big_bytes 11 0xbe000100024148656c6c6f ++ big_bytes 4 0x00010203)))
+    × (octets_of discovery 7 ≡ Some (big_bytes 15 0x6998021d78040002000d0200000000 ++ (big_bytes 7 0xbd0001000441aa ++ big_bytes 4 0x00010203)))
     × (octets_of named_joining 1 ≡ Some (big_bytes 18 0x61d8001d7800000807060504030201400201 ++ big_bytes 8 0x0102030405060708))
     × (octets_of named_joining 2
     ≡ Some (big_bytes 18 0x619c001d7808070605040302010000400203 ++ (big_bytes 8 0x0102030405060708 ++ (big_bytes 6 0x0101001e2f00 ++ (group_key.0 ++ big_bytes 8 0xaabbccddeeff0011)))))
