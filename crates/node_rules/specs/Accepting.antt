@@ -21,6 +21,7 @@ use Rattle.node_rules.specs.Frames.{Arrived, to_all}
 use Rattle.node_rules.specs.Memory.{Line, address_of}
 use Rattle.node_rules.specs.Plans.{Plan, resting}
 
+-- what a node does about octets that came
 abbrev pub Accepting : Type 0
 Accepting = Plan Line (Result Accepted FrameRefusal)
 
@@ -39,6 +40,7 @@ is_for_me l own (heads.Sealed ack seq pan to from counter index) = (pan == PAN) 
 is_for_me l own (heads.Up ack version seq pan to from) = (pan == PAN) && (is_own l to && not (same_eui own from))
 is_for_me l own (heads.Down ack version seq pan to from) = (pan == PAN) && (same_eui own to && not (is_own l from))
 
+-- the octets are refused, and nothing changes
 abbrev pub refuse : Line → FrameRefusal → Accepting
 refuse l reason = resting l (Err reason) (Err Store)
 
@@ -60,6 +62,7 @@ marking l from counter accepted = record {
   opened = [];
 }
 
+-- what the marks say decides
 abbrev pub admitted : Line → ℕ → ℕ → Accepted → Result (Unit {0}) PeerFault → Accepting
 admitted l from counter accepted (Ok u) = marking l from counter accepted
 admitted l from counter accepted (Err fault) = refuse l (mark_refusal fault)
@@ -74,6 +77,7 @@ open_sealed l to from counter key None = refuse l BadTag
 open_sealed l to from counter key (Some payload) =
     admit l from counter (record { path = paths.Sealed from (to == to_all) key; payload = payload })
 
+-- a sealed frame, with the key that the ring has at its index
 abbrev pub with_key : Line → Arrived → (to from counter : ℕ) → Option Key → Accepting
 with_key l a to from counter None = refuse l NoKey
 with_key l a to from counter (Some key) = open_sealed l to from counter key (a.opened key)

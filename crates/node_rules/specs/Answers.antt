@@ -30,6 +30,7 @@ use Rattle.node_rules.specs.declared.heard.CoordinatorHeard.TheVariants as coord
 
 -- # Refusals
 
+-- the word of a frame that was refused
 abbrev pub frame_word : FrameRefusal → Answer
 frame_word frames.Halted = said.Halted
 frame_word frames.Malformed = said.Malformed
@@ -40,6 +41,7 @@ frame_word frames.Replayed = said.Replayed
 frame_word frames.PeersFull = said.PeersFull
 frame_word frames.Store = said.Store
 
+-- the word of a frame that was accepted and dropped
 abbrev pub drop_word : Dropped → Answer
 drop_word drops.BadUnit = said.BadUnit
 drop_word drops.NoRoute = said.NoRoute
@@ -62,6 +64,7 @@ drop_word drops.SeqSpent = said.SeqSpent
 drop_word drops.CounterSpent = said.CounterSpent
 drop_word drops.Store = said.Store
 
+-- the word of a send that was refused
 abbrev pub send_word : SendRefusal → Answer
 send_word sends.Halted = said.Halted
 send_word sends.NotJoined = said.NotJoined
@@ -72,6 +75,7 @@ send_word sends.SeqSpent = said.SeqSpent
 send_word sends.CounterSpent = said.CounterSpent
 send_word sends.Store = said.Store
 
+-- the word of an order that was refused
 abbrev pub order_word : CoordinatorRefusal → Answer
 order_word orders.Halted = said.Halted
 order_word orders.MetersFull = said.MetersFull
@@ -88,21 +92,25 @@ order_word orders.Store = said.Store
 
 -- # Answers of calls
 
+-- the word of a send
 abbrev pub sent_word : Result SentHow SendRefusal → Answer
 sent_word (Ok how.Sent) = said.Sent
 sent_word (Ok how.Waiting) = said.Waiting
 sent_word (Err reason) = send_word reason
 
+-- the word of a random value that was given
 abbrev pub random_word : Result (Unit {0}) RandomFault → Answer
 random_word (Ok u) = said.Given
 random_word (Err randoms.Halted) = said.Halted
 random_word (Err randoms.RandomsFull) = said.RandomsFull
 
+-- the word of a meter that was told to join
 abbrev pub join_word : Result (Unit {0}) JoinRefusal → Answer
 join_word (Ok u) = said.Asked
 join_word (Err joins.Halted) = said.Halted
 join_word (Err joins.AlreadyJoined) = said.AlreadyJoined
 
+-- the word of a meter that was told to leave
 abbrev pub leave_word : Result (Unit {0}) LeaveRefusal → Answer
 leave_word (Ok u) = said.Left
 leave_word (Err leaves.Halted) = said.Halted
@@ -126,10 +134,12 @@ pub record SentGrant : Type 0 where
   pub eui : Eui
   pub granted : Granted
 
+-- A joining that came to its end at the coordinator: the meter's EUI, and the random values that both ends agreed on.
 pub record CompletedJoining : Type 0 where
   pub eui : Eui
   pub agreed : Agreed
 
+-- What a node made of a frame: its word, and what the report and the history have of it beside that.
 pub record Reception : Type 0 where
   pub answer : Answer
   pub up : Option Up
@@ -137,6 +147,7 @@ pub record Reception : Type 0 where
   pub took : Option Agreed
   pub done : Option CompletedJoining
 
+-- a word and nothing beside it
 abbrev pub only : Answer → Reception
 only answer = record { answer = answer; up = None; keyed = None; took = None; done = None }
 
@@ -152,6 +163,7 @@ line_reception line.Reported = only said.Reported
 line_reception (line.Joining way body) = only said.BadUnit
 line_reception (line.Local from all code body) = only said.BadUnit
 
+-- what a meter made of a frame
 abbrev pub meter_reception : Result MeterHeard Dropped → Reception
 meter_reception (Ok (meter.Line h)) = line_reception h
 meter_reception (Ok meter.Carried) = only said.Carried
@@ -163,6 +175,7 @@ meter_reception (Ok meter.Left) = only said.Left
 meter_reception (Ok meter.Activated) = only said.Activated
 meter_reception (Err reason) = only (drop_word reason)
 
+-- what the coordinator made of a frame
 abbrev pub coordinator_reception : Result CoordinatorHeard Dropped → Reception
 coordinator_reception (Ok (coordinator_heard.Line h)) = line_reception h
 coordinator_reception (Ok coordinator_heard.Challenged) = only said.Challenged

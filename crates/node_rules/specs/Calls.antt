@@ -27,12 +27,15 @@ use Rattle.node_rules.specs.Doings.{Doing, Ends, Lack, OfRoom, OfNumbers, alone,
 
 -- # Sending
 
+-- what a node does about a body that is to go to an address
 abbrev pub Sending : Type 0
 Sending = Plan Line (Result SentHow SendRefusal)
 
+-- how its words say that counters are spent, and that a store write failed
 abbrev pub sending_ends : Ends SendRefusal
 sending_ends = record { spent = CounterSpent; store = Store }
 
+-- how they say what a body lacks
 abbrev pub lacking : Lack → SendRefusal
 lacking OfRoom = WaitingFull
 lacking OfNumbers = SeqSpent
@@ -45,12 +48,14 @@ how l to = if is_some (next_hop l to) then Sent else Waiting
 abbrev pub tag_taken : List ℕ → Doing Line → Doing Line
 tag_taken octets d = if nat_le (length octets) 375 then d else tagged d
 
+-- what is wrong with a datagram for an address, in the order of the refusals
 abbrev pub send_fault : Line → ℕ → List ℕ → Option SendRefusal
 send_fault l to datagram =
     Some BadSize when ((length datagram == 0) || nat_lt 1280 (length datagram))
     then Some ToSelf when is_own l to
     then option_map lacking (lack l to (length datagram))
 
+-- a datagram sets out from the own address
 abbrev pub send_from : Line → ℕ → ℕ → List ℕ → (note now : ℕ) → Sending
 send_from l own to datagram note now =
     checked sending_ends l (send_fault l to datagram)
@@ -60,6 +65,7 @@ send_from l own to datagram note now =
 abbrev pub send : Line → ℕ → List ℕ → (note now : ℕ) → Sending
 send l to datagram note now = option_map_or (λ own. send_from l own to datagram note now) (address_of l) (refused sending_ends l NotJoined)
 
+-- a command sets out from the own address
 abbrev pub command_from : Line → ℕ → ℕ → List ℕ → ℕ → Sending
 command_from l own to octets now =
     checked sending_ends l (option_map lacking (lack l to (length octets)))
@@ -73,6 +79,7 @@ send_command l to octets now = option_map_or (λ own. command_from l own to octe
 abbrev pub command_frames : Line → ℕ → ℕ
 command_frames l to = if is_some (next_hop l to) then 1 else (if is_awaited l to then 0 else 1)
 
+-- what a command of so many octets lacks, its counters among it
 abbrev pub room_fault : Line → ℕ → ℕ → Option SendRefusal
 room_fault l to octets =
     option_map lacking (lack l to octets)
@@ -102,9 +109,11 @@ tick now l = record l {
 
 -- # The ring
 
+-- what a node does about its ring
 abbrev pub Ringing : Type 0
 Ringing = Plan Line (Result (Unit {0}) RingFault)
 
+-- a ring takes no counter, so one word serves for both
 abbrev pub ringing_ends : Ends RingFault
 ringing_ends = record { spent = ring_faults.Store; store = ring_faults.Store }
 
@@ -133,14 +142,17 @@ idled l = record l { routing = routing.at_rest l.routing; reassemblies = []; wai
 abbrev pub leaving : Line → Doing Line
 leaving l = ringed None (begun (idled l))
 
+-- the ring goes, and with it what hangs on the address
 abbrev pub leave : Line → Ringing
 leave l = ring_ends (leaving l)
 
 -- # Settings of the workshop
 
+-- what a node does about a value that the setup gives it
 abbrev pub Presetting : Type 0
 Presetting = Plan Line (Result (Unit {0}) PresetFault)
 
+-- a value takes no counter, so one word serves for both
 abbrev pub presetting_ends : Ends PresetFault
 presetting_ends = record { spent = presets.Store; store = presets.Store }
 
@@ -162,6 +174,7 @@ preset_number l value = record (resting l (Ok tt) (Err presets.Store)) {
 abbrev pub near_rank : ℕ → Rank
 near_rank cost = record { number = 1; cost = cost }
 
+-- what is wrong with a neighbour that the setup gives
 abbrev pub preset_fault : Line → ℕ → ℕ → ℕ → Option PresetFault
 preset_fault l to cost now =
     Some presets.NotBetter when not (routing.is_better l.routing to (near_rank cost))

@@ -39,9 +39,11 @@ pub record Ciphers : Type 0 where
 
 -- # Frames: CCM* with tags of 4 octets, under the nonce of the head, over all octets before the body
 
+-- the payload under the key and the nonce of its head, and the four octets of the tag over header and payload
 abbrev pub sealed_with_ccm : Key → MacHead → List ℕ → List ℕ
 sealed_with_ccm key head payload = ccm_text key.0 (nonce_of head) payload ++ ccm_tag 4 key.0 (nonce_of head) (header head) payload
 
+-- the payload where the tag is right
 abbrev pub opened_with_ccm : Key → MacHead → List ℕ → List ℕ → Option (List ℕ)
 opened_with_ccm key head front body =
     if bytes_eq (sealed_tag body) (ccm_tag 4 key.0 (nonce_of head) front (payload_in key.0 head body))
@@ -54,15 +56,18 @@ abbrev pub second_packet : Key → ℕ → Peer → List ℕ
 second_packet psk identifier peer =
     packets.head 2 identifier 62 1 peer.rand_s.0 ++ (peer.rand_p.0 ++ (mac_p (keys_of psk.0).ak peer.eui.0 peer.id_s.0 peer.rand_s.0 peer.rand_p.0 ++ peer.eui.0))
 
+-- the key of the protected channel of a session
 abbrev pub tek_of : Key → Rand → List ℕ
 tek_of psk rand_p = transient_key (keys_of psk.0).kdk rand_p.0
 
+-- the third packet: its head, MAC_S, and the grant in the protected channel
 abbrev pub third_packet : Key → Server → Rand → Granted → List ℕ
 third_packet psk server rand_p granted =
     let text = packets.granting_text granted in
     let head = packets.third_head 2 server.rand_s.0 (length text) in
     head ++ (mac_s (keys_of psk.0).ak server.id_s.0 rand_p.0 ++ channel (tek_of psk rand_p) 0 head text)
 
+-- the grant in the channel of the third packet, behind the flags and the type of the extension
 abbrev pub grant_of : Key → Peer → List ℕ → Option Granted
 grant_of psk peer packet = grant_in (after 2 (channel_text (tek_of psk peer.rand_p) 0 (after 58 packet)))
 
@@ -73,6 +78,7 @@ fourth_packet psk identifier peer =
 
 -- # The network's
 
+-- the ciphers of the network
 abbrev pub network : Ciphers
 network = record {
   seals = sealed_with_ccm;

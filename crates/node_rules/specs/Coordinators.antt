@@ -41,6 +41,7 @@ use Rattle.node_rules.specs.Joining.{first_packet, server_for, rand_p_in, server
 use Rattle.node_rules.specs.Holding.{with_line, in_memory, on_line, remembered, tagged_with, goes_down, is_commanded, command_lack, oldest, without_oldest, Unread, unread, packet_fault}
 use Rattle.node_rules.specs.Doings as doings
 
+-- what the coordinator does about a frame that was accepted
 abbrev pub Hearing : Type 0
 Hearing = Plan Memory (Result CoordinatorHeard Dropped)
 
@@ -49,17 +50,21 @@ pub record CoordinatorIdentity : Type 0 where
   pub eui : Eui
   pub ciphers : Ciphers
 
+-- nothing has changed
 abbrev pub drop_it : Memory → Dropped → Hearing
 drop_it m reason = refused dropped m reason
 
+-- the doing is carried to its end
 abbrev pub ends : Memory → Doing Memory → CoordinatorHeard → Hearing
 ends m d answer = sealed in_memory dropped m d answer
 
 -- # Sessions
 
+-- whether a session is that of a meter
 abbrev pub is_of : Eui → CoordinatorSession → Bool
 is_of eui s = same_eui s.server.eui eui
 
+-- the session of a meter, where one is open
 abbrev pub session_of : Memory → Eui → Option CoordinatorSession
 session_of m eui = option_and_then (slice_get m.sessions) (position (is_of eui) m.sessions)
 
@@ -102,6 +107,7 @@ says (Air eui) join now d = goes_down 0 join d
 says (Near agent) join now d = d
 says (Mesh origin) join now d = is_commanded origin join now d
 
+-- what the message lacks: only a command lacks anything
 abbrev pub say_lack : Memory → Way → JoinMessage → Option Dropped
 say_lack m (Air eui) join = None
 say_lack m (Near agent) join = None
@@ -121,17 +127,20 @@ session_fault m eui = Some drops.SessionsFull when sessions_full m eui
 abbrev pub opens : CoordinatorSession → Doing Memory → Doing Memory
 opens s d = remembered (λ n. with_session s (without_oldest n)) d
 
+-- the first packet goes to the meter
 abbrev pub challenges : Memory → Way → Server → ℕ → Hearing
 challenges m way server now =
     let join = message server.eui (body.Challenge (first_packet server)) in
     checked dropped m (say_lack m way join)
     (ends m (says way join now (opens (record { server = server; way = way; since = now }) (begun m))) heard.Challenged)
 
+-- a session is opened where there is room for it and a random value is left
 abbrev pub open_session : CoordinatorIdentity → Memory → Way → Eui → ℕ → Hearing
 open_session own m way eui now =
     checked dropped m (session_fault m eui)
     (option_map_or (λ value. challenges m way (server_for eui own.eui value) now) (oldest m) (drop_it m drops.NoRandom))
 
+-- a meter asks: the allowed one is challenged, the other one declined
 abbrev pub asked : CoordinatorIdentity → Memory → Way → Eui → ℕ → Hearing
 asked own m way eui now =
     choose (book.is_allowed m.book eui) (open_session own m way eui now) (declines m way (message eui body.Decline) now)
@@ -151,6 +160,7 @@ keys_for own m s e rand_p granted now =
     (remembered (with_session (record s { server = record s.server { rand_p = Some rand_p } })) (begun m)))))
     (heard.Keyed s.server.eui granted))
 
+-- the second packet is refused by its first fault, and answered with the keys else
 abbrev pub take_second : CoordinatorIdentity → Memory → CoordinatorSession → BookEntry → List ℕ → ℕ → Hearing
 take_second own m s e packet now =
     checked dropped m (option_map packet_fault (own.ciphers.second_fault e.psk s.server packet))
@@ -167,13 +177,16 @@ accepts m s rand_p now =
     (remembered (without_session s.server.eui) (begun m))))
     (heard.Done s.server.eui (server_agrees s.server rand_p)))
 
+-- the fourth packet is refused by its first fault, and accepted else
 abbrev pub take_fourth : CoordinatorIdentity → Memory → CoordinatorSession → BookEntry → List ℕ → Rand → ℕ → Hearing
 take_fourth own m s e packet rand_p now =
     checked dropped m (option_map packet_fault (own.ciphers.fourth_fault e.psk s.server rand_p packet)) (accepts m s rand_p now)
 
+-- a session that has RAND_P waits for the fourth packet, another one for the second
 abbrev pub take_packet : CoordinatorIdentity → Memory → BookEntry → List ℕ → ℕ → CoordinatorSession → Hearing
 take_packet own m e packet now s = option_map_or (λ rand_p. take_fourth own m s e packet rand_p now) s.server.rand_p (take_second own m s e packet now)
 
+-- a packet comes from a meter that is allowed and has a session
 abbrev pub answered : CoordinatorIdentity → Memory → Eui → List ℕ → ℕ → Hearing
 answered own m eui packet now =
     option_map_or (λ e. option_map_or (take_packet own m e packet now) (session_of m eui) (drop_it m drops.NoSession)) (allowed_entry m eui) (drop_it m drops.NotAllowed)
@@ -186,21 +199,25 @@ may_come (Air from) eui = same_eui from eui
 may_come (Near agent) eui = false
 may_come (Mesh origin) eui = true
 
+-- a JOIN asks or answers, and the coordinator hears no other message
 abbrev pub hear_join : CoordinatorIdentity → Memory → Way → Eui → JoinBody → ℕ → Hearing
 hear_join own m way eui (body.Join []) now = asked own m way eui now
 hear_join own m way eui (body.Join (x ∷ packet)) now = answered own m eui (x ∷ packet) now
 hear_join own m way eui _ now = drop_it m drops.BadUnit
 
+-- octets that spell no joining message are dropped
 abbrev pub hear_join_in : CoordinatorIdentity → Memory → Way → Option JoinMessage → ℕ → Hearing
 hear_join_in own m way None now = drop_it m drops.BadUnit
 hear_join_in own m way (Some join) now = choose (may_come way join.eui) (hear_join own m way join.eui join.body now) (drop_it m drops.BadUnit)
 
 -- # A frame that was accepted
 
+-- what the line made of a frame, as the coordinator says it
 abbrev pub on_station : Result Heard Dropped → Result CoordinatorHeard Dropped
 on_station (Ok h) = Ok (heard.Line h)
 on_station (Err reason) = Err reason
 
+-- a joining command is for the coordinator, all else is what the line made of it
 abbrev pub heard_by : CoordinatorIdentity → Memory → ℕ → Plan Line (Result Heard Dropped) → Option Unread → Hearing
 heard_by own m now p None = within (λ l. with_line l m) on_station p
 heard_by own m now p (Some u) = hear_join_in own m u.way (join_in u.body) now
@@ -219,12 +236,15 @@ begin m granted =
 
 -- # Orders of the operator
 
+-- what the coordinator does about an order
 abbrev pub Ordering : Type 0 → Type 0
 Ordering A = Plan Memory (Result A CoordinatorRefusal)
 
+-- how the words of an order say that counters are spent, and that a store write failed
 abbrev pub orders : Ends CoordinatorRefusal
 orders = record { spent = refusal.CounterSpent; store = refusal.Store }
 
+-- how they say what a body lacks
 abbrev pub lacking : Lack → CoordinatorRefusal
 lacking OfRoom = refusal.WaitingFull
 lacking OfNumbers = refusal.SeqSpent
@@ -254,6 +274,7 @@ depot_by m eui psk d =
     option_map_or (λ granted. option_map_or (λ e. sealing in_memory orders (entered (book.issued_entry eui granted e) d) granted) (book.allowed_one d.memory.book eui) (refused orders m refusal.MetersFull))
     (grant_for d.memory eui) (refused orders m refusal.MetersFull)
 
+-- there has to be room in the book
 abbrev pub depot : Memory → Eui → Key → Ordering Granted
 depot m eui psk =
     choose (book.has_room m.book eui)
@@ -280,6 +301,7 @@ challenge_by own m to now server =
     checked orders m (order_lack m to join)
     (sealed in_memory orders m (is_commanded to join now (opens (record { server = server; way = Mesh to; since = now }) (begun m))) tt)
 
+-- a session is opened where there is room for it and a random value is left
 abbrev pub challenge_at : Eui → Memory → Eui → ℕ → ℕ → Ordering (Unit {0})
 challenge_at own m eui now to =
     checked orders m (Some refusal.SessionsFull when sessions_full m eui)
@@ -289,6 +311,7 @@ challenge_at own m eui now to =
 abbrev pub allowed_address : Memory → Eui → Option ℕ
 allowed_address m eui = if book.is_allowed m.book eui then book.address_of m.book eui else None
 
+-- the meter has to be allowed
 abbrev pub challenge : Eui → Memory → Eui → ℕ → Ordering (Unit {0})
 challenge own m eui now = option_map_or (challenge_at own m eui now) (allowed_address m eui) (refused orders m refusal.NotAllowed)
 
@@ -298,6 +321,7 @@ same_as_issued None issued = false
 same_as_issued (Some key) None = false
 same_as_issued (Some key) (Some issued) = book.same_key key issued
 
+-- whether the ring's key at an index is the one that was issued to a meter
 abbrev pub was_issued : Memory → BookEntry → ℕ → Bool
 was_issued m e index = same_as_issued (ring.key_in_ring m.line.ring index) (book.issued_at e index)
 
@@ -305,10 +329,12 @@ was_issued m e index = same_as_issued (ring.key_in_ring m.line.ring index) (book
 abbrev pub activate_at : Memory → ℕ → JoinMessage → ℕ → Ordering (Unit {0})
 activate_at m to join now = checked orders m (order_lack m to join) (sealed in_memory orders m (is_commanded to join now (begun m)) tt)
 
+-- the key has to be issued to the meter
 abbrev pub activate_by : Memory → BookEntry → ℕ → ℕ → ℕ → Ordering (Unit {0})
 activate_by m e index now to =
     choose (was_issued m e index) (activate_at m to (message e.eui (body.Activate index)) now) (refused orders m refusal.NotIssued)
 
+-- the meter has to be allowed
 abbrev pub activate : Memory → Eui → ℕ → ℕ → Ordering (Unit {0})
 activate m eui index now =
     option_map_or (λ e. option_map_or (activate_by m e index now) (book.address_of m.book eui) (refused orders m refusal.NotAllowed))
@@ -319,11 +345,13 @@ activate m eui index now =
 abbrev pub kick_goes : Memory → ℕ → JoinMessage → Doing Memory → Doing Memory
 kick_goes m to join d = if is_some (next_hop m.line to) && nat_lt 0 (counters_left m.line) then is_commanded to join 0 d else d
 
+-- the entry is stored as kicked, the session ends, and the word goes out
 abbrev pub kick_by : Memory → BookEntry → ℕ → Ordering (Unit {0})
 kick_by m e to =
     sealing in_memory orders
     (kick_goes m to (message e.eui body.Kick) (remembered (without_session e.eui) (entered (book.kicked_entry e.eui e) (begun m)))) tt
 
+-- the meter has to be allowed
 abbrev pub kick : Memory → Eui → Ordering (Unit {0})
 kick m eui =
     option_map_or (λ e. option_map_or (kick_by m e) (book.address_of m.book eui) (refused orders m refusal.NotAllowed))
@@ -331,5 +359,6 @@ kick m eui =
 
 -- # Time
 
+-- the clock goes on: what is too old ends
 abbrev pub tick : ℕ → Memory → Memory
 tick now m = record m { line = calls.tick now m.line; sessions = filter (λ (s : CoordinatorSession). calls.is_within 120 now s.since) m.sessions }

@@ -72,6 +72,7 @@ number_of d = d.memory.own_number.last + 1
 abbrev pub tag_slot : ℕ
 tag_slot = 4
 
+-- the tag behind this one, and 0 behind the last
 abbrev pub tag_after : ℕ → ℕ
 tag_after tag = (tag + 1) % 65536
 
@@ -111,6 +112,7 @@ units_of own to (Datagram octets tag) =
     else map (λ piece. Part (own_mesh own to) piece) (cutting.cut octets tag)
 units_of own to (Command octets) = Carried (own_mesh own to) (drop 1 octets) ∷ []
 
+-- each of the units goes to the hop
 abbrev pub all_go : ℕ → ℕ → List Unit → List Outgoing
 all_go hop note units = map (λ unit. record { to = hop; unit = unit; note = note }) units
 
@@ -120,6 +122,7 @@ body_goes own hop to note load d = record d { units = d.units ++ all_go hop note
 
 -- # Bodies that wait
 
+-- whether a body waits for an address
 abbrev pub waits_for : ℕ → Body → Bool
 waits_for dest b = b.to == dest
 
@@ -162,6 +165,7 @@ pub data Lack : Type 0 where
   OfRoom : Lack
   OfNumbers : Lack
 
+-- how many blocks the waiting bodies fill
 abbrev pub blocks_waiting : Line → ℕ
 blocks_waiting l = sum_by (λ (b : Body). blocks (length (load_octets b.load))) l.waiting
 
@@ -169,6 +173,7 @@ blocks_waiting l = sum_by (λ (b : Body). blocks (length (load_octets b.load))) 
 abbrev pub no_room : Line → ℕ → Bool
 no_room l octets = if nat_lt (length l.waiting) 8 then nat_lt 80 (blocks_waiting l + blocks octets) else true
 
+-- whether no own number is left
 abbrev pub numbers_spent : Line → Bool
 numbers_spent l = own_number.is_spent l.own_number
 
@@ -219,6 +224,7 @@ pub record Ends (E : Type 0) : Type 0 where
   pub spent : E
   pub store : E
 
+-- nothing is done, for this reason
 abbrev pub refused : {M H E : Type 0} → Ends E → M → E → Plan M (Result H E)
 refused ends m reason = resting m (Err reason) (Err ends.store)
 

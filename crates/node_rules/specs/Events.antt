@@ -9,9 +9,11 @@ use Rattle.node_rules.specs.declared.event.Event.TheVariants.{Coordinator, Meter
 abbrev pub AreOctets : ℕ → List ℕ → Type 0
 AreOctets count octets = (length octets ≡ count) × All (λ x. x < 256) octets
 
+-- an EUI has 8 octets
 abbrev pub IsEui : Eui → Type 0
 IsEui eui = AreOctets 8 eui.0
 
+-- a key has 16 octets
 abbrev pub IsKey : Key → Type 0
 IsKey key = AreOctets 16 key.0
 
@@ -23,6 +25,7 @@ IsLineOctets octets = (0 < length octets) × (length octets ≤ 2048) × All (λ
 abbrev pub IsNumber : ℕ → Type 0
 IsNumber n = n < 2 ^ 32
 
+-- the cost of a link is 1 to 255
 abbrev pub IsCost : ℕ → Type 0
 IsCost cost = (1 ≤ cost) × (cost ≤ 255)
 

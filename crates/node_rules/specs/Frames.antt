@@ -49,9 +49,11 @@ head_of l = heads.Sealed (not (l.to == to_all)) (l.counter % 256) PAN l.to l.fro
 abbrev pub joining_unit : JoinMessage → Unit
 joining_unit message = Local 2 (joining.spelling message)
 
+-- the octets of a sealed frame, which its sender knows the key and the note of
 abbrev pub sealed_frame : Ciphers → Letter → MacHead → OutFrame
 sealed_frame ciphers l head = record { octets = header_then head (ciphers.seals l.key head (spelling l.unit)); note = l.note; key = Some l.key }
 
+-- the octets of a plain frame, which has no key and no note
 abbrev pub plain_frame : MacHead → JoinMessage → OutFrame
 plain_frame head message = record { octets = header_then head (spelling (joining_unit message)); note = 0; key = None }
 
@@ -69,6 +71,7 @@ pub record Arrived : Type 0 where
   pub body : List ℕ
   pub opened : Key → Option (List ℕ)
 
+-- a frame in octets: its head, the octets behind it, and what each key opens of them
 abbrev pub arrived_with : Ciphers → MacHead → List ℕ → List ℕ → Arrived
 arrived_with ciphers head front body = record { head = head; body = body; opened = λ key. ciphers.opens key head front body }
 

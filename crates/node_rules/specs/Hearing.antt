@@ -26,6 +26,7 @@ use Rattle.node_rules.specs.Memory.{Line, address_of, next_hop}
 use Rattle.node_rules.specs.Plans.{Plan, resting}
 use Rattle.node_rules.specs.Doings.{Doing, Ends, Lack, OfRoom, OfNumbers, alone, begun, ranked, numbered, rerouted, goes, tells, leave, numbers_spent, refused, sealed, checked, choose}
 
+-- what a node does on the line about a frame that was accepted
 abbrev pub Hearing : Type 0
 Hearing = Plan Line (Result Heard Dropped)
 
@@ -59,10 +60,11 @@ rank_fault l own origin rank now =
     then Some CostSpent when nat_lt 65535 rank.cost
     then Some RoutesFull when routing.is_full l.routing origin now
 
--- the rank is offered by the neighbour, and what waits for the address leaves by it; an own number is taken before
+-- the rank is offered by the neighbour, and what waits for the address leaves by it
 abbrev pub offers : ℕ → ℕ → Rank → ℕ → ℕ → Line → Doing Line
 offers own origin rank by now l = leave own origin by (ranked origin rank by now (begun l))
 
+-- the same, and between the two an own number is taken
 abbrev pub offers_numbered : ℕ → ℕ → Rank → ℕ → ℕ → Line → Doing Line
 offers_numbered own origin rank by now l = leave own origin by (numbered (ranked origin rank by now (begun l)))
 
@@ -78,6 +80,7 @@ abbrev pub sends_on : Line → (own by origin dest : ℕ) → Rank → ℕ → H
 sends_on l own by origin dest rank now =
     ends l (tells to_all (Rreq rank.number rank.cost origin dest) (offers own origin rank by now l)) heard.Relayed
 
+-- a request is answered by the node that is sought, and sent on by each other one
 abbrev pub hear_request : Line → (own by origin dest : ℕ) → Rank → ℕ → Hearing
 hear_request l own by origin dest rank now =
     checked dropped l (rank_fault l own origin rank now)
@@ -102,6 +105,7 @@ hear_reply_for l own by origin to rank now None = drop_it l NoRoute
 hear_reply_for l own by origin to rank now (Some hop) =
     checked dropped l (rank_fault l own origin rank now) (passes_on l own by origin to hop rank now)
 
+-- a reply is learned by the node that asked, and sent on by each other one
 abbrev pub hear_reply : Line → (own by origin to : ℕ) → Rank → ℕ → Hearing
 hear_reply l own by origin to rank now =
     choose (to == own) (checked dropped l (rank_fault l own origin rank now) (learns l own by origin rank now))
@@ -118,12 +122,14 @@ abbrev pub tells_on : ℕ → ℕ → Option ℕ → Doing Line → Doing Line
 tells_on lost to None d = d
 tells_on lost to (Some hop) d = tells hop (Rerr lost to) d
 
+-- the route ends, and the error goes on where it is for another node
 abbrev pub hear_error : Line → (own by lost to : ℕ) → Hearing
 hear_error l own by lost to =
     ends l (tells_on lost to (if (to == own) || (to == lost) then None else next_hop (loses lost by l).memory to) (loses lost by l)) heard.Broken
 
 -- # Units over the mesh for other nodes
 
+-- whether no hop is left to a unit
 abbrev pub is_spent : Mesh → Bool
 is_spent mesh = nat_lt mesh.hops 2
 
@@ -139,10 +145,12 @@ forwards l hop unit note = ends l (goes hop unit note (begun l)) heard.Relayed
 abbrev pub reports : Line → Mesh → ℕ → Hearing
 reports l mesh hop = ends l (tells hop (Rerr mesh.to mesh.origin) (begun l)) heard.Reported
 
+-- by the hop that leads to its origin
 abbrev pub report_by : Line → Mesh → Option ℕ → Hearing
 report_by l mesh None = drop_it l NoRoute
 report_by l mesh (Some hop) = reports l mesh hop
 
+-- by the hop that leads to its target: without one its origin is told, unless that is this node
 abbrev pub forward_by : Line → (own : ℕ) → Mesh → Unit → ℕ → Option ℕ → Hearing
 forward_by l own mesh unit note None = choose (mesh.origin == own) (drop_it l NoRoute) (report_by l mesh (next_hop l mesh.origin))
 forward_by l own mesh unit note (Some hop) = choose (is_spent mesh) (drop_it l HopsSpent) (forwards l hop unit note)
@@ -153,6 +161,7 @@ forward l own mesh unit note = forward_by l own mesh unit note (next_hop l mesh.
 
 -- # Datagrams and pieces for this node
 
+-- a datagram is handed up
 abbrev pub hands_up : Line → (from note : ℕ) → List ℕ → Hearing
 hands_up l from note octets = resting l (Ok (heard.Up from note octets)) (Err Store)
 
@@ -165,6 +174,7 @@ gathered l from t = record (resting l (came t.outcome) (Err Store)) { memory = r
     came pieces.Held = Ok heard.Held
     came (pieces.Whole note octets) = Ok (heard.Up from note octets)
 
+-- a piece is taken by the rule of reassembly
 abbrev pub gather : Line → (from : ℕ) → Placed → (note now : ℕ) → Hearing
 gather l from piece note now = gathered l from (pieces.taken l.reassemblies from piece note now)
 
@@ -179,6 +189,7 @@ hear_message l own by false cost now (Rreq number c origin dest) = drop_it l Bad
 hear_message l own by false cost now (Rrep number c origin to) = hear_reply l own by origin to (rank_over number c cost) now
 hear_message l own by false cost now (Rerr lost to) = hear_error l own by lost to
 
+-- octets that spell no message are dropped
 abbrev pub hear_message_in : Line → (own by : ℕ) → (all : Bool) → (cost now : ℕ) → Option Message → Hearing
 hear_message_in l own by all cost now None = drop_it l BadUnit
 hear_message_in l own by all cost now (Some message) = hear_message l own by all cost now message
@@ -213,6 +224,7 @@ is_joining (units.Whole mesh octets) = None
 is_joining (units.Part mesh piece) = None
 is_joining (units.Carried mesh body) = None
 
+-- a plain frame without a joining command is dropped
 abbrev pub hear_plain : Line → (List ℕ → Heard) → Option (List ℕ) → Hearing
 hear_plain l answer None = drop_it l BadUnit
 hear_plain l answer (Some body) = resting l (Ok (answer body)) (Err Store)
@@ -224,6 +236,7 @@ hear_unit l (paths.Sealed from all key) unit cost note now =
 hear_unit l (paths.Up from) unit cost note now = hear_plain l (λ body. heard.Joining (Air from) body) (is_joining unit)
 hear_unit l (paths.Down from) unit cost note now = hear_plain l (λ body. heard.Joining (Near from) body) (is_joining unit)
 
+-- octets that spell no unit are dropped
 abbrev pub hear_unit_in : Line → Path → Option Unit → (cost note now : ℕ) → Hearing
 hear_unit_in l path None cost note now = drop_it l BadUnit
 hear_unit_in l path (Some unit) cost note now = hear_unit l path unit cost note now

@@ -21,9 +21,11 @@ use Rattle.node_rules.specs.Doings.{Doing, Holder, Ends, begun, refused, sealing
 use Rattle.node_rules.specs.Hearing.{dropped_for}
 use Rattle.node_rules.specs.Joining.{command_of}
 
+-- the memory with another line
 abbrev pub with_line : Line → Memory → Memory
 with_line l m = record m { line = l }
 
+-- a memory holds what its node is on the line
 abbrev pub in_memory : Holder Memory
 in_memory = record { line = λ m. m.line; with_line = with_line }
 
@@ -31,6 +33,7 @@ in_memory = record { line = λ m. m.line; with_line = with_line }
 abbrev pub line_part : Doing Memory → Doing Line
 line_part d = record { puts = d.puts; memory = d.memory.line; units = d.units; plain = d.plain; made = d.made; opened = d.opened }
 
+-- what was done on the line, in the memory
 abbrev pub memory_part : Doing Memory → Doing Line → Doing Memory
 memory_part d l = record { puts = l.puts; memory = with_line l.memory d.memory; units = l.units; plain = l.plain; made = l.made; opened = l.opened }
 
@@ -50,6 +53,7 @@ tagged_with made opened d = record d { made = d.made ++ made; opened = d.opened 
 unfoldable pub goes_up : ℕ → Eui → JoinMessage → Doing Memory → Doing Memory
 goes_up agent own message d = record d { plain = d.plain ++ Up agent own message ∷ [] }
 
+-- a plain frame goes down to the node of its message
 unfoldable pub goes_down : ℕ → JoinMessage → Doing Memory → Doing Memory
 goes_down own message d = record d { plain = d.plain ++ Down own message ∷ [] }
 
@@ -68,9 +72,11 @@ command_lack m to message = option_map dropped_for (lack m.line to (length (comm
 abbrev pub oldest : Memory → Option Rand
 oldest m = slice_get m.randoms 0
 
+-- the memory without the oldest random value
 abbrev pub without_oldest : Memory → Memory
 without_oldest m = record m { randoms = drop 1 m.randoms }
 
+-- a random value takes no counter and is not stored, so neither end is met
 abbrev pub given_ends : Ends RandomFault
 given_ends = record { spent = RandomsFull; store = RandomsFull }
 

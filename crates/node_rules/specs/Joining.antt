@@ -38,14 +38,17 @@ identifier_of packet = octet 1 packet
 abbrev pub is_first : List ℕ → Bool
 is_first packet = nat_lt 5 (length packet) && (octet 5 packet / 64 == 0)
 
+-- the random values of the meter's end
 abbrev pub peer_agrees : Peer → Agreed
 peer_agrees peer = record { rand_s = peer.rand_s; rand_p = peer.rand_p }
 
+-- the random values of the coordinator's end
 abbrev pub server_agrees : Server → Rand → Agreed
 server_agrees server rand_p = record { rand_s = server.rand_s; rand_p = rand_p }
 
 -- # The messages
 
+-- a joining message about a meter
 abbrev pub message : Eui → JoinBody → JoinMessage
 message eui body = record { eui = eui; body = body }
 

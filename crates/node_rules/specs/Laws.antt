@@ -124,10 +124,12 @@ AFrameRefusedChangesNothing = (l : Line) (own : Eui) (a : Option Arrived) → Re
 abbrev pub ADropChangesNothing : Type 0
 ADropChangesNothing = (l : Line) (got : Accepted) (cost note now : ℕ) → RefusesCleanly drops.Store l (hear l got cost note now)
 
+-- the same of a frame that a meter drops
 abbrev pub AMetersDropChangesNothing : Type 0
 AMetersDropChangesNothing =
     (x : meters.Identity) (m : Memory) (got : Accepted) (cost note now : ℕ) → RefusesCleanly drops.Store m (meters.hear_meter x m got cost note now)
 
+-- the same of a frame that the coordinator drops
 abbrev pub ACoordinatorsDropChangesNothing : Type 0
 ACoordinatorsDropChangesNothing =
     (own : coordinator_rules.CoordinatorIdentity) (m : Memory) (got : Accepted) (cost note now : ℕ) → RefusesCleanly drops.Store m (coordinator_rules.hear_coordinator own m got cost note now)
@@ -199,10 +201,12 @@ pub record IsBounded {M A : Type 0} (l : Line) (p : Plan M A) : Type 0 where
 abbrev pub HearingIsBounded : Type 0
 HearingIsBounded = (l : Line) (got : Accepted) (cost note now : ℕ) → IsBounded l (hear l got cost note now)
 
+-- the same of a frame that a meter hears
 abbrev pub AMetersHearingIsBounded : Type 0
 AMetersHearingIsBounded =
     (x : meters.Identity) (m : Memory) (got : Accepted) (cost note now : ℕ) → IsBounded m.line (meters.hear_meter x m got cost note now)
 
+-- the same of a frame that the coordinator hears
 abbrev pub ACoordinatorsHearingIsBounded : Type 0
 ACoordinatorsHearingIsBounded =
     (own : coordinator_rules.CoordinatorIdentity) (m : Memory) (got : Accepted) (cost note now : ℕ) → IsBounded m.line (coordinator_rules.hear_coordinator own m got cost note now)
@@ -287,11 +291,14 @@ StepsGoOn = (ciphers : Ciphers) (w v : World) (event : Event) (d : Deeds) → st
 abbrev pub MessagesAreRead : Type 0
 MessagesAreRead = (m : Message) (octets : List ℕ) → messages.Spells m octets → message_in octets ≡ Some m
 
+-- the joining message that is read out of octets is the one that they spell
 abbrev pub JoinsAreRead : Type 0
 JoinsAreRead = (m : JoinMessage) (octets : List ℕ) → joining.Spells m octets → join_in octets ≡ Some m
 
+-- the unit that is read out of octets is the one that they spell
 abbrev pub UnitsAreRead : Type 0
 UnitsAreRead = (u : MeshUnit) (octets : List ℕ) → units.Spells u octets → unit_in octets ≡ Some u
 
+-- the grant that is read out of octets is the one that they spell
 abbrev pub GrantsAreRead : Type 0
 GrantsAreRead = (g : Granted) (octets : List ℕ) → grants.SpellsGrant g octets → grant_in octets ≡ Some g

@@ -24,6 +24,7 @@ pub data Load : Type 0 where
   Datagram : (octets : List ℕ) → (tag : ℕ) → Load
   Command : (octets : List ℕ) → Load
 
+-- the octets of a body
 abbrev pub load_octets : Load → List ℕ
 load_octets (Datagram octets tag) = octets
 load_octets (Command octets) = octets
@@ -37,6 +38,7 @@ pub record Body : Type 0 where
 
 -- # What a node on the line holds in memory
 
+-- What a node holds on the line.
 pub record Line : Type 0 where
   -- the grant that it joined with, with its later changes
   pub ring : ring.Ring
@@ -115,8 +117,10 @@ pub record Node : Type 0 where
 abbrev pub node_address : Node → Option ℕ
 node_address x = option_and_then (λ m. address_of m.line) x.memory
 
+-- the next hop to an address, which a node without a ring does not have
 abbrev pub line_route : Line → ℕ → Option ℕ
 line_route l dest = option_and_then (λ _. next_hop l dest) l.ring
 
+-- the same of a node, which has none while it is halted
 abbrev pub node_route : Node → ℕ → Option ℕ
 node_route x dest = option_and_then (λ m. line_route m.line dest) x.memory

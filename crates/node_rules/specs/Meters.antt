@@ -38,6 +38,7 @@ use Rattle.node_rules.specs.Calls as calls
 use Rattle.node_rules.specs.Joining.{peer_for, identifier_of, is_first, peer_agrees, message}
 use Rattle.node_rules.specs.Holding.{with_line, in_memory, on_line, remembered, tagged_with, goes_up, goes_down, is_commanded, command_lack, oldest, without_oldest, Unread, unread, packet_fault}
 
+-- what a meter does about a frame that was accepted
 abbrev pub Hearing : Type 0
 Hearing = Plan Memory (Result MeterHeard Dropped)
 
@@ -47,9 +48,11 @@ pub record Identity : Type 0 where
   pub psk : Key
   pub ciphers : Ciphers
 
+-- nothing has changed
 abbrev pub drop_it : Memory → Dropped → Hearing
 drop_it m reason = refused dropped m reason
 
+-- the doing is carried to its end
 abbrev pub ends : Memory → Doing Memory → MeterHeard → Hearing
 ends m d answer = sealed in_memory dropped m d answer
 
@@ -70,9 +73,11 @@ same_course (ByAgent a) ByCommand = false
 same_course ByCommand (ByAgent b) = false
 same_course ByCommand ByCommand = true
 
+-- whether the session that is open took this course
 abbrev pub has_session : Memory → Course → Bool
 has_session m course = option_map_or (λ (s : MeterSession). same_course s.course course) m.session false
 
+-- the memory with another session, or with none
 abbrev pub with_session : Option MeterSession → Memory → Memory
 with_session session m = record m { session = session }
 
@@ -82,6 +87,7 @@ with_session session m = record m { session = session }
 abbrev pub carries_up : Memory → JoinMessage → ℕ → Hearing
 carries_up m join now = checked dropped m (command_lack m 0 join) (ends m (is_commanded 0 join now (begun m)) heard.Carried)
 
+-- a JOIN in a plain frame is carried up to the coordinator, where it comes from its own meter
 abbrev pub carry_up : Memory → Eui → JoinMessage → JoinBody → ℕ → Hearing
 carry_up m from join (body.Join eap) now = choose (same_eui join.eui from) (carries_up m join now) (drop_it m BadUnit)
 carry_up m from join _ now = drop_it m BadUnit
@@ -90,6 +96,7 @@ carry_up m from join _ now = drop_it m BadUnit
 abbrev pub carries_down : Memory → JoinMessage → Hearing
 carries_down m join = option_map_or (λ own. ends m (goes_down own join (begun m)) heard.Carried) (address_of m.line) (drop_it m BadUnit)
 
+-- a CHALLENGE, an ACCEPT and a DECLINE are carried down to their meter
 abbrev pub carry_down : Memory → JoinMessage → JoinBody → Hearing
 carry_down m join (body.Challenge eap) = carries_down m join
 carry_down m join (body.Accept identifier) = carries_down m join
@@ -103,6 +110,7 @@ abbrev pub says : Course → Eui → JoinMessage → ℕ → Doing Memory → Do
 says (ByAgent agent) own join now d = goes_up agent own join d
 says ByCommand own join now d = is_commanded 0 join now d
 
+-- what the message lacks: only a command lacks anything
 abbrev pub say_lack : Course → Memory → JoinMessage → Option Dropped
 say_lack (ByAgent agent) m join = None
 say_lack ByCommand m join = command_lack m 0 join
@@ -112,10 +120,12 @@ say_lack ByCommand m join = command_lack m 0 join
 abbrev pub air_fault : Memory → Course → Option Dropped
 air_fault m course = Some BadUnit when is_joined m then Some NoSession unless has_session m course
 
+-- what stands in the way of the first packet by the course that it took
 abbrev pub first_course_fault : Memory → Course → Option Dropped
 first_course_fault m (ByAgent agent) = air_fault m (ByAgent agent)
 first_course_fault m ByCommand = None
 
+-- what stands in the way of the third packet by the course that it took
 abbrev pub third_course_fault : Memory → Course → Option Dropped
 third_course_fault m (ByAgent agent) = air_fault m (ByAgent agent)
 third_course_fault m ByCommand = Some NoSession unless has_session m ByCommand
@@ -130,11 +140,13 @@ replies m course peer join now =
     (remembered (λ n. with_session (Some (record { course = course; peer = Some peer; since = now })) (without_oldest n)) (begun m))))
     heard.Replied)
 
+-- the second packet goes out, made with a random value
 abbrev pub reply_with : Identity → Memory → Course → List ℕ → ℕ → Rand → Hearing
 reply_with x m course packet now value =
     let peer = peer_for x.eui value packet in
     replies m course peer (message x.eui (body.Join (x.ciphers.second x.psk (identifier_of packet) peer))) now
 
+-- the first packet is refused by its first fault, and answered else
 abbrev pub reply : Identity → Memory → Course → List ℕ → ℕ → Hearing
 reply x m course packet now =
     checked dropped m (first_course_fault m course)
@@ -152,21 +164,25 @@ takes m course peer identifier granted join now =
     (on_line (ringed (Some granted)) (remembered (with_session None) (begun m)))))
     (heard.Took (peer_agrees peer)))
 
+-- the third packet has to carry a grant
 abbrev pub take_with : Identity → Memory → Course → List ℕ → ℕ → Peer → Option Granted → Hearing
 take_with x m course packet now peer None = drop_it m NoSuccess
 take_with x m course packet now peer (Some granted) =
     takes m course peer (identifier_of packet) granted (message x.eui (body.Join (x.ciphers.fourth x.psk (identifier_of packet) peer))) now
 
+-- the third packet is refused by its first fault
 abbrev pub take_by : Identity → Memory → Course → List ℕ → ℕ → Option Peer → Hearing
 take_by x m course packet now None = drop_it m Form
 take_by x m course packet now (Some peer) =
     checked dropped m (option_map packet_fault (x.ciphers.third_fault x.psk peer packet)) (take_with x m course packet now peer (x.ciphers.granted x.psk peer packet))
 
+-- the third packet needs a session
 abbrev pub take : Identity → Memory → Course → List ℕ → ℕ → Hearing
 take x m course packet now =
     checked dropped m (third_course_fault m course)
     (option_map_or (λ (s : MeterSession). take_by x m course packet now s.peer) m.session (drop_it m NoSession))
 
+-- a first packet begins a session, any other one is taken for the third
 abbrev pub challenged : Identity → Memory → Course → List ℕ → ℕ → Hearing
 challenged x m course packet now = choose (is_first packet) (reply x m course packet now) (take x m course packet now)
 
@@ -182,6 +198,7 @@ declined m agent =
 abbrev pub leaves : Memory → Doing Memory
 leaves m = remembered (with_session None) (on_line (λ d. ringed None (record d { memory = calls.idled d.memory })) (begun m))
 
+-- the meter leaves
 abbrev pub kicked : Memory → Hearing
 kicked m = ends m (leaves m) heard.Left
 
@@ -209,6 +226,7 @@ hear_order x m body.Kick now = kicked m
 hear_order x m (body.Activate index) now = activated m index
 hear_order x m _ now = drop_it m BadUnit
 
+-- a joining message, by the way that it came
 abbrev pub hear_join : Identity → Memory → Way → JoinMessage → ℕ → Hearing
 hear_join x m (Air from) join now = carry_up m from join join.body now
 hear_join x m (Near agent) join now = choose (same_eui join.eui x.eui) (hear_near x m agent join.body now) (drop_it m BadUnit)
@@ -217,16 +235,19 @@ hear_join x m (Mesh origin) join now =
     (choose (same_eui join.eui x.eui) (hear_order x m join.body now) (carry_down m join join.body))
     (drop_it m BadUnit)
 
+-- octets that spell no joining message are dropped
 abbrev pub hear_join_in : Identity → Memory → Way → Option JoinMessage → ℕ → Hearing
 hear_join_in x m way None now = drop_it m BadUnit
 hear_join_in x m way (Some join) now = hear_join x m way join now
 
 -- # A frame that was accepted
 
+-- what the line made of a frame, as a meter says it
 abbrev pub on_station : Result Heard Dropped → Result MeterHeard Dropped
 on_station (Ok h) = Ok (heard.Line h)
 on_station (Err reason) = Err reason
 
+-- a joining command is for the meter, all else is what the line made of it
 abbrev pub heard_by : Identity → Memory → ℕ → Plan Line (Result Heard Dropped) → Option Unread → Hearing
 heard_by x m now p None = within (λ l. with_line l m) on_station p
 heard_by x m now p (Some u) = hear_join_in x m u.way (join_in u.body) now
@@ -238,6 +259,7 @@ hear_meter x m got cost note now =
 
 -- # What a meter does by itself
 
+-- asking takes no counter and is not stored, so neither end is met
 abbrev pub joining_ends : Ends JoinRefusal
 joining_ends = record { spent = Halted; store = Halted }
 
@@ -249,9 +271,11 @@ join x m agent now =
     (goes_up agent x.eui (message x.eui (body.Join []))
     (remembered (with_session (Some (record { course = ByAgent agent; peer = None; since = now }))) (begun m))) tt)
 
+-- leaving takes no counter, so one word serves for both
 abbrev pub leaving_ends : Ends LeaveRefusal
 leaving_ends = record { spent = leaving.Store; store = leaving.Store }
 
+-- a meter that is joined leaves
 abbrev pub leave : Memory → Plan Memory (Result (Unit {0}) LeaveRefusal)
 leave m = choose (is_joined m) (sealing in_memory leaving_ends (leaves m) tt) (refused leaving_ends m leaving.NotJoined)
 
@@ -263,5 +287,6 @@ provision m granted = within (λ l. with_line l m) (λ r. r) (calls.install m.li
 abbrev pub session_within : ℕ → MeterSession → Option MeterSession
 session_within now s = if calls.is_within 120 now s.since then Some s else None
 
+-- the clock goes on: what is too old ends
 abbrev pub tick : ℕ → Memory → Memory
 tick now m = record m { line = calls.tick now m.line; session = option_map_or (session_within now) m.session None }

@@ -44,6 +44,7 @@ line_of records =
 
 -- # A meter and the coordinator
 
+-- the memory behind a restart: no random value is left, and no session
 abbrev pub remembering : Line → book.Book → Memory
 remembering l b = record { line = l; randoms = []; session = None; sessions = []; book = b }
 

@@ -31,6 +31,7 @@ pub record Outcome (M A : Type 0) : Type 0 where
   pub made : List PairTag
   pub opened : List PairTag
 
+-- every write was stored
 abbrev pub finished : {M A : Type 0} → Written → Plan M A → Outcome M A
 finished w p = record {
   answer = p.answer;
@@ -46,6 +47,7 @@ finished w p = record {
 abbrev pub halted : {M A : Type 0} → Written → Plan M A → Outcome M A
 halted w p = record { answer = p.failed; records = w.records; cut = w.cut; memory = None; frames = []; made = []; opened = p.opened }
 
+-- whether all were stored decides
 abbrev pub outcome_of : {M A : Type 0} → Written → Plan M A → Outcome M A
 outcome_of w p = if w.whole then finished w p else halted w p
 
@@ -55,6 +57,7 @@ carry_out records cut p = outcome_of (write p.puts cut records) p
 
 -- # Plans that change nothing
 
+-- the answer alone, also where a write would fail, since none is made
 unfoldable pub resting : {M A : Type 0} → M → A → A → Plan M A
 resting m answer failed = record { answer = answer; failed = failed; puts = []; memory = m; frames = []; made = []; opened = [] }
 

@@ -18,6 +18,7 @@ use Rattle.node_rules.specs.Scripts.{plain, eui, group_key, pair_key, two_meters
 
 -- # One hop
 
+-- a datagram over one hop, delivered twice
 abbrev pub one_hop : List Event
 one_hop = two_meters ++ (Near 1 2 3 ∷ Send 1 2 (0x48 ∷ 0x65 ∷ 0x6c ∷ 0x6c ∷ 0x6f ∷ []) ∷ Deliver 1 2 3 ∷ Deliver 1 2 3 ∷ [])
 
@@ -29,6 +30,7 @@ ARepeatIsRefused =
 
 -- # Datagrams of every size
 
+-- datagrams about the sizes that matter, and the pieces of one in the wrong order
 abbrev pub sizes : List Event
 sizes =
     two_meters
@@ -43,6 +45,7 @@ DatagramsOfEverySize =
 
 -- # Discovery over two relays
 
+-- a datagram without a route, and the messages that find one
 abbrev pub discovery : List Event
 discovery =
     four_meters
@@ -64,6 +67,7 @@ DiscoveryOverTwoRelays =
 
 -- # A broken route stays broken
 
+-- a route breaks, and the request that made it comes again
 abbrev pub broken : List Event
 broken =
     three_meters
@@ -93,6 +97,7 @@ lost =
     three_meters
     ++ (Send 3 1 (0xaa ∷ []) ∷ Deliver 1 2 1 ∷ Deliver 2 1 1 ∷ Deliver 3 2 1 ∷ Break 2 3 ∷ Send 1 3 (0xbb ∷ []) ∷ Deliver 5 2 1 ∷ Deliver 6 1 1 ∷ Lose 1 ∷ [])
 
+-- the flight is not there any more
 abbrev pub ALostFlightComesNoMore : Type 0
 ALostFlightComesNoMore = (answers_after 15 lost ≡ said.Lost ∷ []) × (fault_after lost (Deliver 1 1 9) ≡ Some faults.Flight)
 
@@ -103,6 +108,7 @@ abbrev pub dear_request : List ℕ
 dear_request =
     (spelled plain (Sealed (record { to = 0xFFFF; from = 2; counter = 9; index = 0; key = group_key; unit = Local 1 (messages.spelling (Rreq 5 65500 2 7)); note = 0 }))).octets
 
+-- the request comes over a link of this cost
 abbrev pub dear : ℕ → List Event
 dear link = two_meters ++ (Inject 1 link dear_request ∷ [])
 
@@ -112,9 +118,11 @@ CostsAreSpent = (answers_after 5 (dear 36) ≡ said.CostSpent ∷ []) × (answer
 
 -- # Spent counters and numbers
 
+-- the coordinator and one meter
 abbrev pub one_meter : List Event
 one_meter = Coordinator (eui 1) group_key ∷ Meter (eui 2) pair_key ∷ Depot 1 ∷ []
 
+-- no counter, no own number, and no counter with a route
 abbrev pub NothingIsSentWhenSpent : Type 0
 NothingIsSentWhenSpent =
     (answers_after 3 (one_meter ++ (Counter 1 4294967295 ∷ Send 1 0 (0xaa ∷ []) ∷ [])) ≡ said.Set ∷ said.CounterSpent ∷ [])
@@ -123,10 +131,12 @@ NothingIsSentWhenSpent =
 
 -- # Frames that no node sent
 
+-- a datagram under the key of the group, sealed by nobody
 abbrev pub forged_frame : List ℕ
 forged_frame =
     (spelled plain (Sealed (record { to = 2; from = 1; counter = 9; index = 0; key = group_key; unit = Whole (record { hops = 14; origin = 1; to = 2 }) (0 ∷ []); note = 7 }))).octets
 
+-- the frame comes to a meter
 abbrev pub forging : List Event
 forging = two_meters ++ (Near 1 2 3 ∷ Inject 2 1 forged_frame ∷ [])
 
@@ -144,6 +154,7 @@ AForgedFrameIsNamed =
 abbrev pub up_frame : ℕ → ℕ → List ℕ → List ℕ
 up_frame to from payload = 0x61 ∷ 0xd8 ∷ 0x00 ∷ 0x1d ∷ 0x78 ∷ to ∷ 0x00 ∷ from ∷ replicate 7 0 ++ payload
 
+-- a plain frame down to a node from an address
 abbrev pub down_frame : ℕ → ℕ → List ℕ → List ℕ
 down_frame to from payload = 0x61 ∷ 0x9c ∷ 0x00 ∷ 0x1d ∷ 0x78 ∷ to ∷ replicate 7 0 ++ (from ∷ 0x00 ∷ payload)
 
@@ -164,6 +175,7 @@ abbrev pub error_to_all : List ℕ
 error_to_all =
     (spelled plain (Sealed (record { to = 0xFFFF; from = 2; counter = 9; index = 0; key = group_key; unit = Local 1 (messages.spelling (Rerr 2 1)); note = 0 }))).octets
 
+-- the frames come to a meter that is joined, to one that asks, and to the coordinator
 abbrev pub malicious : List Event
 malicious =
     Coordinator (eui 1) group_key ∷ Meter (eui 2) pair_key ∷ Meter (eui 3) pair_key ∷ Depot 1 ∷ Join 2 1
@@ -196,9 +208,11 @@ MaliciousFramesAreRefused =
 
 -- # Rotation and kick
 
+-- another key
 abbrev pub second_key : Key
 second_key = record { 0 = big_bytes 16 0x202122232425262728292a2b2c2d2e2f }
 
+-- a meter is kicked, a key is drawn, another meter has it, and it seals
 abbrev pub rotation : List Event
 rotation =
     three_meters
@@ -218,15 +232,19 @@ RotationAndKick =
 
 -- # Joining
 
+-- random values, each for one use
 abbrev pub rand_k : RandomValue
 rand_k = record { 0 = group_key.0 }
 
+-- random values, each for one use
 abbrev pub rand_r : RandomValue
 rand_r = record { 0 = big_bytes 16 0xf0f1f2f3f4f5f6f7f8f9fafbfcfdfeff }
 
+-- random values, each for one use
 abbrev pub rand_p : RandomValue
 rand_p = record { 0 = pair_key.0 }
 
+-- random values, each for one use
 abbrev pub rand_q : RandomValue
 rand_q = record { 0 = second_key.0 }
 
@@ -234,6 +252,7 @@ rand_q = record { 0 = second_key.0 }
 abbrev pub asking : List Event
 asking = Coordinator (eui 1) group_key ∷ Meter (eui 2) pair_key ∷ Allow 1 ∷ Rand 0 rand_k ∷ Rand 1 rand_r ∷ Join 1 0 ∷ []
 
+-- the messages of the joining come to their ends
 abbrev pub joining : List Event
 joining = asking ++ (Deliver 1 0 1 ∷ Deliver 2 1 1 ∷ Deliver 3 0 1 ∷ Deliver 4 1 1 ∷ Deliver 5 0 1 ∷ Deliver 6 1 1 ∷ [])
 
@@ -257,17 +276,20 @@ abbrev pub joining_again : List Event
 joining_again =
     asking ++ (Deliver 1 0 1 ∷ Deliver 2 1 1 ∷ Deliver 3 0 1 ∷ Rand 0 rand_p ∷ Rand 1 rand_q ∷ Join 1 0 ∷ Deliver 5 0 1 ∷ Deliver 6 1 1 ∷ Deliver 4 1 1 ∷ [])
 
+-- the meter has asked again, and hears only what answers that
 abbrev pub AnOldThirdPacketIsRefused : Type 0
 AnOldThirdPacketIsRefused = answers_after 13 joining_again ≡ said.Replied ∷ said.OtherSession ∷ []
 
 -- # Joining through an agent
 
+-- the meter asks a joined one, which carries the messages
 abbrev pub by_agent : List Event
 by_agent =
     Coordinator (eui 1) group_key ∷ Meter (eui 2) pair_key ∷ Meter (eui 3) second_key ∷ Depot 1 ∷ Near 0 1 1 ∷ Allow 2 ∷ Rand 0 rand_k ∷ Rand 2 rand_r ∷ Join 2 1
     ∷ Deliver 1 1 1 ∷ Deliver 2 0 1 ∷ Deliver 3 1 1 ∷ Deliver 4 2 1 ∷ Deliver 5 1 1 ∷ Deliver 6 0 1 ∷ Deliver 7 1 1 ∷ Deliver 8 2 1 ∷ Deliver 9 1 1 ∷ Deliver 10 0 1
     ∷ Deliver 11 1 1 ∷ Deliver 12 2 1 ∷ []
 
+-- both ends come to an end, as over the air
 abbrev pub AMeterJoinsThroughAnAgent : Type 0
 AMeterJoinsThroughAnAgent =
     (answers_after 9 by_agent
@@ -280,6 +302,7 @@ AMeterJoinsThroughAnAgent =
 
 -- # Kicked, and not told
 
+-- the meter is kicked, and told to join
 abbrev pub kicked_unaware : List Event
 kicked_unaware = joining ++ (Kick 1 ∷ Join 1 0 ∷ [])
 
@@ -295,6 +318,7 @@ AKickedMeterMayNotKnow =
 abbrev pub octets_of : List Event → ℕ → Option (List ℕ)
 octets_of events number = option_map (λ (f : Flight). f.octets) (flight_at (world_behind start (run plain start events)) number)
 
+-- a joining with EUIs and keys that tell their octets apart
 abbrev pub named_joining : List Event
 named_joining =
     Coordinator (record { 0 = big_bytes 8 0xaabbccddeeff0011 }) group_key ∷ Meter (record { 0 = big_bytes 8 0x0102030405060708 }) pair_key ∷ Allow 1 ∷ Rand 0 rand_k ∷ Rand 1 rand_r
@@ -313,6 +337,7 @@ FramesAreSpelled =
 
 -- # A store write that fails
 
+-- a loss of power at the first write of a send
 abbrev pub cut_off : List Event
 cut_off = two_meters ++ (Near 1 2 3 ∷ Cut 1 1 false ∷ Send 1 2 (0xaa ∷ []) ∷ Send 1 2 (0xaa ∷ []) ∷ Deliver 1 2 1 ∷ [])
 
@@ -325,6 +350,7 @@ AFailedWriteHalts =
 
 -- # Bad lines
 
+-- the coordinator alone
 abbrev pub alone : List Event
 alone = Coordinator (eui 1) group_key ∷ []
 

@@ -27,6 +27,7 @@ pub record Entry : Type 0 where
   -- the world after it
   pub after : World
 
+-- an event that is taken is an entry, and the rest follows; one that is not taken ends the run
 abbrev pub entries_of : World → Event → Step → (World → List Entry) → List Entry
 entries_of w event (Ok r) rest = record { number = w.events + 1; event = event; deeds = r.1; after = r.0 } ∷ rest r.0
 entries_of w event (Err fault) rest = []
@@ -43,10 +44,12 @@ IsRun ciphers w (x ∷ xs) = (w.events < 50000) × (x.number ≡ w.events + 1) �
 
 -- # What a history tells
 
+-- what each entry tells, in order
 abbrev pub all_of : {A : Type 0} → (Deeds → List A) → List Entry → List A
 all_of told [] = []
 all_of told (x ∷ xs) = told x.deeds ++ all_of told xs
 
+-- a list of what is there
 abbrev pub one_of : {A : Type 0} → Option A → List A
 one_of None = []
 one_of (Some a) = a ∷ []
@@ -55,12 +58,15 @@ one_of (Some a) = a ∷ []
 abbrev pub sends : List Entry → List Sending
 sends entries = all_of (λ d. one_of d.sent) entries
 
+-- what was handed up, in order
 abbrev pub ups : List Entry → List Handed
 ups entries = all_of (λ d. one_of d.happened.up) entries
 
+-- the keys that were issued, in order
 abbrev pub issued : List Entry → List Issued
 issued entries = all_of (λ d. d.issued) entries
 
+-- the joinings that meters took, in order
 abbrev pub takings : List Entry → List Pairing
 takings entries = all_of (λ d. one_of d.taken) entries
 
@@ -85,6 +91,7 @@ HasRoute w dest number next = IfSomeNode (node_at w number)
     IfSomeNode None = ⊥
     IfSomeNode (Some x) = node_route x dest ≡ Some next
 
+-- the node of a number has this address
 abbrev pub HasAddress : World → ℕ → ℕ → Type 0
 HasAddress w number address = IfSomeNode (node_at w number)
   where
@@ -103,6 +110,7 @@ pub record IsLoop (w : World) (dest first : ℕ) (rest : List ℕ) : Type 0 wher
   pub leads : Leads w dest first rest address
   pub closes : HasAddress w first address
 
+-- no valid next hops lead back to where they began
 abbrev pub HasNoLoop : World → Type 0
 HasNoLoop w = (dest first : ℕ) (rest : List ℕ) → IsLoop w dest first rest → ⊥
 
@@ -111,18 +119,22 @@ pub record WasIssued (given : List Issued) (eui : Eui) (index : ℕ) (key : Key)
   pub place : ℕ
   pub is : slice_get given place ≡ Some (record { eui = eui; index = index; key = key })
 
+-- a key that is held was issued
 abbrev pub IsIssued : List Issued → Eui → ℕ → Option Key → Type 0
 IsIssued given eui index None = Unit {0}
 IsIssued given eui index (Some key) = WasIssued given eui index key
 
+-- both keys of a ring were issued
 abbrev pub HoldsIssued : List Issued → Eui → Granted → Type 0
 HoldsIssued given eui g = IsIssued given eui 0 g.key0 × IsIssued given eui 1 g.key1
 
+-- a meter that has a ring holds issued keys; the coordinator issues them
 abbrev pub HasIssuedKeys : List Issued → Eui → Role → Option Memory → Type 0
 HasIssuedKeys given eui Coordinator memory = Unit {0}
 HasIssuedKeys given eui (Meter psk) None = Unit {0}
 HasIssuedKeys given eui (Meter psk) (Some m) = IfSome m.line.ring (λ g. HoldsIssued given eui g)
 
+-- each meter holds issued keys
 abbrev pub HasOnlyIssuedKeys : List Issued → World → Type 0
 HasOnlyIssuedKeys given w = All (λ (x : Node). HasIssuedKeys given x.eui x.role x.memory) w.nodes
 
@@ -137,6 +149,7 @@ pub record IsWithinSizes (m : Memory) : Type 0 where
   pub randoms : length m.randoms ≤ 8
   pub book : length m.book ≤ 999
 
+-- No table of the world passes its size.
 pub record IsSized (w : World) : Type 0 where
   pub nodes : length w.nodes ≤ 1000
   pub memories : All (λ (x : Node). IfSome x.memory IsWithinSizes) w.nodes
@@ -180,6 +193,7 @@ pub record NonceParts : Type 0 where
   pub from : ℕ
   pub counter : ℕ
 
+-- what a sealed frame has of its nonce
 abbrev pub nonce_in_head : MacHead → Option NonceParts
 nonce_in_head (heads.Sealed ack seq pan to from counter index) = Some (record { from = from; counter = counter })
 nonce_in_head (heads.Up ack version seq pan to from) = None
@@ -217,6 +231,7 @@ abbrev pub is_restart : Event → Bool
 is_restart (events.Restart node) = true
 is_restart _ = false
 
+-- every restart is answered Restarted
 abbrev pub RestartsAreAnswered : List Entry → Type 0
 RestartsAreAnswered entries = All (λ (x : Entry). is_restart x.event ≡ true → x.deeds.happened.answer ≡ said.Restarted) entries
 
@@ -227,11 +242,13 @@ pub record WasTaken (done : Pairing) (before : List Pairing) : Type 0 where
   pub place : ℕ
   pub is : slice_get before place ≡ Some done
 
+-- a joining that is done in an event that is not forged was taken before, with the same random values
 abbrev pub AgreesAfter : List Entry → List Entry → Type 0
 AgreesAfter before [] = Unit {0}
 AgreesAfter before (x ∷ xs) =
     x.deeds.happened.forged ≡ false → IfSome x.deeds.done (λ done. WasTaken done (takings before)) × AgreesAfter (before ++ x ∷ []) xs
 
+-- the same from the beginning of a run
 abbrev pub Agrees : List Entry → Type 0
 Agrees entries = AgreesAfter [] entries
 
@@ -246,6 +263,7 @@ HasKey (Some m) key = InRing m.line.ring
     InRing None = ⊥
     InRing (Some g) = (g.key0 ≡ Some key) ⊎ (g.key1 ≡ Some key)
 
+-- the node of a number holds a key
 abbrev pub NodeHasKey : World → ℕ → Key → Type 0
 NodeHasKey w number key = IfSomeNode (node_at w number)
   where
@@ -262,14 +280,17 @@ abbrev pub is_kick_of : ℕ → Event → Bool
 is_kick_of number (events.Kick node) = node == number
 is_kick_of number _ = false
 
+-- whether an event allows a meter
 abbrev pub is_allow_of : ℕ → Event → Bool
 is_allow_of number (events.Allow node) = node == number
 is_allow_of number _ = false
 
+-- The entry in which a meter is kicked.
 pub record IsKicked (number : ℕ) (x : Entry) : Type 0 where
   pub event : is_kick_of number x.event ≡ true
   pub answer : x.deeds.happened.answer ≡ said.Kicked
 
+-- no entry allows a meter
 abbrev pub NeverAllowed : ℕ → List Entry → Type 0
 NeverAllowed number entries = All (λ (x : Entry). is_allow_of number x.event ≡ false) entries
 

@@ -30,6 +30,7 @@ use Rattle.node_rules.specs.Runs.{Entry, run, one_of}
 abbrev pub plain_tag : Key → List ℕ
 plain_tag key = take 4 key.0
 
+-- the octets in front of the tag, where the tag is that of the key
 abbrev pub plainly_opened : Key → List ℕ → Option (List ℕ)
 plainly_opened key body = if bytes_eq (drop (length body - 4) body) (plain_tag key) then Some (take (length body - 4) body) else None
 
@@ -37,16 +38,20 @@ plainly_opened key body = if bytes_eq (drop (length body - 4) body) (plain_tag k
 abbrev pub plain_channel : ℕ → Rand → List ℕ → List ℕ
 plain_channel nonce rand_p text = big_bytes 4 nonce ++ (rand_p.0 ++ text)
 
+-- the second packet, with the pair key as its MAC
 abbrev pub plain_second : Key → ℕ → Peer → List ℕ
 plain_second psk identifier peer = packets.head 2 identifier 62 1 peer.rand_s.0 ++ (peer.rand_p.0 ++ (psk.0 ++ peer.eui.0))
 
+-- the third packet, with the pair key as its MAC
 abbrev pub plain_third : Key → Server → Rand → Granted → List ℕ
 plain_third psk server rand_p granted =
     packets.third_head 2 server.rand_s.0 (length (packets.granting_text granted)) ++ (psk.0 ++ plain_channel 0 rand_p (packets.granting_text granted))
 
+-- the fourth packet
 abbrev pub plain_fourth : Key → ℕ → Peer → List ℕ
 plain_fourth psk identifier peer = packets.fourth_head identifier peer.rand_s.0 ++ plain_channel 1 peer.rand_p packets.success_text
 
+-- the first fault of a second packet
 abbrev pub plain_second_fault : Key → Server → List ℕ → Option EapFault
 plain_second_fault psk server packet =
     Some Form unless is_second packet
@@ -54,6 +59,7 @@ plain_second_fault psk server packet =
     then Some OtherSession unless bytes_eq (part 54 8 packet) server.eui.0
     then Some BadMac unless bytes_eq (part 38 16 packet) psk.0
 
+-- the first fault of a third packet
 abbrev pub plain_third_fault : Key → Peer → List ℕ → Option EapFault
 plain_third_fault psk peer packet =
     Some Form unless is_third packet
@@ -62,6 +68,7 @@ plain_third_fault psk peer packet =
     then Some BadChannel unless bytes_eq (part 42 16 packet) peer.rand_p.0
     then Some NoSuccess unless is_granting (after 58 packet)
 
+-- the first fault of a fourth packet
 abbrev pub plain_fourth_fault : Key → Server → Rand → List ℕ → Option EapFault
 plain_fourth_fault psk server rand_p packet =
     Some Form unless is_fourth packet
@@ -69,6 +76,7 @@ plain_fourth_fault psk server rand_p packet =
     then Some BadChannel unless bytes_eq (part 26 16 packet) rand_p.0
     then Some NoSuccess unless octet 0 (after 42 packet) == 0x80
 
+-- all of them together
 abbrev pub plain : Ciphers
 plain = record {
   seals = λ key head payload. payload ++ plain_tag key;
@@ -84,12 +92,15 @@ plain = record {
 
 -- # Words of a script
 
+-- the EUI of a number
 abbrev pub eui : ℕ → Eui
 eui n = record { 0 = big_bytes 8 n }
 
+-- the key of the group
 abbrev pub group_key : Key
 group_key = record { 0 = big_bytes 16 0x000102030405060708090a0b0c0d0e0f }
 
+-- the key of a pair
 abbrev pub pair_key : Key
 pair_key = record { 0 = big_bytes 16 0x101112131415161718191a1b1c1d1e1f }
 
@@ -97,11 +108,13 @@ pair_key = record { 0 = big_bytes 16 0x101112131415161718191a1b1c1d1e1f }
 abbrev pub two_meters : List Event
 two_meters = Coordinator (eui 1) group_key ∷ Meter (eui 2) pair_key ∷ Meter (eui 3) pair_key ∷ Depot 1 ∷ Depot 2 ∷ []
 
+-- the coordinator and three meters, each joined in the workshop
 abbrev pub three_meters : List Event
 three_meters =
     Coordinator (eui 1) group_key ∷ Meter (eui 2) pair_key ∷ Meter (eui 3) pair_key ∷ Meter (eui 4) pair_key
     ∷ Depot 1 ∷ Depot 2 ∷ Depot 3 ∷ []
 
+-- the coordinator and four meters, each joined in the workshop
 abbrev pub four_meters : List Event
 four_meters =
     Coordinator (eui 1) group_key ∷ Meter (eui 2) pair_key ∷ Meter (eui 3) pair_key ∷ Meter (eui 4) pair_key ∷ Meter (eui 5) pair_key
@@ -119,6 +132,7 @@ handed_at_last [] = None
 handed_at_last (x ∷ []) = x.deeds.happened.up
 handed_at_last (x ∷ (y ∷ rest)) = handed_at_last (y ∷ rest)
 
+-- what the last entry shows
 abbrev pub shown_at_last : List Entry → Option Shown
 shown_at_last [] = None
 shown_at_last (x ∷ []) = x.deeds.happened.shown
@@ -129,14 +143,17 @@ abbrev pub takers : List Entry → List ℕ
 takers [] = []
 takers (x ∷ rest) = one_of x.deeds.happened.took ++ takers rest
 
+-- the meters whose joining is done, in order
 abbrev pub doers : List Entry → List ℕ
 doers [] = []
 doers (x ∷ rest) = one_of x.deeds.happened.done ++ doers rest
 
+-- the addresses that were given out, in order
 abbrev pub admissions : List Entry → List Admission
 admissions [] = []
 admissions (x ∷ rest) = one_of x.deeds.happened.grant ++ admissions rest
 
+-- whether the last entry is a forged event
 abbrev pub forged_at_last : List Entry → Bool
 forged_at_last [] = false
 forged_at_last (x ∷ []) = x.deeds.happened.forged
@@ -155,9 +172,11 @@ pub record Counted : Type 0 where
   pub ups : ℕ
   pub forged : ℕ
 
+-- what a world has counted
 abbrev pub counted : World → Counted
 counted w = record { events = w.events; flights = length w.flights; sends = w.sends; ups = w.ups; forged = w.forged }
 
+-- what the world behind a script has counted
 abbrev pub counts_of : List Event → Counted
 counts_of events = counted (world_behind start (run plain start events))
 
@@ -166,5 +185,6 @@ abbrev pub fault_by : Step → Option StepFault
 fault_by (Ok r) = None
 fault_by (Err fault) = Some fault
 
+-- why an event is not taken behind a script
 abbrev pub fault_after : List Event → Event → Option StepFault
 fault_after events event = fault_by (step plain (world_behind start (run plain start events)) event)

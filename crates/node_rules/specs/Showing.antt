@@ -14,18 +14,22 @@ abbrev pub placed_by : {A : Type 0} → (A → ℕ) → A → List A → List A
 placed_by number x [] = x ∷ []
 placed_by number x (y ∷ ys) = if nat_lt (number x) (number y) then x ∷ (y ∷ ys) else y ∷ placed_by number x ys
 
+-- a list in the order of a number
 abbrev pub ordered_by : {A : Type 0} → (A → ℕ) → List A → List A
 ordered_by number [] = []
 ordered_by number (x ∷ xs) = placed_by number x (ordered_by number xs)
 
+-- a rank, with its next hop where the route is valid
 abbrev pub shown_route : RoutingEntry → ShownRoute
 shown_route e = record { dest = e.address; number = e.rank.number; cost = e.rank.cost; next = option_map (λ t. t.next) e.route }
 
+-- the mark of a peer
 abbrev pub shown_peer : Peer → ShownPeer
 shown_peer p = record { from = p.address; mark = p.mark }
 
 -- # A node
 
+-- a halted node shows that it is halted, and nothing else
 abbrev pub nothing_shown : Shown
 nothing_shown = record {
   halted = true;
@@ -40,6 +44,7 @@ nothing_shown = record {
   peers = [];
 }
 
+-- what a node that is not halted shows
 abbrev pub shown_line : Line → Shown
 shown_line l = record {
   halted = false;

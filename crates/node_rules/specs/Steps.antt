@@ -49,6 +49,7 @@ Step = Result (World × Deeds) StepFault
 
 -- # What a node did
 
+-- What a node did: the node that is left, its answer, its frames, and the pair tags that it made and opened.
 pub record Did (A : Type 0) : Type 0 where
   pub node : Node
   pub answer : A
@@ -56,9 +57,11 @@ pub record Did (A : Type 0) : Type 0 where
   pub made : List PairTag
   pub opened : List PairTag
 
+-- the node is left as it is
 abbrev pub stays : {A : Type 0} → Node → A → Did A
 stays x answer = record { node = x; answer = answer; frames = []; made = []; opened = [] }
 
+-- the node with the store and the memory that a plan left
 abbrev pub left_by : {A : Type 0} → Node → Outcome Memory A → Did A
 left_by x o = record {
   node = record x { store = record { records = o.records; cut = o.cut }; memory = o.memory };
@@ -90,12 +93,15 @@ changing answer m = resting m answer answer
 abbrev pub set_up : World → World
 set_up w = record w { events = w.events + 1 }
 
+-- an event of another kind than setup was taken: setup is over
 abbrev pub ran : World → World
 ran w = record w { events = w.events + 1; running = true }
 
+-- a frame of a node as a flight
 abbrev pub flight_by : ℕ → OutFrame → Flight
 flight_by from f = record { from = from; octets = f.octets; key = f.key; note = f.note; lost = false }
 
+-- the frames of a node as flights, in order
 abbrev pub flights_of : {A : Type 0} → Ciphers → ℕ → Did A → List Flight
 flights_of ciphers number d = map (λ frame. flight_by number (spelled ciphers frame)) d.frames
 
@@ -109,6 +115,7 @@ told ciphers w number d = record w {
 
 -- # What is said of an event
 
+-- an answer, and nothing beside it; the next flight would be the first
 abbrev pub happened : World → Answer → Happenings
 happened w answer = record {
   answer = answer;
@@ -122,6 +129,7 @@ happened w answer = record {
   flights = 0;
 }
 
+-- what the report says, and nothing beside it for the history
 abbrev pub deeds : Happenings → Deeds
 deeds h = record { happened = h; sent = None; issued = []; taken = None; done = None; made = []; opened = [] }
 
@@ -129,11 +137,13 @@ deeds h = record { happened = h; sent = None; issued = []; taken = None; done = 
 abbrev pub spoken : World → Did Answer → Deeds
 spoken w d = record (deeds (record (happened w d.answer) { flights = length d.frames })) { made = d.made; opened = d.opened }
 
+-- what a node did is told to the world and to the report
 abbrev pub acted : Ciphers → World → ℕ → Did Answer → World × Deeds
 acted ciphers w number d = (told ciphers (ran w) number d, spoken w d)
 
 -- # Which events are taken
 
+-- whether there is a coordinator
 abbrev pub has_begun : World → Bool
 has_begun w = nat_lt 0 (length w.nodes)
 
@@ -145,9 +155,11 @@ takes_setup w = has_begun w && not w.running
 abbrev pub once_begun : World → Step → Step
 once_begun w step = if has_begun w then step else Err faults.Setup
 
+-- a step of setup, which is not taken where setup is over
 abbrev pub in_setup : World → Step → Step
 in_setup w step = if takes_setup w then step else Err faults.Setup
 
+-- a step of a node, which is not taken where there is no such node
 abbrev pub on_node : World → ℕ → (Node → Step) → Step
 on_node w number step = option_map_or step (node_at w number) (Err faults.Node)
 
@@ -161,21 +173,27 @@ at_coordinator w step = on_node w 0 step
 
 -- # coordinator, meter
 
+-- a node with an empty store
 abbrev pub blank_node : Role → Eui → Node
 blank_node role eui = record { role = role; eui = eui; store = record { records = maps.empty; cut = None }; memory = Some (remembering blank_line []) }
 
+-- the coordinator, which begins with its first ring
 abbrev pub coordinator_node : Eui → Key → Node
 coordinator_node eui key = (acts (blank_node Coordinator eui) (Ok tt) (λ m. coordinator_rules.begin m (first_grant key))).node
 
+-- a node more
 abbrev pub made_node : World → Node → World × Deeds
 made_node w x = (record (set_up w) { nodes = w.nodes ++ x ∷ [] }, deeds (happened w said.Made))
 
+-- whether a node has this EUI
 abbrev pub is_known : World → Eui → Bool
 is_known w eui = list_any (λ (x : Node). same_eui x.eui eui) w.nodes
 
+-- the coordinator is node 0, and there is one
 unfoldable pub coordinator : World → Eui → Key → Step
 coordinator w eui key = if has_begun w then Err faults.Setup else Ok (made_node w (coordinator_node eui key))
 
+-- a meter is a node more, of 1,000 at most, with an EUI of its own
 unfoldable pub meter : World → Eui → Key → Step
 meter w eui psk =
     if not (takes_setup w) || (nat_lt 999 (length w.nodes) || is_known w eui) then Err faults.Setup
@@ -188,6 +206,7 @@ abbrev pub issued_at : Eui → ℕ → Option Key → List Issued
 issued_at eui index None = []
 issued_at eui index (Some key) = record { eui = eui; index = index; key = key } ∷ []
 
+-- the keys of a grant, as issued to a meter
 abbrev pub issued_by : Eui → Granted → List Issued
 issued_by eui g = issued_at eui 0 g.key0 ++ issued_at eui 1 g.key1
 
@@ -206,6 +225,7 @@ provisioned ciphers w number x g = (
   record (deeds (happened w said.Joined)) { issued = issued_by x.eui g },
 )
 
+-- the meter installs what the coordinator granted
 abbrev pub depot_by : Ciphers → World → ℕ → Node → Did (Result Granted CoordinatorRefusal) → Step
 depot_by ciphers w number x d = by_answer d.answer
   where
@@ -213,11 +233,13 @@ depot_by ciphers w number x d = by_answer d.answer
     by_answer (Ok g) = Ok (provisioned ciphers (told ciphers (set_up w) 0 d) number x g)
     by_answer (Err reason) = Err faults.Setup
 
+-- of a meter that has no address yet
 abbrev pub depot_at : Ciphers → World → ℕ → Node → Node → Step
 depot_at ciphers w number x c =
     if (number == 0) || is_some (node_address x) then Err faults.Setup
     else option_map_or (λ psk. depot_by ciphers w number x (acts c (Err orders.Halted) (λ m. coordinator_rules.depot m x.eui psk))) (psk_of x) (Err faults.Setup)
 
+-- a meter is joined in the workshop
 unfoldable pub depot : Ciphers → World → ℕ → Step
 depot ciphers w number = in_setup w (on_node w number (λ x. at_coordinator w (λ c. depot_at ciphers w number x c)))
 
@@ -227,12 +249,15 @@ depot ciphers w number = in_setup w (on_node w number (λ x. at_coordinator w (�
 abbrev pub keeps_rank : Node → ℕ → Bool
 keeps_rank x dest = option_map_or (λ (m : Memory). is_some (routing.rank_of m.line.routing dest)) x.memory false
 
+-- whether a node keeps 64 ranks
 abbrev pub ranks_full : Node → Bool
 ranks_full x = option_map_or (λ (m : Memory). nat_lt 63 (length m.line.routing.entries)) x.memory false
 
+-- a node takes a neighbour as a route of one hop
 abbrev pub offered_near : Node → ℕ → ℕ → ℕ → Did (Unit {0})
 offered_near x to cost now = answering (λ _. tt) (acts x (Ok tt) (λ m. of_line m (calls.preset_near m.line to cost now)))
 
+-- of two nodes that have addresses, keep no rank of each other and have room for one
 abbrev pub near_by : Ciphers → World → (a b cost : ℕ) → Node → Node → Option ℕ → Option ℕ → Step
 near_by ciphers w a b cost x y None q = Err faults.Setup
 near_by ciphers w a b cost x y (Some p) None = Err faults.Setup
@@ -240,36 +265,43 @@ near_by ciphers w a b cost x y (Some p) (Some q) =
     if (a == b) || (keeps_rank x q || (ranks_full x || ranks_full y)) then Err faults.Setup
     else Ok (told ciphers (told ciphers (set_up w) a (offered_near x q cost w.clock)) b (offered_near y p cost w.clock), deeds (happened w said.Set))
 
+-- two nodes are neighbours over a link of this cost
 unfoldable pub near : Ciphers → World → (a b cost : ℕ) → Step
 near ciphers w a b cost =
     in_setup w (on_node w a (λ x. on_node w b (λ y. near_by ciphers w a b cost x y (node_address x) (node_address y))))
 
 -- # counter, number
 
+-- a value of a node is set
 abbrev pub preset : Ciphers → World → ℕ → (Line → calls.Presetting) → Step
 preset ciphers w number plan =
     in_setup w (on_node w number (λ x. Ok (told ciphers (set_up w) number (acts x (Ok tt) (λ m. of_line m (plan m.line))), deeds (happened w said.Set))))
 
 -- # allow, rand, join, leave
 
+-- the word of a meter that is allowed
 abbrev pub allowed_word : Result ℕ CoordinatorRefusal → Answer
 allowed_word answer = ordered_word said.Allowed answer
 
+-- the address that a meter was given
 abbrev pub admission_by : ℕ → Result ℕ CoordinatorRefusal → Option Admission
 admission_by number (Ok address) = Some (record { node = number; address = address })
 admission_by number (Err reason) = None
 
+-- the coordinator has allowed a meter
 abbrev pub allowed : Ciphers → World → ℕ → Did (Result ℕ CoordinatorRefusal) → World × Deeds
 allowed ciphers w number d = (
   told ciphers (ran w) 0 d,
   deeds (record (happened w (allowed_word d.answer)) { grant = admission_by number d.answer }),
 )
 
+-- the coordinator allows a meter
 unfoldable pub allow : Ciphers → World → ℕ → Step
 allow ciphers w number =
     once_begun w (on_meter w number (λ x. at_coordinator w (λ c.
     option_map_or (λ psk. Ok (allowed ciphers w number (acts c (Err orders.Halted) (λ m. coordinator_rules.allow m x.eui psk)))) (psk_of x) (Err faults.Node))))
 
+-- a node is given a random value
 unfoldable pub rand : Ciphers → World → ℕ → Rand → Step
 rand ciphers w number value =
     once_begun w (on_node w number (λ x. Ok (acted ciphers w number (answering random_word (acts x (Err randoms.Halted) (λ m. give_random m value))))))
@@ -278,16 +310,19 @@ rand ciphers w number value =
 abbrev pub identity : Ciphers → Node → Key → meters.Identity
 identity ciphers x psk = record { eui = x.eui; psk = psk; ciphers = ciphers }
 
+-- of a meter, at an agent that has an address
 abbrev pub joins_by : Ciphers → World → ℕ → Node → Option ℕ → Option Key → World × Deeds
 joins_by ciphers w number x None psk = (ran w, deeds (happened w said.NoAddress))
 joins_by ciphers w number x (Some agent) None = (ran w, deeds (happened w said.NoAddress))
 joins_by ciphers w number x (Some agent) (Some psk) =
     acted ciphers w number (answering join_word (acts x (Err joins.Halted) (λ m. meters.join (identity ciphers x psk) m agent w.clock)))
 
+-- a meter is told to join at an agent
 unfoldable pub join : Ciphers → World → ℕ → ℕ → Step
 join ciphers w number agent =
     once_begun w (on_meter w number (λ x. on_node w agent (λ y. Ok (joins_by ciphers w number x (node_address y) (psk_of x)))))
 
+-- a meter is told to leave
 unfoldable pub leave : Ciphers → World → ℕ → Step
 leave ciphers w number =
     once_begun w (on_meter w number (λ x. Ok (acted ciphers w number (answering leave_word (acts x (Err leaves.Halted) meters.leave)))))
@@ -304,6 +339,7 @@ is_taken _ = false
 abbrev pub tag_of : Node → ℕ
 tag_of x = option_map_or (λ m. m.line.next_tag) x.memory 0
 
+-- a datagram that was taken counts as sent
 abbrev pub sent_if : World → ℕ → ℕ → List ℕ → ℕ → Bool → World × Deeds → World × Deeds
 sent_if w from to datagram tag false r = r
 sent_if w from to datagram tag true r = (
@@ -311,23 +347,28 @@ sent_if w from to datagram tag true r = (
   record r.1 { sent = Some (record { from = from; to = to; datagram = datagram; tag = tag }) },
 )
 
+-- what a node did about a datagram
 abbrev pub sending : Ciphers → World → (from to : ℕ) → List ℕ → ℕ → Did Answer → World × Deeds
 sending ciphers w from to datagram tag d = sent_if w from to datagram tag (is_taken d.answer) (acted ciphers w from d)
 
+-- to a target that has an address
 abbrev pub sends_by : Ciphers → World → (from to : ℕ) → List ℕ → Node → Option ℕ → World × Deeds
 sends_by ciphers w from to datagram x None = (ran w, deeds (happened w said.NoAddress))
 sends_by ciphers w from to datagram x (Some address) =
     sending ciphers w from to datagram (tag_of x)
     (answering sent_word (acts x (Err sends.Halted) (λ m. of_line m (calls.send m.line address datagram (w.sends + 1) w.clock))))
 
+-- a datagram is to go from one node to another
 unfoldable pub send : Ciphers → World → (from to : ℕ) → List ℕ → Step
 send ciphers w from to datagram =
     once_begun w (on_node w from (λ x. on_node w to (λ y. Ok (sends_by ciphers w from to datagram x (node_address y)))))
 
+-- the link to a node that has an address breaks
 abbrev pub breaks_by : Ciphers → World → ℕ → Node → Option ℕ → World × Deeds
 breaks_by ciphers w number x None = (ran w, deeds (happened w said.NoAddress))
 breaks_by ciphers w number x (Some next) = acted ciphers w number (acts x said.Halted (λ m. changing said.Broken (with_line (calls.broke next m.line) m)))
 
+-- a node is told that its link to another one broke
 unfoldable pub breaks : Ciphers → World → ℕ → ℕ → Step
 breaks ciphers w number next =
     once_begun w (on_node w number (λ x. on_node w next (λ y. Ok (breaks_by ciphers w number x (node_address y)))))
@@ -348,11 +389,13 @@ note_by w octets (paths.Sealed from to_all key) = note_of w.flights octets key
 note_by w octets (paths.Up from) = 0
 note_by w octets (paths.Down from) = 0
 
+-- whether octets that a node accepted are forged: only a sealed frame can be
 abbrev pub forged_by : World → List ℕ → Path → Bool
 forged_by w octets (paths.Sealed from to_all key) = is_forged_frame w.flights octets key
 forged_by w octets (paths.Up from) = false
 forged_by w octets (paths.Down from) = false
 
+-- one more, where it is so
 abbrev pub number_if : Bool → ℕ → ℕ
 number_if test n = if test then n + 1 else n
 
@@ -364,12 +407,15 @@ handed_by number up = option_map (λ (u : Up). record { node = number; note = u.
 abbrev pub number_of : World → Eui → ℕ
 number_of w eui = option_map_or (λ n. n) (position (λ (x : Node). same_eui x.eui eui) w.nodes) 0
 
+-- a joining that is done, by the number of its node
 abbrev pub done_by : World → Option CompletedJoining → Option Pairing
 done_by w done = option_map (λ (d : CompletedJoining). record { node = number_of w d.eui; agreed = d.agreed }) done
 
+-- the keys that were sent with a grant, as issued
 abbrev pub issued_of : Option SentGrant → List Issued
 issued_of keyed = option_map_or (λ (k : SentGrant). issued_by k.eui k.granted) keyed []
 
+-- what a frame led to, for the report and for the history
 abbrev pub reception_deeds : World → ℕ → Bool → Did Reception → Deeds
 reception_deeds w number forged d = record {
   happened = record (happened w d.answer.answer) {
@@ -387,6 +433,7 @@ reception_deeds w number forged d = record {
   opened = d.opened;
 }
 
+-- what a frame led to, in the world
 abbrev pub received : Ciphers → World → ℕ → Bool → Did Reception → World × Deeds
 received ciphers w number forged d =
     let told_world = told ciphers (ran w) number d in (
@@ -405,6 +452,7 @@ heard ciphers w number x octets got cost =
     let d = hears ciphers x got cost (note_by w octets got.path) w.clock in
     received ciphers w number (forged_by w octets got.path || list_any (is_forged_tag w.made) d.opened) d
 
+-- a frame that was accepted is heard, another one is refused
 abbrev pub accepted_by : Ciphers → World → ℕ → List ℕ → ℕ → Did (Result Accepted FrameRefusal) → World × Deeds
 accepted_by ciphers w number octets cost d = by_answer d.answer
   where
@@ -421,13 +469,16 @@ arrives ciphers w number x octets cost =
 abbrev pub on_flight : World → ℕ → (Flight → Step) → Step
 on_flight w number step = option_map_or (λ f. if f.lost then Err faults.Flight else step f) (flight_at w number) (Err faults.Flight)
 
+-- a flight comes to a node over a link of this cost
 unfoldable pub deliver : Ciphers → World → (flight number cost : ℕ) → Step
 deliver ciphers w flight number cost =
     once_begun w (on_node w number (λ x. on_flight w flight (λ f. Ok (arrives ciphers w number x f.octets cost))))
 
+-- octets of the script come to a node over a link of this cost
 unfoldable pub inject : Ciphers → World → (number cost : ℕ) → List ℕ → Step
 inject ciphers w number cost octets = once_begun w (on_node w number (λ x. Ok (arrives ciphers w number x octets cost)))
 
+-- a flight is lost
 unfoldable pub lose : World → ℕ → Step
 lose w number =
     once_begun w (on_flight w number (λ f. Ok (record (ran w) { flights = slice_set w.flights (number - 1) (record f { lost = true }) }, deeds (happened w said.Lost))))
@@ -442,6 +493,7 @@ ticked now x = record x { memory = option_map (tick_by x.role) x.memory }
     tick_by Coordinator m = coordinator_rules.tick now m
     tick_by (Meter psk) m = meters.tick now m
 
+-- the clock goes on by so many seconds, for every node
 unfoldable pub tick : World → ℕ → Step
 tick w seconds =
     once_begun w (Ok (
@@ -449,10 +501,12 @@ tick w seconds =
       deeds (happened w said.Ticked),
     ))
 
+-- the memory that a store gives, and none where it has no reading
 abbrev pub memory_by : Result Memory BadStore → Option Memory
 memory_by (Ok m) = Some m
 memory_by (Err bad) = None
 
+-- the word of a restart
 abbrev pub restart_word : Result Memory BadStore → Answer
 restart_word (Ok m) = said.Restarted
 restart_word (Err bad) = said.BadStore
@@ -461,43 +515,53 @@ restart_word (Err bad) = said.BadStore
 abbrev pub restarts : Node → Did Answer
 restarts x = stays (record x { memory = memory_by (memory_of x.role x.store.records) }) (restart_word (memory_of x.role x.store.records))
 
+-- a node restarts
 unfoldable pub restart : Ciphers → World → ℕ → Step
 restart ciphers w number = once_begun w (on_node w number (λ x. Ok (acted ciphers w number (restarts x))))
 
+-- a node will lose power at its nth write from now on
 unfoldable pub cut : Ciphers → World → ℕ → ℕ → Bool → Step
 cut ciphers w number nth keeps_new =
     once_begun w (on_node w number (λ x.
     Ok (acted ciphers w number (stays (record x { store = record x.store { cut = Some (record { nth = nth; keeps_new = keeps_new }) } }) said.Set))))
 
+-- a node shows what it holds
 unfoldable pub show : World → ℕ → Step
 show w number = once_begun w (on_node w number (λ x. Ok (ran w, deeds (record (happened w said.Shown) { shown = Some (shown_of x) }))))
 
 -- # rekey, challenge, activate, kick
 
+-- the coordinator carries out an order
 abbrev pub by_coordinator : {A : Type 0} → Ciphers → World → Node → Answer → (Memory → Plan Memory (Result A CoordinatorRefusal)) → World × Deeds
 by_coordinator ciphers w c answer order = acted ciphers w 0 (answering (ordered_word answer) (acts c (Err orders.Halted) order))
 
+-- the coordinator draws a key for an index
 unfoldable pub rekey : Ciphers → World → ℕ → Key → Step
 rekey ciphers w index key = once_begun w (at_coordinator w (λ c. Ok (by_coordinator ciphers w c said.Drawn (λ m. coordinator_rules.rekey m index key))))
 
+-- the coordinator opens a session with a meter
 unfoldable pub challenge : Ciphers → World → ℕ → Step
 challenge ciphers w number =
     once_begun w (on_meter w number (λ x. at_coordinator w (λ c. Ok (by_coordinator ciphers w c said.Challenged (λ m. coordinator_rules.challenge c.eui m x.eui w.clock)))))
 
+-- the coordinator seals with another key itself, or tells a meter to
 abbrev pub activate_at : Ciphers → World → ℕ → ℕ → Node → Node → World × Deeds
 activate_at ciphers w number index x c =
     if number == 0 then by_coordinator ciphers w c said.Activated (λ m. coordinator_rules.activate_self m index)
     else by_coordinator ciphers w c said.Ordered (λ m. coordinator_rules.activate m x.eui index w.clock)
 
+-- another key is to seal, at a node
 unfoldable pub activate : Ciphers → World → ℕ → ℕ → Step
 activate ciphers w number index = once_begun w (on_node w number (λ x. at_coordinator w (λ c. Ok (activate_at ciphers w number index x c))))
 
+-- the coordinator shuts a meter out
 unfoldable pub kick : Ciphers → World → ℕ → Step
 kick ciphers w number =
     once_begun w (on_meter w number (λ x. at_coordinator w (λ c. Ok (by_coordinator ciphers w c said.Kicked (λ m. coordinator_rules.kick m x.eui)))))
 
 -- # All kinds
 
+-- an event, by its kind
 abbrev pub step : Ciphers → World → Event → Step
 step ciphers w (events.Coordinator eui key) = coordinator w eui key
 step ciphers w (events.Meter eui psk) = meter w eui psk

@@ -25,6 +25,7 @@ pub record Flight : Type 0 where
   pub note : ℕ
   pub lost : Bool
 
+-- The world: the clock, the nodes, the flights, and what was counted.
 pub record World : Type 0 where
   -- the clock, in seconds
   pub clock : ℕ
@@ -48,6 +49,7 @@ pub record World : Type 0 where
 abbrev pub start : World
 start = record { clock = 0; events = 0; running = false; nodes = []; flights = []; made = []; sends = 0; ups = 0; forged = 0; done = 0 }
 
+-- the node of a number
 abbrev pub node_at : World → ℕ → Option Node
 node_at w number = slice_get w.nodes number
 
@@ -70,6 +72,7 @@ note_of (f ∷ rest) octets key = if has_octets octets key f then f.note else no
 abbrev pub is_forged_frame : List Flight → List ℕ → Key → Bool
 is_forged_frame flights octets key = not (list_any (has_octets octets key) flights)
 
+-- whether two random values are the same
 abbrev pub same_rand : Rand → Rand → Bool
 same_rand a b = bytes_eq a.0 b.0
 
@@ -102,12 +105,14 @@ pub record Admission : Type 0 where
   pub node : ℕ
   pub address : ℕ
 
+-- A rank that a node shows, and its next hop where the route is valid.
 pub record ShownRoute : Type 0 where
   pub dest : ℕ
   pub number : ℕ
   pub cost : ℕ
   pub next : Option ℕ
 
+-- A mark that a node shows.
 pub record ShownPeer : Type 0 where
   pub from : ℕ
   pub mark : ℕ
