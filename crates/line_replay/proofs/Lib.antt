@@ -1,3 +1,4 @@
+mod Quieting
 mod Running
 mod Turning
 pub mod Flies

@@ -1,10 +1,11 @@
 -- What a script does, line by line, and its report.
-use Rattle.std.specs.Prelude.{ℕ, ◌+◌, Bool, List, [], ◌∷◌, ◌++◌, if◌then◌else◌, nat_lt, Ok, Err}
+use Rattle.std.specs.Prelude.{◌≡◌, Some, ℕ, ◌+◌, Bool, List, [], ◌∷◌, ◌++◌, if◌then◌else◌, nat_lt, Ok, Err}
 use Rattle.line_driver.specs.Lines.{Content, Text, Long, TooMuch, Line, lines}
 use Rattle.line_driver.specs.Clauses.{IsStop}
 use Rattle.line_driver.specs.Outcomes.{Turn, Skips, Takes, Stops, Outcome, outcome as outcome_of}
 use Rattle.line_world.specs.declared.event.Event.{Event}
 use Rattle.line_world.specs.declared.event.StepFault.TheVariants as faults
+use Rattle.line_world.specs.declared.world.Flight.{Flight}
 use Rattle.line_world.specs.Worlds.{World, Step, start}
 use Rattle.line_world.specs.Steps.{step}
 use Rattle.line_world.specs.Runs.{Entry}
@@ -13,7 +14,7 @@ use Rattle.line_replay.specs.declared.reading.Reading.TheVariants.{Quiet, NoForm
 use Rattle.line_replay.specs.declared.report.Reason.{Reason}
 use Rattle.line_replay.specs.declared.report.Reason.TheVariants as reasons
 use Rattle.line_replay.specs.Readings.{reading}
-use Rattle.line_replay.specs.Texts.{happened_text, sent_text, bad_text, end_text}
+use Rattle.line_replay.specs.Texts.{happened_text, fly_by, sent_text, bad_text, end_text}
 
 -- What a line does: nothing, or it is an event that is taken, or it is bad.
 pub data Taking : Type 0 where
@@ -72,9 +73,33 @@ stops_at_too_much p number = tt
 abbrev pub outcome : Bool → List ℕ → Bool → Outcome Playing
 outcome quiet octets ended = outcome_of turn_of end_of (record { quiet = quiet; world = start }) octets ended
 
--- its report, and the quiet one, which lacks the lines of the flights and nothing else
+-- its report, quiet or not
 abbrev pub report : Bool → List ℕ → Bool → List ℕ
 report quiet octets ended = (outcome quiet octets ended).text
+
+-- ---- the quiet report
+
+-- A piece of a report: the line of a flight, or lines of another kind.
+pub data Piece : Type 0 where
+  Fly : (number : ℕ) (flight : Flight) → Piece
+  Other : (text : List ℕ) → Piece
+
+abbrev pub full_text : List Piece → List ℕ
+full_text [] = []
+full_text (Fly number flight ∷ pieces) = fly_by number (Some flight) ++ full_text pieces
+full_text (Other text ∷ pieces) = text ++ full_text pieces
+
+-- the same without the lines of the flights
+abbrev pub quiet_text : List Piece → List ℕ
+quiet_text [] = []
+quiet_text (Fly number flight ∷ pieces) = quiet_text pieces
+quiet_text (Other text ∷ pieces) = text ++ quiet_text pieces
+
+-- A text, and the one that lacks its lines of flights and nothing else.
+pub record IsQuieted (full quiet : List ℕ) : Type 0 where
+  pub pieces : List Piece
+  pub full_is : full ≡ full_text pieces
+  pub quiet_is : quiet ≡ quiet_text pieces
 
 -- whether a world has seen a forged event
 abbrev pub is_forged : Playing → Bool

@@ -13,7 +13,7 @@ use Rattle.line_replay.specs.declared.tool.Command.{Command}
 use Rattle.line_replay.specs.declared.tool.Command.TheVariants.{Replay, Show, Vectors}
 use Rattle.line_replay.specs.declared.status.Status.{Status}
 use Rattle.line_replay.specs.declared.status.Status.TheVariants as status
-use Rattle.line_replay.specs.Report.{is_forged, outcome, report, entries, entries_text, last_text, forged_in}
+use Rattle.line_replay.specs.Report.{is_forged, outcome, report, entries, entries_text, last_text, forged_in, IsQuieted}
 
 -- the command that words name, if they are of a form
 abbrev pub command_of : List (String Global) → Option Command
@@ -98,6 +98,8 @@ pub record Replays (quiet : Bool) (ahead : ℕ) (left0 left1 taken0 taken1 : Opt
   pub ran : Ran is_forged (outcome quiet) ahead left0 left1 taken0 taken1 ended source_rose sink_rose result
   -- the report is the lines of the run's entries, and then the last line
   pub by_entries : (e : Bool) → report quiet ran.b e ≡ entries_text quiet (entries ran.b e) ++ last_text ran.b e
+  -- the quiet report is the other one without the lines of the flights
+  pub quieted : (e : Bool) → IsQuieted (report false ran.b e) (report true ran.b e)
   pub holds : (e : Bool) → Holds (entries ran.b e)
   -- the status names a forged event exactly where there is one
   pub named : Names result (forged_in (entries ran.b true))

@@ -1,6 +1,7 @@
 use Rattle.std.proofs.Common.{sym, true}
 use Rattle.line_world.specs.Worlds.{start}
 use Rattle.line_replay.proofs.Running.{entries_run, report_by_entries, names, ran_of, whole_of, read_cause, write_cause}
+use Rattle.line_replay.proofs.Quieting.{report_quieted}
 use Rattle.line_replay.specs.Report.{entries, is_forged, outcome, turn_of, end_of}
 use Rattle.line_replay.proofs.tool.replay.Goals as goal
 
@@ -10,6 +11,7 @@ returns-clause-replays g c =
     record {
       ran = ran;
       by_entries = report_by_entries c.args.quiet ran.b;
+      quieted = λ e. report_quieted ran.b e;
       holds = λ e. record {
         safe = c.every_run_is_safe.ensures.entries (entries ran.b e) (entries_run ran.b e);
         forged = c.forged_events_are_told.ensures.entries (entries ran.b e) (entries_run ran.b e);
