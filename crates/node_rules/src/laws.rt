@@ -82,32 +82,32 @@ pub fn hearing_is_bounded()
     ensures { HearingIsBounded }
 {}
 
-/// A meter that hears a frame sends at most 24 frames, and stores in order: floors, a rank or the ring, the own number, the counter.
+/// The same of a meter that hears a frame, and it stores in order: floors, a rank or the ring, the own number, the counter.
 #[tactic(auto)]
 pub fn a_meters_hearing_is_bounded()
     ensures { AMetersHearingIsBounded }
 {}
 
-/// The coordinator that hears a frame sends at most 24 frames, and stores in order: floors, a rank or a book entry, the own number,
+/// The same of the coordinator that hears a frame, and it stores in order: floors, a rank or a book entry, the own number,
 /// the counter.
 #[tactic(auto)]
 pub fn a_coordinators_hearing_is_bounded()
     ensures { ACoordinatorsHearingIsBounded }
 {}
 
-/// A send of a datagram or of a command sends at most 24 frames, and stores in order: the tag, the own number, the counter.
+/// The same of a send of a datagram or of a command, and it stores in order: the tag, the own number, the counter.
 #[tactic(auto)]
 pub fn a_send_is_bounded()
     ensures { ASendIsBounded }
 {}
 
-/// A meter that joins or leaves sends at most 24 frames, and stores in order: the ring, the counter.
+/// The same of a meter that joins or leaves, and it stores in order: the ring, the counter.
 #[tactic(auto)]
 pub fn a_join_is_bounded()
     ensures { AJoinIsBounded }
 {}
 
-/// An order of the operator sends at most 24 frames, and stores in order: the ring or book entries, the own number, the counter.
+/// The same of an order of the operator, and it stores in order: the ring or book entries, the own number, the counter.
 #[tactic(auto)]
 pub fn an_order_is_bounded()
     ensures { AnOrderIsBounded }
