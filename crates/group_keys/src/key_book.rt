@@ -3,7 +3,7 @@ ghost use Rattle.std.specs.Prelude.{◌≡◌, ◌⊎◌, ◌+◌, ◌<◌, ◌�
 ghost use Rattle.std.specs.Bool.{OnTrue};
 ghost use Rattle.std.specs.Option.{option_map, option_and_then};
 ghost use Rattle.plc_base.specs.Keeper.{Stores, SameOutside};
-ghost use Rattle.plc_base.specs.SlotTables.{IsTable, IsGapless, IsReading, IsBad, opened};
+ghost use Rattle.plc_base.specs.SlotTables.{IsTable, IsGapless, IsReading, IsBad, opened, read_into};
 ghost use Rattle.plc_base.specs.declared.address.Eui.{Eui};
 ghost use Rattle.group_keys.specs.KeyBook.{Book, entries, IsKept, eui_number, entry_for, address_of, is_allowed, issued_at, has_room, place_for, with_entry, change_write, allowed_one, allow_change, kick_change, issue_change, changing_result, changing_after, changing_write, done_result, is_stored};
 
@@ -150,6 +150,16 @@ impl KeyBook {
     {
         let table = SlotTable::open(keeper)?;
         Ok(KeyBook { table })
+    }
+
+    /// The same in place of what the book held, so that no book is made or copied.
+    pub fn reload<K: Keeper>(&mut self, keeper: &K) -> Result<(), BadStore>
+        ensures book { read_into result self.new ≡ opened entries (K.store keeper.now).records }
+        ensures reading { OnOk result (IsReading entries self.new (K.store keeper.now).records) }
+        ensures kept { IsGapless entries (K.store keeper.now).records → OnOk result (IsKept self.new (K.store keeper.now).records) }
+        ensures reopened { (book : Book) → IsTable entries book → IsKept book (K.store keeper.now).records → (result ≡ Ok tt) × (self.new ≡ map (λ entry. entry) book) }
+    {
+        self.table.reload(keeper)
     }
 
     /// The entry of a meter, None exactly where it is not known.

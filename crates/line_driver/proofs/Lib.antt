@@ -3,3 +3,4 @@ mod LineLaws
 mod Taking
 pub mod Turned
 mod Turns
+mod Windows

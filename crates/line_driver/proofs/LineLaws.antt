@@ -1,16 +1,9 @@
 -- Lines in terms of whole lines.
-use Rattle.std.proofs.Common.{◌≡◌, inl, inr, ℕ, ◌+◌, ◌≤◌, Bool, true, false, List, [], ◌∷◌, ◌++◌, length, map, refl, sym, ◌∙◌, ap, arith, append_assoc, length-append, add-zero}
+use Rattle.std.proofs.Common.{◌≡◌, inl, inr, ℕ, ◌+◌, ◌≤◌, Bool, true, false, List, [], ◌∷◌, ◌++◌, length, map, refl, sym, ◌∙◌, ap, arith, length-append}
 use Rattle.std.proofs.lemmas.List.{append-nil}
 use Rattle.std.proofs.lemmas.Bool.{cases_lt, lt-ltb, le-ltb}
 use Rattle.line_driver.specs.Lines.{Content, Line, content_of, lines_from, lines, NoFeed, NoFeeds, script, rest_line}
-use Rattle.line_driver.proofs.Taking.{fed, grown}
-
--- octets with no line feed belong to the line
-taken : (seen count : ℕ) (part xs cs : List ℕ) (e : Bool) → NoFeed xs → seen + length xs ≤ 67108864 → lines_from seen count part (xs ++ cs) e ≡ lines_from (seen + length xs) count (part ++ xs) cs e
-taken seen count part [] cs e none room = rw (add-zero, append-nil part) refl
-taken seen count part (x ∷ xs) cs e none room =
-    grown seen count part (xs ++ cs) x e (omega (arith, room)) none.0 ∙ taken (seen + 1) count (part ++ x ∷ []) xs cs e none.1 (omega (arith, room))
-    ∙ ap (λ (l : List ℕ). lines_from (seen + 1 + length xs) count l cs e) (append_assoc part (x ∷ []) xs) ∙ ap (λ n. lines_from n count (part ++ x ∷ xs) cs e) (omega arith)
+use Rattle.line_driver.proofs.Taking.{fed, stretched}
 
 contents : List Line → List Content
 contents ls = map (λ (l : Line). l.content) ls
@@ -23,10 +16,10 @@ at_end seen count part true = elim (cases_lt 0 (length part)) [ inl some ↦ rw 
 from : (seen count : ℕ) (whole : List (List ℕ)) (rest : List ℕ) (e : Bool) → NoFeeds whole → NoFeed rest → seen + length (script whole rest) ≤ 67108864 → contents (lines_from seen count [] (script whole rest) e) ≡ map content_of whole ++ rest_line rest e
 unfolding contents
 from seen count [] rest e feeds none room =
-    ap (λ (l : List ℕ). contents (lines_from seen count [] l e)) (sym (append-nil rest)) ∙ ap contents (taken seen count [] rest [] e none room) ∙ at_end (seen + length rest) count rest e
+    ap (λ (l : List ℕ). contents (lines_from seen count [] l e)) (sym (append-nil rest)) ∙ ap contents (stretched seen count [] rest [] e none room) ∙ at_end (seen + length rest) count rest e
 from seen count (line ∷ whole) rest e feeds none room =
     let long = length-append line (10 ∷ script whole rest) in
-    ap contents (taken seen count [] line (10 ∷ script whole rest) e feeds.0 (omega (arith, room, long))) ∙ ap contents (fed (seen + length line) count line (script whole rest) 10 e (omega (arith, room, long)) refl)
+    ap contents (stretched seen count [] line (10 ∷ script whole rest) e feeds.0 (omega (arith, room, long))) ∙ ap contents (fed (seen + length line) count line (script whole rest) 10 e (omega (arith, room, long)) refl)
     ∙ ap (λ (l : List Content). content_of line ∷ l) (from (seen + length line + 1) (count + 1) whole rest e feeds.1 none (omega (arith, room, long)))
 
 pub lines_are : (whole : List (List ℕ)) (rest : List ℕ) (e : Bool) → NoFeeds whole → NoFeed rest → length (script whole rest) ≤ 67108864 → map (λ (l : Line). l.content) (lines (script whole rest) e) ≡ map content_of whole ++ rest_line rest e

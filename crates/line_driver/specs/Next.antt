@@ -1,16 +1,18 @@
 -- What a reader of lines takes from its source.
-use Rattle.std.specs.Prelude.{◌≡◌, ℕ, ◌+◌, ◌<◌, ◌≤◌, Bool, false, List, [], ◌∷◌, ◌++◌, true, Result, None, Some, IsTrue, OnErr, IfOk}
+use Rattle.std.specs.Prelude.{◌≡◌, ◌⊎◌, ℕ, ◌+◌, ◌<◌, ◌≤◌, Bool, false, List, [], ◌∷◌, ◌++◌, length, take, slice_index, if◌then◌else◌, nat_le, true, Result, None, Some, IsTrue, OnErr, IfOk}
 use Rattle.std.specs.declared.option.Option.{Option}
 use Rattle.std.specs.Io.KnownBytes.{Consumes, IsAtEnd}
 use Rattle.plc_base.specs.declared.streams.Failed.{Failed}
 use Rattle.line_driver.specs.declared.input.LineKind.{LineKind}
 use Rattle.line_driver.specs.declared.input.LineKind.TheVariants as kinds
-use Rattle.line_driver.specs.Lines.{Content, Text, Long, TooMuch, Line, lines_from}
+use Rattle.line_driver.specs.declared.input.Found.{Found}
+use Rattle.line_driver.specs.declared.input.Found.TheVariants.{Feed, PastRoom, Neither}
+use Rattle.line_driver.specs.Lines.{NoFeed, Content, Text, Long, TooMuch, Line, lines_from}
 
--- a line that was read to its end
-abbrev pub kind_of : Bool → LineKind
-kind_of true = kinds.Long
-kind_of false = kinds.Text
+-- A line that was read to its end, of which so many octets stand in the window, and maybe more before them.
+abbrev pub kind_by : Bool → ℕ → LineKind
+kind_by true count = kinds.Long
+kind_by false count = if nat_le count 4096 then kinds.Text else kinds.Long
 
 -- the source has ended, and none is left
 abbrev pub IsOver : Bool → Option (List ℕ) → Type 0
@@ -26,17 +28,36 @@ content_found octets kinds.Text = Text octets
 content_found octets kinds.Long = Long
 content_found octets kinds.TooMuch = TooMuch
 
-abbrev pub OctetIs : List ℕ → List ℕ → List ℕ → Bool → Option ℕ → Type 0
-OctetIs window0 octets window1 ended1 None = (window0 ++ octets ≡ []) × (window1 ≡ []) × IsTrue ended1
-OctetIs window0 octets window1 ended1 (Some c) = window0 ++ octets ≡ c ∷ window1
-
--- An octet, the end of input, or a failure, and what the source gave for it.
-pub record NextOctet (left0 left1 : Option (List ℕ)) (window0 window1 : List ℕ) (ended0 ended1 : Bool) (result : Result (Option ℕ) Failed) : Type 0 where
+-- A read behind the octets ahead, which so many came by.
+pub record Given (left0 left1 : Option (List ℕ)) (ahead0 ahead1 : List ℕ) (count : ℕ) : Type 0 where
   pub octets : List ℕ
   pub gave : Consumes left0 left1 octets
-  pub found : IfOk result (OctetIs window0 octets window1 ended1)
-  pub failed : OnErr result ((ended0 ≡ false) × (window0 ≡ []) × (octets ≡ []))
-  pub still : IsTrue ended0 → (octets ≡ []) × IsTrue ended1
+  pub grown : ahead1 ≡ ahead0 ++ octets
+  pub counted : length octets ≡ count
+
+-- The same, where the end of input is seen if none came.
+pub record Refilled (left0 left1 : Option (List ℕ)) (ahead0 ahead1 : List ℕ) (ended1 : Bool) : Type 0 where
+  pub octets : List ℕ
+  pub gave : Consumes left0 left1 octets
+  pub grown : ahead1 ≡ ahead0 ++ octets
+  pub none : octets ≡ [] → IsTrue ended1
+
+-- All octets ahead are used where they are more than a line may have, which makes the line too long.
+abbrev pub Shed : ℕ → ℕ → List ℕ → List ℕ → Bool → Bool → Type 0
+Shed seen0 seen1 ahead0 ahead1 long0 long1 =
+    ((length ahead0 ≤ 4096) × (seen1 ≡ seen0) × (ahead1 ≡ ahead0) × (long1 ≡ long0))
+    ⊎ ((4096 < length ahead0) × (seen1 ≡ seen0 + length ahead0) × (ahead1 ≡ []) × (long1 ≡ true))
+
+-- Where the first line feed stands among so many octets, if there is one.
+abbrev pub FeedIs : List ℕ → ℕ → Option ℕ → Type 0
+FeedIs octets stop (Some at) = (at < stop) × (slice_index octets at ≡ 10) × NoFeed (take at octets)
+FeedIs octets stop None = NoFeed (take stop octets)
+
+-- What stands first among octets of which so many may be used: a line feed behind this many others, an octet that is too much, or neither.
+abbrev pub FoundIs : List ℕ → ℕ → Found → Type 0
+FoundIs octets room (Feed at) = (at < room) × (at < length octets) × (slice_index octets at ≡ 10) × NoFeed (take at octets)
+FoundIs octets room PastRoom = (room < length octets) × NoFeed (take room octets)
+FoundIs octets room Neither = (length octets ≤ room) × NoFeed octets
 
 -- what may come behind: nothing, where the input has ended
 abbrev pub MayFollow : Bool → List ℕ → Bool → Type 0

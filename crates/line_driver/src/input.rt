@@ -1,30 +1,23 @@
 //! The lines of a source, through a window.
-ghost use Rattle.std.specs.Prelude.{◌≡◌, ◌+◌, ◌<◌, ◌≤◌, [], length, if◌then◌else◌, nat_lt, Some, None, IfOk, OnOk, OnErr, IsTrue, false};
-ghost use Rattle.std.specs.Io.KnownBytes.{Consumes, Keeps};
+ghost use Rattle.std.specs.Prelude.{◌≡◌, ◌+◌, ◌<◌, ◌≤◌, ◌++◌, [], length, take, if◌then◌else◌, nat_lt, Some, None, IfOk, OnErr, IsTrue, false};
+ghost use Rattle.std.specs.Io.KnownBytes.{Keeps};
 ghost use Rattle.plc_base.specs.Causes.{HasCause};
-ghost use Rattle.line_driver.specs.Next.{NextOctet, NextLine, IsOver, StaysOver, kind_of};
+ghost use Rattle.line_driver.specs.Lines.{NoFeed};
+ghost use Rattle.line_driver.specs.Windows.{passed};
+ghost use Rattle.line_driver.specs.Next.{NextLine, IsOver, StaysOver, Refilled, Shed, FeedIs, FoundIs, kind_by};
 
-use arrayvec::ArrayVec;
-use circular_buffer::HeapCircularBuffer;
+use crate::window::{MAX_LINE, Window};
+use memchr::memchr;
 use plc_base::{Failed, Source};
 use std::alloc::{AllocError, Global};
-
-/// So many octets are read ahead.
-pub const WINDOW: usize = 8192;
-
-/// A line has at most so many octets.
-pub const MAX_LINE: usize = 4096;
 
 /// A script has at most so many octets.
 pub const MAX_INPUT: u32 = 67_108_864;
 
-/// The octets of a line that is not too long.
-pub type LineBuffer = ArrayVec<u8, 4096>;
-
-/// What was found: a line in the buffer, one that is too long, or the octet that is too much.
+/// What was found: a line, one that is too long, or the octet that is too much.
 #[derive(Clone, Copy, Debug, PartialEq, Eq)]
 pub enum LineKind {
-    /// A line of at most 4,096 octets, which stand in the buffer.
+    /// A line of at most 4,096 octets, which stand in the window.
     Text,
     /// A line of more octets. They were counted and not kept.
     Long,
@@ -32,19 +25,88 @@ pub enum LineKind {
     TooMuch,
 }
 
+/// What stands first among the octets ahead.
+#[derive(Clone, Copy)]
+pub enum Found {
+    /// A line feed behind so many other octets.
+    Feed(usize),
+    /// No line feed among those that may be used, and more octets.
+    PastRoom,
+    /// No line feed.
+    Neither,
+}
+
+/// Looks for a line feed among the octets from `clear` up to `end`, where those before them are none.
+fn find_feed(octets: &[u8], clear: usize, end: usize) -> Option<usize>
+    requires order { clear ≤ end }
+    requires within { end ≤ length octets.now }
+    requires none { NoFeed (take clear octets.now) }
+    ensures { FeedIs octets.now end result }
+{
+    match memchr(b'\n', &octets[clear..end]) {
+        Some(at) => Some(clear + at),
+        None => None,
+    }
+}
+
+/// Looks for what stands first in two slices, where `clear` octets are known to be no line feeds and `room` octets may be used.
+fn look_in(front: &[u8], back: &[u8], clear: usize, room: usize) -> Found
+    requires clear { clear ≤ length (front.now ++ back.now) }
+    requires within { clear ≤ room }
+    requires none { NoFeed (take clear (front.now ++ back.now)) }
+    ensures { FoundIs (front.now ++ back.now) room result }
+{
+    let whole = front.len() + back.len();
+    let end = whole.min(room);
+    let middle = front.len();
+    if let Some(at) = find_feed(front, clear.min(middle), end.min(middle)) {
+        return Found::Feed(at);
+    }
+    match find_feed(
+        back,
+        clear.saturating_sub(middle),
+        end.saturating_sub(middle),
+    ) {
+        Some(at) => Found::Feed(middle + at),
+        None if end < whole => Found::PastRoom,
+        None => Found::Neither,
+    }
+}
+
+/// Looks for what stands first, where `clear` octets are known to be no line feeds and `room` octets may be used.
+fn look(window: &Window, clear: usize, room: usize) -> Found
+    requires clear { clear ≤ length window.now.ahead }
+    requires within { clear ≤ room }
+    requires none { NoFeed (take clear window.now.ahead) }
+    ensures { FoundIs window.now.ahead room result }
+{
+    let (front, back) = window.ahead();
+    look_in(front, back, clear, room)
+}
+
+/// The kind of a line of which so many octets stand in the window, and more before them where it is `long`.
+fn kind_by(long: bool, count: usize) -> LineKind
+    ensures { result ≡ kind_by long count }
+{
+    if long || count > MAX_LINE {
+        LineKind::Long
+    } else {
+        LineKind::Text
+    }
+}
+
 /// How far a source was read.
 #[derive(Drop)]
 pub struct Input {
-    /// The octets that were read and are not used yet, at most 8,192.
-    pub window: HeapCircularBuffer<u8>,
-    /// How many octets were taken out of the window.
+    /// The line that was found last, and the octets that were read and are not used yet, at most 8,192.
+    pub window: Window,
+    /// How many octets were used.
     pub seen: u32,
     /// How many lines were taken: the number of the last one.
     pub count: u32,
     /// Whether a read has answered the end of input.
     pub ended: bool,
-    ghost capacity: { window.capacity ≡ 8192 },
-    ghost bounded: { length window.items ≤ 8192 },
+    ghost bounded: { length window.ahead ≤ 8192 },
     ghost counted: { count ≤ seen },
     ghost within: { seen ≤ 67108865 },
 }
@@ -52,111 +114,128 @@ pub struct Input {
 impl Input {
     /// Nothing read yet. It takes the memory of the window.
     pub fn new(alloc: Global) -> Result<Input, AllocError>
-        ensures window { IfOk result (λ input. input.window.items ≡ []) }
+        ensures window { IfOk result (λ input. input.window.ahead ≡ []) }
         ensures seen { IfOk result (λ input. input.seen ≡ 0) }
         ensures count { IfOk result (λ input. input.count ≡ 0) }
         ensures ended { IfOk result (λ input. input.ended ≡ false) }
     {
-        let window = HeapCircularBuffer::with_capacity(alloc, WINDOW)?;
         Ok(Input {
-            window,
+            window: Window::new(alloc)?,
             seen: 0,
             count: 0,
             ended: false,
         })
     }
 
-    /// Reads the next line into the buffer. After an `Err` the input is not used again.
-    pub fn next_line<S: Source>(
-        &mut self,
-        source: &mut S,
-        line: &mut LineBuffer,
-    ) -> Result<Option<LineKind>, Failed>
+    /// Finds the next line. After an `Err` the input is not used again.
+    pub fn next_line<S: Source>(&mut self, source: &mut S) -> Result<Option<LineKind>, Failed>
         requires { self.old.seen ≤ 67108864 }
         ensures next { NextLine (S.left source.old) (S.left source.new)
-            self.old.seen self.old.count self.old.window.items self.old.ended
-            self.new.seen self.new.count self.new.window.items self.new.ended line.new.items result }
+            self.old.seen self.old.count self.old.window.ahead self.old.ended
+            self.new.seen self.new.count self.new.window.ahead self.new.ended self.new.window.line result }
         ensures over { StaysOver self.old.ended self.new.ended (S.ended source.old) (S.ended source.new) (S.left source.old) (S.left source.new) }
         ensures cause { HasCause (S.faults source.old) (S.faults source.new) result }
     {
-        line.clear();
-        let mut long = false;
         let begin = self.seen;
-        while self.seen < MAX_INPUT {
-            match self.next_octet(source)? {
-                None => return Ok(self.last_line(begin, long)),
-                Some(b'\n') => {
-                    self.seen += 1;
-                    self.count += 1;
-                    return Ok(Some(if long { LineKind::Long } else { LineKind::Text }));
-                }
-                Some(octet) => {
-                    self.seen += 1;
-                    if line.len() < MAX_LINE {
-                        line.push(octet);
-                    } else {
-                        long = true;
-                    }
-                }
+        let mut long = false;
+        let mut clear = 0;
+        loop {
+            let room = (MAX_INPUT - self.seen) as usize;
+            match look(&self.window, clear, room) {
+                Found::Feed(at) => return Ok(Some(self.take_line(at, long))),
+                Found::PastRoom => return Ok(Some(self.take_too_much(room))),
+                Found::Neither => {}
             }
-        }
-        match self.next_octet(source)? {
-            None => Ok(self.last_line(begin, long)),
-            Some(_) => {
-                self.seen += 1;
-                self.count += 1;
-                Ok(Some(LineKind::TooMuch))
+            if self.ended {
+                return Ok(self.take_last(begin, long));
             }
+            long = self.shed(long);
+            clear = self.window.len();
+            self.refill(source)?;
         }
     }
 
-    /// The line that the end of input ends, if it has an octet.
-    fn last_line(&mut self, begin: u32, long: bool) -> Option<LineKind>
+    /// Takes the line that a line feed behind so many octets ends.
+    fn take_line(&mut self, at: usize, long: bool) -> LineKind
+        requires there { at < length self.old.window.ahead }
+        requires room { self.old.seen + at < 67108864 }
+        ensures kind { result ≡ kind_by long at }
+        ensures window { self.new.window ≡ passed self.old.window at (at + 1) }
+        ensures seen { self.new.seen ≡ self.old.seen + at + 1 }
+        ensures count { self.new.count ≡ self.old.count + 1 }
+        ensures ended { self.new.ended ≡ self.old.ended }
+    {
+        self.window.pass(at, at + 1);
+        self.seen += at as u32 + 1;
+        self.count += 1;
+        kind_by(long, at)
+    }
+
+    /// Takes the octet that is too much, behind so many others.
+    fn take_too_much(&mut self, room: usize) -> LineKind
+        requires there { room < length self.old.window.ahead }
+        requires last { self.old.seen + room ≡ 67108864 }
+        ensures kind { result ≡ LineKind.TooMuch }
+        ensures window { self.new.window ≡ passed self.old.window room (room + 1) }
+        ensures count { self.new.count ≡ self.old.count + 1 }
+        ensures ended { self.new.ended ≡ self.old.ended }
+    {
+        self.window.pass(room, room + 1);
+        self.seen = MAX_INPUT + 1;
+        self.count += 1;
+        LineKind::TooMuch
+    }
+
+    /// Takes the line that the end of input ends, if it has an octet: all that is ahead.
+    fn take_last(&mut self, begin: u32, long: bool) -> Option<LineKind>
         requires counted { self.old.count ≤ begin }
         requires begun { begin ≤ self.old.seen }
-        ensures kind { result ≡ (if nat_lt begin self.old.seen then Some (kind_of long) else None) }
-        ensures count { self.new.count ≡ (if nat_lt begin self.old.seen then self.old.count + 1 else self.old.count) }
-        ensures same { (self.new.seen ≡ self.old.seen) × (self.new.window ≡ self.old.window) × (self.new.ended ≡ self.old.ended) }
+        requires room { self.old.seen + length self.old.window.ahead ≤ 67108864 }
+        ensures kind { result ≡ (if nat_lt begin (self.old.seen + length self.old.window.ahead) then Some (kind_by long (length self.old.window.ahead)) else None) }
+        ensures window { self.new.window ≡ passed self.old.window (length self.old.window.ahead) (length self.old.window.ahead) }
+        ensures seen { self.new.seen ≡ self.old.seen + length self.old.window.ahead }
+        ensures count { self.new.count ≡ (if nat_lt begin (self.old.seen + length self.old.window.ahead) then self.old.count + 1 else self.old.count) }
+        ensures ended { self.new.ended ≡ self.old.ended }
     {
+        let count = self.window.len();
+        self.window.pass(count, count);
+        self.seen += count as u32;
         if begin == self.seen {
             return None;
         }
         self.count += 1;
-        Some(if long { LineKind::Long } else { LineKind::Text })
+        Some(kind_by(long, count))
     }
 
-    /// The next octet, or nothing at the end of input.
-    fn next_octet<S: Source>(&mut self, source: &mut S) -> Result<Option<u8>, Failed>
-        ensures next { NextOctet (S.left source.old) (S.left source.new) self.old.window.items self.new.window.items self.old.ended self.new.ended result }
-        ensures seen { self.new.seen ≡ self.old.seen }
+    /// Uses all that is ahead where it is more than a line may have. Answers whether the line is too long.
+    fn shed(&mut self, long: bool) -> bool
+        requires room { self.old.seen + length self.old.window.ahead ≤ 67108864 }
+        ensures shed { Shed self.old.seen self.new.seen self.old.window.ahead self.new.window.ahead long result }
         ensures count { self.new.count ≡ self.old.count }
-        ensures over { StaysOver self.old.ended self.new.ended (S.ended source.old) (S.ended source.new) (S.left source.old) (S.left source.new) }
-        ensures cause { HasCause (S.faults source.old) (S.faults source.new) result }
+        ensures ended { self.new.ended ≡ self.old.ended }
     {
-        if self.window.is_empty() && !self.ended {
-            self.refill(source)?;
+        let count = self.window.len();
+        if count <= MAX_LINE {
+            return long;
         }
-        Ok(self.window.pop_front())
+        self.window.pass(count, count);
+        self.seen += count as u32;
+        true
     }
 
-    /// Reads once into the empty window.
+    /// Reads once, behind the octets ahead.
     fn refill<S: Source>(&mut self, source: &mut S) -> Result<(), Failed>
-        requires empty { self.old.window.items ≡ [] }
+        requires room { length self.old.window.ahead < 8192 }
         requires going { self.old.ended ≡ false }
-        ensures given { OnOk result (Consumes (S.left source.old) (S.left source.new) self.new.window.items) }
-        ensures none { OnOk result (self.new.window.items ≡ [] → IsTrue self.new.ended) }
+        ensures given { IfOk result (λ _. Refilled (S.left source.old) (S.left source.new) self.old.window.ahead self.new.window.ahead self.new.ended) }
         ensures over { IsTrue self.new.ended → IsOver (S.ended source.new) (S.left source.new) }
-        ensures err { OnErr result ((self.new.window.items ≡ []) × (self.new.ended ≡ false) × Keeps (S.left source.old) (S.left source.new)) }
+        ensures err { OnErr result ((self.new.window.ahead ≡ self.old.window.ahead) × (self.new.ended ≡ false) × Keeps (S.left source.old) (S.left source.new)) }
         ensures seen { self.new.seen ≡ self.old.seen }
         ensures count { self.new.count ≡ self.old.count }
         ensures cause { HasCause (S.faults source.old) (S.faults source.new) result }
     {
-        let mut chunk = [0u8; WINDOW];
-        let count = source.read(&mut chunk)?;
-        if count == 0 {
-            self.ended = true;
-        }
-        self.window.fill_from_slice(&chunk[..count]);
+        let count = self.window.fill(source)?;
+        self.ended = count == 0;
         Ok(())
     }
 }

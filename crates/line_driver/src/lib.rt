@@ -5,8 +5,10 @@ mod input;
 mod laws;
 mod machine;
 mod telling;
+mod window;
 
-pub use input::{LineKind, MAX_INPUT, MAX_LINE, WINDOW};
+pub use input::{LineKind, MAX_INPUT};
 pub use laws::lines_of_a_script;
 pub use machine::{Exit, LineMachine, run};
-pub use telling::{stop, tell};
+pub use telling::{stop, tell, tell_made};
+pub use window::{MAX_LINE, WINDOW};

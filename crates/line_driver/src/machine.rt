@@ -7,7 +7,8 @@ ghost use Rattle.line_driver.specs.Next.{content_found};
 ghost use Rattle.line_driver.specs.Outcomes.{Turn};
 ghost use Rattle.line_driver.specs.Clauses.{Told, Turned, IsStop, Drives};
 
-use crate::input::{Input, LineBuffer, LineKind, WINDOW};
+use crate::input::{Input, LineKind};
+use crate::window::{WINDOW, Window};
 use plc_base::{Failed, Sink, Source};
 use std::alloc::Global;
 
@@ -64,7 +65,7 @@ fn follow<M: LineMachine, S: Source, K: Sink>(
     source: &mut S,
     sink: &mut K,
 ) -> Exit
-    requires window { input.old.window.items ≡ [] }
+    requires window { input.old.window.ahead ≡ [] }
     requires seen { input.old.seen ≡ 0 }
     requires count { input.old.count ≡ 0 }
     requires going { input.old.ended ≡ false }
@@ -74,9 +75,8 @@ fn follow<M: LineMachine, S: Source, K: Sink>(
     ensures source { S.faults source.old ≤ S.faults source.new }
     ensures sink { K.faults sink.old ≤ K.faults sink.new }
 {
-    let mut line = LineBuffer::new();
     loop {
-        match input.next_line(source, &mut line) {
+        match input.next_line(source) {
             Err(Failed) => return Exit::ReadFault,
             Ok(None) => {
                 return match machine.finish(sink) {
@@ -84,7 +84,7 @@ fn follow<M: LineMachine, S: Source, K: Sink>(
                     Err(end) => end,
                 };
             }
-            Ok(Some(kind)) => match take_line(machine, input.count, kind, &line, sink) {
+            Ok(Some(kind)) => match take_line(machine, input.count, kind, &input.window, sink) {
                 Ok(()) => {}
                 Err(end) => return end,
             },
@@ -96,13 +96,13 @@ fn take_line<M: LineMachine, K: Sink>(
     machine: &mut M,
     number: u32,
     kind: LineKind,
-    line: &LineBuffer,
+    window: &Window,
     sink: &mut K,
 ) -> Result<(), Exit>
-    ensures turned { Turned (K.taken sink.old) (K.taken sink.new) (Rose (K.faults sink.old) (K.faults sink.new)) machine.old machine.new (M.turn machine.old number (content_found line.now.items kind)) result }
+    ensures turned { Turned (K.taken sink.old) (K.taken sink.new) (Rose (K.faults sink.old) (K.faults sink.new)) machine.old machine.new (M.turn machine.old number (content_found window.now.line kind)) result }
     ensures later { K.faults sink.old ≤ K.faults sink.new }
 {
-    machine.take(number, kind, line.as_slice(), sink)
+    machine.take(number, kind, window.line(), sink)
 }
 
 /// Reads a script from the source line by line, and writes the report of a machine to the sink.

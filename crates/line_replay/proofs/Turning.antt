@@ -1,5 +1,6 @@
 -- The turn of a line that is an event.
-use Rattle.std.proofs.Common.{◌≡◌, ℕ, ◌+◌, ◌<◌, Bool, List, ◌++◌, Ok, Result, refl, sym, subst}
+use Rattle.std.proofs.Common.{◌≡◌, ℕ, ◌+◌, ◌<◌, Bool, List, [], ◌++◌, Ok, Err, Result, refl, sym, ap, ◌∙◌, subst}
+use Rattle.std.specs.Prelude.{OnOk}
 use Rattle.std.proofs.lemmas.Bool.{lt-ltb}
 use Rattle.std.specs.declared.option.Option.{Option}
 use Rattle.line_driver.specs.declared.machine.Exit.{Exit}
@@ -27,3 +28,8 @@ event_taken {taken0} {taken1} {rose} quiet number count w next e h r counts room
     subst (λ (turn : Turn Playing). Turned {M = Playing} taken0 taken1 rose (record { quiet = quiet; world = w }) (record { quiet = quiet; world = next }) turn r) (sym (turn_is quiet number w next e h room is))
     (subst (λ n. Turned {M = Playing} taken0 taken1 rose (record { quiet = quiet; world = w }) (record { quiet = quiet; world = next }) (Takes (record { quiet = quiet; world = next }) (text_of quiet (n + 1) next h)) r) counts
     (taken (text_of quiet (count + 1) next h) r t (record { quiet = quiet; world = w }) (record { quiet = quiet; world = next })))
+
+-- what a buffer has that was emptied, where the text was appended
+pub made_so : {T E : Type 0} (r : Result T E) (text : List ℕ) {shown old new : List ℕ} → shown ≡ new → old ≡ [] → OnOk r (new ≡ old ++ text) → OnOk r (shown ≡ text)
+made_so (Ok t) text is none made = is ∙ made ∙ ap (λ (l : List ℕ). l ++ text) none
+made_so (Err e) text is none made = tt

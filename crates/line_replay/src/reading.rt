@@ -3,18 +3,21 @@ ghost use Rattle.std.specs.Prelude.{◌≡◌, ◌==◌, ◌<◌, length, positi
 ghost use Rattle.std.specs.Option.{option_map};
 ghost use Rattle.line_replay.specs.Readings.{field, Field, digit_more, number_from, number, cost, eui, key, hex_octets, coordinator_of, meter_of, depot_of, near_of, counter_of, send_of, deliver_of, inject_of, lose_of, restart_of, setup_by, event_by, event_of, reading};
 
-use line_world::{Event, LineOctets};
+use line_world::{Event, OctetRef};
 use plc_base::{Eui, Key, LinkCost};
+
+/// The most octets that a line holds in hexadecimal.
+pub const LINE_OCTETS: usize = 2048;
 
 /// What a line says.
 #[derive(Drop)]
-pub enum Reading {
+pub enum Reading<'a> {
     /// Nothing: it is empty, or a comment.
     Quiet,
     /// It has no reading.
     NoForm,
     /// An event.
-    Reads(Event),
+    Reads(Event<'a>),
 }
 
 /// The word that a space ends, and what stands behind the space.
@@ -105,21 +108,22 @@ fn key(digits: &[u8]) -> Option<Key>
     Some(Key(octets))
 }
 
+/// The octets that digits stand for. They stand in `space`.
 #[tactic(auto, unfolding(crate::specs::Readings::hex_octets))]
-pub fn hex_octets(digits: &[u8]) -> Option<LineOctets>
+pub fn hex_octets<'a>(digits: &[u8], space: &'a mut [u8]) -> Option<OctetRef<'a>>
+    requires { length space.old ≡ LINE_OCTETS }
     ensures { result ≡ hex_octets digits.now }
 {
-    if digits.is_empty() || digits.len() > 4096 {
+    if digits.is_empty() || digits.len() > 2 * LINE_OCTETS {
         return None;
     }
-    let mut buffer = [0u8; 2048];
-    let octets = &mut buffer[..digits.len() / 2];
+    let octets = &mut space[..digits.len() / 2];
     hex::decode_to_slice(digits, octets).ok()?;
-    Some(LineOctets::from_octets(octets))
+    Some(OctetRef::new(octets))
 }
 
 #[tactic(auto, unfolding(crate::specs::Readings::coordinator_of))]
-fn coordinator(octets: &[u8]) -> Option<Event>
+fn coordinator(octets: &[u8]) -> Option<Event<'static>>
     ensures { result ≡ coordinator_of octets.now }
 {
     let (word, rest) = field(octets)?;
@@ -129,7 +133,7 @@ fn coordinator(octets: &[u8]) -> Option<Event>
 }
 
 #[tactic(auto, unfolding(crate::specs::Readings::meter_of))]
-fn meter(octets: &[u8]) -> Option<Event>
+fn meter(octets: &[u8]) -> Option<Event<'static>>
     ensures { result ≡ meter_of octets.now }
 {
     let (word, rest) = field(octets)?;
@@ -139,7 +143,7 @@ fn meter(octets: &[u8]) -> Option<Event>
 }
 
 #[tactic(auto, unfolding(crate::specs::Readings::depot_of))]
-fn depot(octets: &[u8]) -> Option<Event>
+fn depot(octets: &[u8]) -> Option<Event<'static>>
     ensures { result ≡ depot_of octets.now }
 {
     let node = number(octets)?;
@@ -147,7 +151,7 @@ fn depot(octets: &[u8]) -> Option<Event>
 }
 
 #[tactic(auto, unfolding(crate::specs::Readings::near_of))]
-fn near(octets: &[u8]) -> Option<Event>
+fn near(octets: &[u8]) -> Option<Event<'static>>
     ensures { result ≡ near_of octets.now }
 {
     let (word, rest) = field(octets)?;
@@ -159,19 +163,20 @@ fn near(octets: &[u8]) -> Option<Event>
 }
 
 #[tactic(auto, unfolding(crate::specs::Readings::send_of))]
-fn send(octets: &[u8]) -> Option<Event>
+fn send<'a>(octets: &[u8], space: &'a mut [u8]) -> Option<Event<'a>>
+    requires { length space.old ≡ LINE_OCTETS }
     ensures { result ≡ send_of octets.now }
 {
     let (word, rest) = field(octets)?;
     let from = number(word)?;
     let (word, rest) = field(rest)?;
     let to = number(word)?;
-    let datagram = hex_octets(rest)?;
+    let datagram = hex_octets(rest, space)?;
     Some(Event::Send { from, to, datagram })
 }
 
 #[tactic(auto, unfolding(crate::specs::Readings::deliver_of))]
-fn deliver(octets: &[u8]) -> Option<Event>
+fn deliver(octets: &[u8]) -> Option<Event<'static>>
     ensures { result ≡ deliver_of octets.now }
 {
     let (word, rest) = field(octets)?;
@@ -183,7 +188,7 @@ fn deliver(octets: &[u8]) -> Option<Event>
 }
 
 #[tactic(auto, unfolding(crate::specs::Readings::counter_of))]
-fn counter(octets: &[u8]) -> Option<Event>
+fn counter(octets: &[u8]) -> Option<Event<'static>>
     ensures { result ≡ counter_of octets.now }
 {
     let (word, rest) = field(octets)?;
@@ -193,19 +198,20 @@ fn counter(octets: &[u8]) -> Option<Event>
 }
 
 #[tactic(auto, unfolding(crate::specs::Readings::inject_of))]
-fn inject(octets: &[u8]) -> Option<Event>
+fn inject<'a>(octets: &[u8], space: &'a mut [u8]) -> Option<Event<'a>>
+    requires { length space.old ≡ LINE_OCTETS }
     ensures { result ≡ inject_of octets.now }
 {
     let (word, rest) = field(octets)?;
     let node = number(word)?;
     let (word, rest) = field(rest)?;
     let cost = cost(word)?;
-    let octets = hex_octets(rest)?;
+    let octets = hex_octets(rest, space)?;
     Some(Event::Inject { node, cost, octets })
 }
 
 #[tactic(auto, unfolding(crate::specs::Readings::lose_of))]
-fn lose(octets: &[u8]) -> Option<Event>
+fn lose(octets: &[u8]) -> Option<Event<'static>>
     ensures { result ≡ lose_of octets.now }
 {
     let flight = number(octets)?;
@@ -213,7 +219,7 @@ fn lose(octets: &[u8]) -> Option<Event>
 }
 
 #[tactic(auto, unfolding(crate::specs::Readings::restart_of))]
-fn restart(octets: &[u8]) -> Option<Event>
+fn restart(octets: &[u8]) -> Option<Event<'static>>
     ensures { result ≡ restart_of octets.now }
 {
     let node = number(octets)?;
@@ -221,16 +227,17 @@ fn restart(octets: &[u8]) -> Option<Event>
 }
 
 #[tactic(auto, unfolding(crate::specs::Readings::event_of))]
-fn event(octets: &[u8]) -> Option<Event>
+fn event<'a>(octets: &[u8], space: &'a mut [u8]) -> Option<Event<'a>>
+    requires { length space.old ≡ LINE_OCTETS }
     ensures { result ≡ event_of octets.now }
 {
     let (word, rest) = field(octets)?;
-    event_by(word, rest)
+    event_by(word, rest, space)
 }
 
 /// The event of a line of a setup kind by its first word.
 #[tactic(auto, unfolding(crate::specs::Readings::setup_by))]
-fn setup_by(word: &[u8], rest: &[u8]) -> Option<Event>
+fn setup_by(word: &[u8], rest: &[u8]) -> Option<Event<'static>>
     ensures { result ≡ setup_by word.now rest.now }
 {
     if word == b"coordinator".as_slice() {
@@ -250,15 +257,16 @@ fn setup_by(word: &[u8], rest: &[u8]) -> Option<Event>
 
 /// The event of a line by its first word.
 #[tactic(auto, unfolding(crate::specs::Readings::event_by))]
-fn event_by(word: &[u8], rest: &[u8]) -> Option<Event>
+fn event_by<'a>(word: &[u8], rest: &[u8], space: &'a mut [u8]) -> Option<Event<'a>>
+    requires { length space.old ≡ LINE_OCTETS }
     ensures { result ≡ event_by word.now rest.now }
 {
     if word == b"send".as_slice() {
-        send(rest)
+        send(rest, space)
     } else if word == b"deliver".as_slice() {
         deliver(rest)
     } else if word == b"inject".as_slice() {
-        inject(rest)
+        inject(rest, space)
     } else if word == b"lose".as_slice() {
         lose(rest)
     } else if word == b"restart".as_slice() {
@@ -268,15 +276,16 @@ fn event_by(word: &[u8], rest: &[u8]) -> Option<Event>
     }
 }
 
-/// What a line says. An empty line and one that begins with # say nothing.
+/// What a line says. An empty line and one that begins with # say nothing. The octets of an event stand in `space`.
 #[tactic(auto, unfolding(crate::specs::Readings::reading))]
-pub fn read_line(octets: &[u8]) -> Reading
+pub fn read_line<'a>(octets: &[u8], space: &'a mut [u8]) -> Reading<'a>
+    requires { length space.old ≡ LINE_OCTETS }
     ensures { result ≡ reading octets.now }
 {
     match octets.first() {
         None => Reading::Quiet,
         Some(b'#') => Reading::Quiet,
-        Some(_) => match event(octets) {
+        Some(_) => match event(octets, space) {
             Some(event) => Reading::Reads(event),
             None => Reading::NoForm,
         },

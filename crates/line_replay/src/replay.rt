@@ -1,5 +1,5 @@
 //! A world that takes the lines of a script and reports what they do.
-ghost use Rattle.std.specs.Prelude.{◌≡◌, ◌≤◌, ◌++◌, IfOk, string_bytes};
+ghost use Rattle.std.specs.Prelude.{◌≡◌, ◌≤◌, ◌++◌, OnOk, string_bytes};
 ghost use Rattle.plc_base.specs.Causes.{Rose};
 ghost use Rattle.line_driver.specs.Clauses.{Turned};
 ghost use Rattle.line_world.specs.Worlds.{start};
@@ -7,20 +7,92 @@ ghost use Rattle.line_replay.specs.declared.reading.Reading.TheVariants.{Reads};
 ghost use Rattle.line_replay.specs.Texts.{happened_text, sent_text};
 ghost use Rattle.line_replay.specs.Report.{Playing, is_forged, reading_taking, turn_by, turn_of, end_of, stops_at_too_much};
 
-use crate::reading::{Reading, read_line};
-use crate::report::{Reason, end_text, happened_text, push_sent, refuse};
-use line_driver::{Exit, LineKind, LineMachine, tell};
+use crate::reading::{LINE_OCTETS, Reading, read_line};
+use crate::report::{Reason, end_text, push_happened, push_sent, refuse};
+use line_driver::{Exit, LineKind, LineMachine, tell, tell_made};
 use line_world::{Event, Happenings, MAX_EVENTS, StepFault, World};
-use plc_base::Sink;
+use plc_base::{FrameBuf, Sink};
 use std::alloc::{AllocError, Global};
 use std::marker::Model;
 
 /// The world that a script acts on. A contract sees it, and whether its report is quiet.
 #[derive(Drop)]
-pub struct Replay {
+struct Player {
     alloc: Global,
     quiet: bool,
     world: World,
+    // Where the payload stands of the frame that was opened last.
+    payload: FrameBuf,
+    // The report of the event that was taken last.
+    text: String,
+}
+
+impl Model for Player {
+    ghost use Rattle.line_replay.specs.Report.{Playing};
+
+    ghost Value = { Playing };
+
+    ghost view = { λ p. record { quiet = p.quiet; world = p.world } };
+}
+
+/// Appends the lines of an event of this number that was taken.
+fn push_entry(
+    text: &mut String,
+    alloc: Global,
+    quiet: bool,
+    world: &World,
+    number: u32,
+    happened: &Happenings<'_>,
+) -> Result<(), AllocError>
+    ensures { OnOk result (string_bytes text.new ≡ string_bytes text.old ++ (happened_text number happened.now ++ sent_text quiet world.now happened.now.first_flight)) }
+{
+    push_happened(text, alloc, number, happened)?;
+    push_sent(text, alloc, quiet, world, happened.first_flight)
+}
+
+impl Player {
+    /// Takes an event, and reports it.
+    #[tactic(auto, using(line_driver::proofs::Turned::stopped))]
+    fn take_event<K: Sink>(
+        &mut self,
+        number: u32,
+        event: &Event<'_>,
+        sink: &mut K,
+    ) -> Result<(), Exit>
+        ensures turned { Turned (K.taken sink.old) (K.taken sink.new) (Rose (K.faults sink.old) (K.faults sink.new)) self.old self.new (turn_by self.old.quiet number (reading_taking self.old.world (Reads event.now))) result }
+        ensures later { K.faults sink.old ≤ K.faults sink.new }
+    {
+        let taken = self.world.counts().events;
+        if taken >= MAX_EVENTS {
+            return refuse(self.alloc, number, Reason::Events, sink);
+        }
+        let happened = match self.world.step(event, &mut self.payload) {
+            Ok(happened) => happened,
+            Err(StepFault::Memory) => return Err(Exit::Memory),
+            Err(StepFault::Setup) => return refuse(self.alloc, number, Reason::Setup, sink),
+            Err(StepFault::Node) => return refuse(self.alloc, number, Reason::Node, sink),
+            Err(StepFault::Flight) => return refuse(self.alloc, number, Reason::Flight, sink),
+        };
+        self.text.clear();
+        let made = push_entry(
+            &mut self.text,
+            self.alloc,
+            self.quiet,
+            &self.world,
+            taken + 1,
+            &happened,
+        );
+        tell_made(sink, made, self.text.as_str())
+    }
+}
+
+/// Takes the lines of a script and reports what they do. A contract sees the world, and whether the report is quiet.
+#[derive(Drop)]
+pub struct Replay {
+    alloc: Global,
+    player: Player,
+    // Where the octets stand that the line holds in hexadecimal.
+    space: [u8; LINE_OCTETS],
 }
 
 impl Model for Replay {
@@ -28,7 +100,7 @@ impl Model for Replay {
 
     ghost Value = { Playing };
 
-    ghost view = { λ r. record { quiet = r.quiet; world = r.world } };
+    ghost view = { λ r. r.player };
 }
 
 impl Replay {
@@ -38,8 +110,14 @@ impl Replay {
     {
         Replay {
             alloc,
-            quiet,
-            world: World::new(alloc),
+            player: Player {
+                alloc,
+                quiet,
+                world: World::new(alloc),
+                payload: FrameBuf::new(),
+                text: String::new(alloc),
+            },
+            space: [0; LINE_OCTETS],
         }
     }
 
@@ -47,42 +125,7 @@ impl Replay {
     pub fn is_forged(&self) -> bool
         ensures { result ≡ is_forged self.now }
     {
-        self.world.counts().forged > 0
-    }
-
-    // The lines of an event of this number that was taken.
-    fn entry_text(&self, number: u32, happened: &Happenings) -> Result<String, AllocError>
-        ensures { IfOk result (λ text. string_bytes text ≡ happened_text number happened.now ++ sent_text self.now.quiet self.now.world happened.now.first_flight) }
-    {
-        let mut text = happened_text(self.alloc, number, happened)?;
-        push_sent(
-            &mut text,
-            self.alloc,
-            self.quiet,
-            &self.world,
-            happened.first_flight,
-        )?;
-        Ok(text)
-    }
-
-    /// Takes an event, and reports it.
-    #[tactic(auto, using(line_driver::proofs::Turned::stopped))]
-    fn take_event<K: Sink>(&mut self, number: u32, event: &Event, sink: &mut K) -> Result<(), Exit>
-        ensures turned { Turned (K.taken sink.old) (K.taken sink.new) (Rose (K.faults sink.old) (K.faults sink.new)) self.old self.new (turn_by self.old.quiet number (reading_taking self.old.world (Reads event.now))) result }
-        ensures later { K.faults sink.old ≤ K.faults sink.new }
-    {
-        let taken = self.world.counts().events;
-        if taken >= MAX_EVENTS {
-            return refuse(self.alloc, number, Reason::Events, sink);
-        }
-        let happened = match self.world.step(event) {
-            Ok(happened) => happened,
-            Err(StepFault::Memory) => return Err(Exit::Memory),
-            Err(StepFault::Setup) => return refuse(self.alloc, number, Reason::Setup, sink),
-            Err(StepFault::Node) => return refuse(self.alloc, number, Reason::Node, sink),
-            Err(StepFault::Flight) => return refuse(self.alloc, number, Reason::Flight, sink),
-        };
-        tell(sink, self.entry_text(taken + 1, &happened))
+        self.player.world.counts().forged > 0
     }
 }
 
@@ -101,18 +144,19 @@ impl LineMachine for Replay {
         line: &[u8],
         sink: &mut K,
     ) -> Result<(), Exit> {
+        let alloc = self.alloc;
         match kind {
-            LineKind::TooMuch => refuse(self.alloc, number, Reason::Input, sink),
-            LineKind::Long => refuse(self.alloc, number, Reason::Long, sink),
-            LineKind::Text => match read_line(line) {
+            LineKind::TooMuch => refuse(alloc, number, Reason::Input, sink),
+            LineKind::Long => refuse(alloc, number, Reason::Long, sink),
+            LineKind::Text => match read_line(line, &mut self.space) {
                 Reading::Quiet => Ok(()),
-                Reading::NoForm => refuse(self.alloc, number, Reason::Form, sink),
-                Reading::Reads(event) => self.take_event(number, &event, sink),
+                Reading::NoForm => refuse(alloc, number, Reason::Form, sink),
+                Reading::Reads(event) => self.player.take_event(number, &event, sink),
             },
         }
     }
 
     fn finish<K: Sink>(&self, sink: &mut K) -> Result<(), Exit> {
-        tell(sink, end_text(self.alloc, &self.world))
+        tell(sink, end_text(self.player.alloc, &self.player.world))
     }
 }

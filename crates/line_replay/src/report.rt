@@ -8,6 +8,7 @@ use line_driver::{Exit, stop};
 use line_world::{Answer, Handed, Happenings, World};
 use plc_base::Sink;
 use std::alloc::{AllocError, Global};
+use std::fmt::Write;
 
 /// Why a line is bad. The reasons are tried in this order.
 #[derive(Clone, Copy, Debug, PartialEq, Eq)]
@@ -97,80 +98,78 @@ fn reason_word(reason: Reason) -> &'static str
 }
 
 #[tactic(auto, unfolding(crate::specs::Texts::answer_text))]
-fn answer_text(alloc: Global, number: u32, answer: Answer) -> Result<String, AllocError>
-    ensures { IfOk result (λ text. string_bytes text ≡ answer_text number answer) }
+fn push_answer(text: &mut String, number: u32, answer: Answer) -> Result<(), AllocError>
+    ensures { OnOk result (string_bytes text.new ≡ string_bytes text.old ++ answer_text number answer) }
 {
     let verdict = verdict_word(answer);
     let word = answer_word(answer);
-    format!(in alloc; "{number} {verdict} {word}\n")
+    match write!(text, "{number} {verdict} {word}\n") {
+        Ok(()) => Ok(()),
+        Err(_) => Err(AllocError),
+    }
 }
 
 #[tactic(auto, unfolding(crate::specs::Texts::up_text))]
-fn up_text(alloc: Global, up: &Handed) -> Result<String, AllocError>
-    ensures { IfOk result (λ text. string_bytes text ≡ up_text (Some up.now)) }
-{
-    let node = up.node;
-    let note = up.note;
-    let octets = hex::encode(alloc, up.octets.octets())?;
-    format!(in alloc; "up {node} {note} {octets}\n")
-}
-
-#[tactic(auto, unfolding(crate::specs::Texts::up_text))]
-fn push_up(text: &mut String, alloc: Global, up: &Option<Handed>) -> Result<(), AllocError>
+fn push_up(text: &mut String, alloc: Global, up: &Option<Handed<'_>>) -> Result<(), AllocError>
     ensures { OnOk result (string_bytes text.new ≡ string_bytes text.old ++ up_text up.now) }
 {
     match up {
         None => Ok(()),
         Some(up) => {
-            let line = up_text(alloc, up)?;
-            text.push_str(line.as_str())
+            let node = up.node;
+            let note = up.note;
+            let octets = hex::encode(alloc, up.octets.octets())?;
+            match write!(text, "up {node} {note} {octets}\n") {
+                Ok(()) => Ok(()),
+                Err(_) => Err(AllocError),
+            }
         }
     }
 }
 
 #[tactic(auto, unfolding(crate::specs::Texts::forged_text))]
-fn push_forged(
-    text: &mut String,
-    alloc: Global,
-    number: u32,
-    forged: bool,
-) -> Result<(), AllocError>
+fn push_forged(text: &mut String, number: u32, forged: bool) -> Result<(), AllocError>
     ensures { OnOk result (string_bytes text.new ≡ string_bytes text.old ++ forged_text number forged) }
 {
     if !forged {
         return Ok(());
     }
-    let line = format!(in alloc; "forged {number}\n")?;
-    text.push_str(line.as_str())
+    match write!(text, "forged {number}\n") {
+        Ok(()) => Ok(()),
+        Err(_) => Err(AllocError),
+    }
 }
 
-/// The lines of an event of this number, without those of its flights.
+/// Appends the lines of an event of this number, without those of its flights.
 #[tactic(auto, unfolding(crate::specs::Texts::happened_text))]
-pub fn happened_text(
+pub fn push_happened(
+    text: &mut String,
     alloc: Global,
     number: u32,
-    happened: &Happenings,
-) -> Result<String, AllocError>
-    ensures { IfOk result (λ text. string_bytes text ≡ happened_text number happened.now) }
+    happened: &Happenings<'_>,
+) -> Result<(), AllocError>
+    ensures { OnOk result (string_bytes text.new ≡ string_bytes text.old ++ happened_text number happened.now) }
 {
-    let mut text = answer_text(alloc, number, happened.answer)?;
-    push_forged(&mut text, alloc, number, happened.forged)?;
-    push_up(&mut text, alloc, &happened.up)?;
-    Ok(text)
+    push_answer(text, number, happened.answer)?;
+    push_forged(text, number, happened.forged)?;
+    push_up(text, alloc, &happened.up)
 }
 
 #[tactic(auto, unfolding(crate::specs::Texts::fly_text))]
-fn fly_text(alloc: Global, world: &World, number: u32) -> Result<String, AllocError>
-    ensures { IfOk result (λ text. string_bytes text ≡ fly_text world.now number) }
+fn push_fly(text: &mut String, alloc: Global, world: &World, number: u32) -> Result<(), AllocError>
+    ensures { OnOk result (string_bytes text.new ≡ string_bytes text.old ++ fly_text world.now number) }
 {
     let Some(octets) = world.flight(number) else {
-        return Ok(String::new(alloc));
+        return Ok(());
     };
     let Some(node) = world.flight_sender(number) else {
-        return Ok(String::new(alloc));
+        return Ok(());
     };
     let octets = hex::encode(alloc, octets)?;
-    format!(in alloc; "fly {number} {node} {octets}\n")
+    match write!(text, "fly {number} {node} {octets}\n") {
+        Ok(()) => Ok(()),
+        Err(_) => Err(AllocError),
+    }
 }
 
 /// Appends the lines of the flights from a number on: none to a quiet report.
@@ -195,8 +194,7 @@ fn push_flies(text: &mut String, alloc: Global, world: &World, first: u32) -> Re
 {
     let last = world.counts().flights;
     for number in u64::from(first)..u64::from(last) + 1 {
-        let line = fly_text(alloc, world, number as u32)?;
-        text.push_str(line.as_str())?;
+        push_fly(text, alloc, world, number as u32)?;
     }
     Ok(())
 }

@@ -1,12 +1,12 @@
 //! Frames in hexadecimal, one a line, and what each is.
-ghost use Rattle.std.specs.Prelude.{◌≡◌, ◌≤◌, IfOk, string_bytes, List, ℕ};
+ghost use Rattle.std.specs.Prelude.{◌≡◌, ◌≤◌, length, IfOk, string_bytes, List, ℕ};
 ghost use Rattle.line_replay.specs.Shown.{frame_line, kind_word, short_word, payload_word, plain_text, head_text, fault_text, frame_text_by, shown_text, frames_text, show_turn, show_stops};
 ghost use Rattle.mac_frames.specs.Faults.{frame_fault};
 
-use crate::reading::hex_octets;
+use crate::reading::{LINE_OCTETS, hex_octets};
 use crate::report::{Reason, refuse};
 use line_driver::{Exit, LineKind, LineMachine, tell};
-use line_world::LineOctets;
+use line_world::OctetRef;
 use mac_frames::{FrameFault, FrameFaultKind, MacHead, read_frame};
 use plc_base::{Eui, Sink};
 use std::alloc::{AllocError, Global};
@@ -14,23 +14,24 @@ use std::marker::Model;
 
 /// What a line holds.
 #[derive(Drop)]
-pub enum FrameLine {
+pub enum FrameLine<'a> {
     /// Nothing: it is empty, or a comment.
     Quiet,
     /// It has no reading.
     NoForm,
     /// Octets that should be a frame.
-    Reads(LineOctets),
+    Reads(OctetRef<'a>),
 }
 
 #[tactic(auto, unfolding(crate::specs::Shown::frame_line))]
-fn frame_line(octets: &[u8]) -> FrameLine
+fn frame_line<'a>(octets: &[u8], space: &'a mut [u8]) -> FrameLine<'a>
+    requires { length space.old ≡ LINE_OCTETS }
     ensures { result ≡ frame_line octets.now }
 {
     match octets.first() {
         None => FrameLine::Quiet,
         Some(b'#') => FrameLine::Quiet,
-        Some(_) => match hex_octets(octets) {
+        Some(_) => match hex_octets(octets, space) {
             Some(octets) => FrameLine::Reads(octets),
             None => FrameLine::NoForm,
         },
@@ -145,6 +146,7 @@ fn frames_text(alloc: Global, frames: u64) -> Result<String, AllocError>
 #[derive(Drop)]
 pub struct Show {
     alloc: Global,
+    space: [u8; LINE_OCTETS],
     frames: u64,
 }
 
@@ -161,7 +163,11 @@ impl Show {
     pub fn new(alloc: Global) -> Show
         ensures { result ≡ 0 }
     {
-        Show { alloc, frames: 0 }
+        Show {
+            alloc,
+            space: [0; LINE_OCTETS],
+            frames: 0,
+        }
     }
 }
 
@@ -183,7 +189,7 @@ impl LineMachine for Show {
         match kind {
             LineKind::TooMuch => refuse(self.alloc, number, Reason::Input, sink),
             LineKind::Long => refuse(self.alloc, number, Reason::Long, sink),
-            LineKind::Text => match frame_line(line) {
+            LineKind::Text => match frame_line(line, &mut self.space) {
                 FrameLine::Quiet => Ok(()),
                 FrameLine::NoForm => refuse(self.alloc, number, Reason::Form, sink),
                 FrameLine::Reads(octets) => {

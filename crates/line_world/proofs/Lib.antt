@@ -3,11 +3,12 @@ mod Arrivals
 mod Custody
 mod Depots
 mod Enrolment
-mod FirstNotes
+pub mod Parts
 mod Flown
 mod Forging
 mod Histories
 mod Keeping
+pub mod Links
 mod Meters
 mod Naming
 mod Nonces

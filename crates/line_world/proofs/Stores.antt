@@ -1,6 +1,6 @@
 -- What a node holds is what its store gives, from one put to the next.
 use Rattle.std.proofs.Common.{◌≡◌, ◌⊎◌, inl, inr, ◌<◌, ℕ, ◌+◌, Bool, true, false, cond, List, [], ◌∷◌, ◌++◌, length, set, Option, Some, None, Result, Ok, Err, refl, sym, ap, subst, ◌∙◌, arith}
-use Rattle.std.specs.Prelude.{is_some, slice_get, nat_le, nat_lt, ◌||◌, IfOk, IsOk}
+use Rattle.std.specs.Prelude.{is_some, slice_get, nat_le, nat_lt, ◌||◌, IfOk, IsOk, OnOk}
 use Rattle.std.specs.Option.{option_map, option_map_or, option_and_then}
 use Rattle.line_world.specs.declared.node.Neighbour.{Neighbour}
 use Rattle.std.specs.FinMap.{get, empty, get-empty}
@@ -203,3 +203,8 @@ room_result book eui psk room = by_entry (books.entry_for book eui) ∙ refl
 pub full_result : (book : books.Book) (eui : Eui) (psk : Key) → books.has_room book eui ≡ false
     → books.changing_result book (books.allow_change book eui psk) true ≡ Err MetersFull
 full_result book eui psk room = ap (λ b. books.changing_result book (cond b (Ok (books.allowed_entry eui psk (books.entry_for book eui))) (Err MetersFull)) true) room
+
+-- what holds where a call succeeds, which it does
+pub ok_holds : {T E : Type 0} (r : Result T E) (t : T) (P : Type 0) → r ≡ Ok t → OnOk r P → P
+ok_holds (Ok u) t P is h = h
+ok_holds (Err e) t P is h = absurd cc

@@ -1,6 +1,7 @@
 -- The whole datagram in octets is the one that they spell.
-use Rattle.std.proofs.Common.{◌≡◌, ℕ, ◌+◌, ◌-◌, ◌<◌, ◌≤◌, Bool, true, false, List, [], ◌∷◌, ◌++◌, length, Some, None, Option, if◌then◌else◌, ◌⊎◌, inl, inr, refl, sym, ◌∙◌, ap, subst, arith}
+use Rattle.std.proofs.Common.{◌≡◌, ℕ, ◌+◌, ◌-◌, ◌<◌, ◌≤◌, Bool, true, false, List, [], ◌∷◌, ◌++◌, length, drop, length-append, Some, None, Option, if◌then◌else◌, ◌⊎◌, inl, inr, refl, sym, ◌∙◌, ap, subst, arith}
 use Rattle.std.proofs.lemmas.Bool.{cases_lt}
+use Rattle.std.proofs.lemmas.List.Prefix.{end_rest}
 use Rattle.std.specs.Bool.{Decides}
 use Rattle.std.proofs.lemmas.Bool.Decides.{Decides-and, Decides-like, Decides-ltb}
 use Rattle.std.proofs.lemmas.Slice.Eq.{bytes_eq-Decides}
@@ -95,3 +96,14 @@ none_found us none = none_of (whole_in us) (λ v is. none v (whole_spells us v i
     none_of : (o : Option WholeUnit) → ((v : WholeUnit) → o ≡ Some v → ⊥) → None ≡ o
     none_of None never = refl
     none_of (Some v) never = absurd (never v refl)
+
+-- what stands behind a front
+behind_front : (front xs us : List ℕ) → us ≡ front ++ xs → (length xs ≤ length us) × (drop (length us - length xs) us ≡ xs)
+behind_front front xs us e = (omega (arith, ap length e, length-append front xs), end_rest us xs front e)
+
+-- the datagram of a whole unit stands at the end of its octets
+pub whole_behind : (m : Mesh) (xs us : List ℕ) → Spells (Whole m xs) us → (length xs ≤ length us) × (drop (length us - length xs) us ≡ xs)
+whole_behind m xs us s = elim (cases_lt m.hops 15) [
+  | inl few ↦ behind_front ((0xB0 + m.hops) ∷ big_bytes 2 m.origin ++ big_bytes 2 m.to ++ 0x41 ∷ []) xs us (s.1 ∙ few_then m.hops (big_bytes 2 m.origin ++ (big_bytes 2 m.to ++ (0x41 ∷ xs))) few)
+  | inr many ↦ behind_front (0xBF ∷ m.hops ∷ big_bytes 2 m.origin ++ big_bytes 2 m.to ++ 0x41 ∷ []) xs us (s.1 ∙ many_then m.hops (big_bytes 2 m.origin ++ (big_bytes 2 m.to ++ (0x41 ∷ xs))) many)
+]

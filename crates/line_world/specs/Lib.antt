@@ -1,7 +1,8 @@
 pub mod Enrolling
 pub mod Flights
 pub mod Hearing
-pub mod Names
+pub mod Buckets
+pub mod Chains
 pub mod Nodes
 pub mod Opening
 pub mod Runs

@@ -1,15 +1,45 @@
 //! Events, and what happens at them.
-use plc_base::{DatagramBuf, Eui, Key, LinkCost, Octets};
+ghost use Rattle.std.specs.Prelude.{◌≡◌};
+
+use plc_base::{Eui, Key, LinkCost};
+use std::marker::Model;
 use thiserror::Error;
 
-/// The octets that a line can hold in hexadecimal: at most 2,048.
-pub type LineOctets = Octets<2048>;
+/// Octets that stand elsewhere, so that nothing is copied with them. A contract sees the list of them.
+#[derive(Drop)]
+pub struct OctetRef<'a> {
+    items: &'a [u8],
+}
+
+impl<'a> Model for OctetRef<'a> {
+    ghost use Rattle.std.specs.Prelude.{ℕ, List};
+
+    ghost Value = { List ℕ };
+
+    ghost view = { λ o. o.items.now };
+}
+
+impl<'a> OctetRef<'a> {
+    /// These octets.
+    pub fn new(octets: &'a [u8]) -> OctetRef<'a>
+        ensures { result ≡ octets.now }
+    {
+        OctetRef { items: octets }
+    }
+
+    /// The octets as a slice.
+    pub fn octets(&self) -> &'a [u8]
+        ensures { result.now ≡ self.now }
+    {
+        self.items
+    }
+}
 
 /// What a line of a script asks for, with the fields of the line in their order.
 ///
 /// Nodes are numbered from 0, flights from 1.
 #[derive(Drop)]
-pub enum Event {
+pub enum Event<'a> {
     /// Makes node 0, the coordinator, with its group key.
     Coordinator {
         /// Its identity.
@@ -52,7 +82,7 @@ pub enum Event {
         /// The node that it is for.
         to: u32,
         /// Its octets.
-        datagram: LineOctets,
+        datagram: OctetRef<'a>,
     },
     /// Brings a flight to a node over a link of this cost.
     Deliver {
@@ -70,7 +100,7 @@ pub enum Event {
         /// What the link that they came over costs.
         cost: LinkCost,
         /// The octets.
-        octets: LineOctets,
+        octets: OctetRef<'a>,
     },
     /// Takes a flight away.
     Lose {
@@ -131,24 +161,24 @@ pub enum Answer {
 
 /// A datagram that a node handed up.
 #[derive(Drop)]
-pub struct Handed {
+pub struct Handed<'a> {
     /// The node's number.
     pub node: u16,
     /// The number of the send that the frame carried, from 1, and 0 where no flight had these octets under its key.
     pub note: u32,
     /// The datagram.
-    pub octets: DatagramBuf,
+    pub octets: OctetRef<'a>,
 }
 
 /// What happened at an event that was taken.
 #[derive(Drop)]
-pub struct Happenings {
+pub struct Happenings<'a> {
     /// How it ended.
     pub answer: Answer,
     /// Whether a sealed frame was opened that no flight had been under its key.
     pub forged: bool,
     /// The datagram that was handed up, if one was.
-    pub up: Option<Handed>,
+    pub up: Option<Handed<'a>>,
     /// One more than the number of flights before the event.
     pub first_flight: u32,
     /// How many flights are new.

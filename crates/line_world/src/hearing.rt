@@ -1,31 +1,47 @@
 //! What happens where octets come to a node.
-ghost use Rattle.std.specs.Prelude.{◌≡◌, false, ◌<◌, ◌≤◌, length, Ok, IfSome};
+ghost use Rattle.std.specs.Prelude.{◌≡◌, false, ◌<◌, ◌≤◌, ◌-◌, drop, length, Ok, IfSome};
 ghost use Rattle.frame_counters.specs.PeerMarks.{room_for};
 ghost use Rattle.line_world.specs.Hearing.{carried};
 ghost use Rattle.line_world.specs.Units.{whole_in};
 
 use crate::opening::{ALL, Opened};
 use crate::world::World;
-use crate::{Answer, Handed, Happenings, StepFault};
+use crate::{Answer, Handed, Happenings, OctetRef, StepFault};
 use mesh_header::{Mesh, Unit, read_unit};
-use plc_base::{FrameBuf, Octets};
+use plc_base::FrameBuf;
 
 /// A whole datagram with its mesh header.
 #[derive(Drop)]
-pub struct WholeUnit {
+pub struct WholeUnit<'a> {
     /// The mesh header.
     pub mesh: Mesh,
     /// The datagram.
-    pub octets: FrameBuf,
+    pub octets: OctetRef<'a>,
+}
+
+/// The last octets, as many as `count`.
+fn last_of(octets: &[u8], count: usize) -> &[u8]
+    requires { count ≤ length octets.now }
+    ensures { result.now ≡ drop (length octets.now - count) octets.now }
+{
+    &octets[octets.len() - count..]
 }
 
 /// The whole datagram that a unit's octets are, if they are one.
-fn whole_of(octets: &[u8]) -> Option<WholeUnit>
+fn whole_of(octets: &[u8]) -> Option<WholeUnit<'_>>
     requires { length octets.now ≤ 400 }
     ensures { result ≡ whole_in octets.now }
 {
     match read_unit(octets) {
-        Ok(Unit::Whole { mesh, octets }) => Some(WholeUnit { mesh, octets }),
+        Ok(
+            Unit::Whole {
+                mesh,
+                octets: datagram,
+            },
+        ) => Some(WholeUnit {
+            mesh,
+            octets: OctetRef::new(last_of(octets, datagram.len())),
+        }),
         Ok(Unit::Part { .. }) => None,
         Ok(Unit::Carried { .. }) => None,
         Ok(Unit::Local { .. }) => None,
@@ -35,7 +51,8 @@ fn whole_of(octets: &[u8]) -> Option<WholeUnit>
 
 /// The whole datagram that a frame carries, if it carries one.
 #[tactic(auto, unfolding(crate::specs::Hearing::carried))]
-fn carried(opened: &Opened) -> Option<WholeUnit>
+fn carried<'a>(opened: &Opened<'a>) -> Option<WholeUnit<'a>>
+    requires { length opened.now.payload ≤ 400 }
     ensures { result ≡ carried opened.now }
 {
     if opened.to == ALL {
@@ -50,7 +67,7 @@ impl World {
     ghost use Rattle.line_world.specs.Hearing.{accepted, heard, came_so, came, delivering, injecting};
 
     /// Takes in the counter of a frame that a node opened, and counts it where it is forged.
-    fn accept(&mut self, number: u32, opened: &Opened, forged: bool)
+    fn accept(&mut self, number: u32, opened: &Opened<'_>, forged: bool)
         requires events { self.old.events < 50000 }
         requires node { number < length self.old.nodes }
         requires room { IfSome (node_at self.old number) (λ node. room_for node.marks opened.now.from opened.now.counter ≡ Ok tt) }
@@ -63,14 +80,14 @@ impl World {
     }
 
     /// What a node does with the datagram of a frame that it accepted, which was for its own address.
-    fn hear(
+    fn hear<'a>(
         &mut self,
         number: u32,
         own: u16,
         forged: bool,
         note: u32,
-        unit: &Option<WholeUnit>,
-    ) -> Happenings
+        unit: &Option<WholeUnit<'a>>,
+    ) -> Happenings<'a>
         requires node { number < length self.old.nodes }
         requires ups { self.old.ups < self.old.events }
         ensures { (self.new, result) ≡ heard self.old number own forged note unit.now }
@@ -80,22 +97,28 @@ impl World {
             Some(unit) if unit.mesh.to.number() != own => self.opened(Answer::NoRoute, forged),
             Some(unit) => {
                 self.ups += 1;
-                let mut happened = self.opened(Answer::Up, forged);
-                happened.up = Some(Handed {
-                    node: number as u16,
-                    note,
-                    octets: Octets::from_octets(unit.octets.octets()),
-                });
-                happened
+                let Happenings { first_flight, .. } = self.opened(Answer::Up, forged);
+                Happenings {
+                    answer: Answer::Up,
+                    forged,
+                    up: Some(Handed {
+                        node: number as u16,
+                        note,
+                        octets: OctetRef::new(unit.octets.octets()),
+                    }),
+                    first_flight,
+                    flights: 0,
+                }
             }
         }
     }
 
     /// What a node does with a frame that it opened.
-    fn take(&mut self, number: u32, octets: &[u8], opened: &Opened) -> Happenings
+    fn take<'a>(&mut self, number: u32, octets: &[u8], opened: &Opened<'a>) -> Happenings<'a>
         requires events { self.old.events < 50000 }
         requires node { number < length self.old.nodes }
         requires fits { length octets.now ≤ 400 }
+        requires payload { length opened.now.payload ≤ 400 }
         requires room { IfSome (node_at self.old number) (λ node. room_for node.marks opened.now.from opened.now.counter ≡ Ok tt) }
         ensures { IfSome (node_at self.old number) (λ node. (self.new, result) ≡ came_so self.old number node octets.now (Ok opened.now)) }
     {
@@ -107,12 +130,12 @@ impl World {
 
     /// Brings octets to a node.
     #[tactic(auto, unfolding(crate::specs::Hearing::came))]
-    fn come(&mut self, number: u32, octets: &[u8]) -> Happenings
+    fn come<'a>(&mut self, number: u32, octets: &[u8], space: &'a mut FrameBuf) -> Happenings<'a>
         requires events { self.old.events < 50000 }
         requires node { number < length self.old.nodes }
         ensures { IfSome (node_at self.old number) (λ node. (self.new, result) ≡ came self.old number node octets.now) }
     {
-        match self.nodes[number as usize].open(octets) {
+        match self.nodes[number as usize].open(octets, space) {
             Ok(opened) => self.take(number, octets, &opened),
             Err(answer) => self.answered(answer),
         }
@@ -120,7 +143,12 @@ impl World {
 
     /// Brings a flight to a node.
     #[tactic(auto, unfolding(crate::specs::Hearing::delivering))]
-    pub(crate) fn deliver(&mut self, flight: u32, number: u32) -> Result<Happenings, StepFault>
+    pub(crate) fn deliver<'a>(
+        &mut self,
+        flight: u32,
+        number: u32,
+        space: &'a mut FrameBuf,
+    ) -> Result<Happenings<'a>, StepFault>
         requires { self.old.events < 50000 }
         ensures step { Gives self.old result self.new (delivering self.old flight number) }
         ensures memory { HasMemory false result }
@@ -134,12 +162,17 @@ impl World {
         let Some(octets) = self.flights.octets(flight) else {
             return Err(StepFault::Flight);
         };
-        Ok(self.come(number, octets.octets()))
+        Ok(self.come(number, octets.octets(), space))
     }
 
     /// Brings octets that no node sent to a node.
     #[tactic(auto, unfolding(crate::specs::Hearing::injecting))]
-    pub(crate) fn inject(&mut self, number: u32, octets: &[u8]) -> Result<Happenings, StepFault>
+    pub(crate) fn inject<'a>(
+        &mut self,
+        number: u32,
+        octets: &[u8],
+        space: &'a mut FrameBuf,
+    ) -> Result<Happenings<'a>, StepFault>
         requires { self.old.events < 50000 }
         ensures step { Gives self.old result self.new (injecting self.old number octets.now) }
         ensures memory { HasMemory false result }
@@ -150,6 +183,6 @@ impl World {
         if self.nodes.len() <= number as usize {
             return Err(StepFault::Node);
         }
-        Ok(self.come(number, octets))
+        Ok(self.come(number, octets, space))
     }
 }

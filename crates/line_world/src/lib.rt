@@ -1,6 +1,7 @@
 //! A line of nodes: what each event of a script does to it.
 #![tactic(auto)]
 
+mod chains;
 mod event;
 mod flights;
 mod hearing;
@@ -13,7 +14,7 @@ mod setup;
 mod tests;
 mod world;
 
-pub use event::{Answer, Event, Handed, Happenings, LineOctets, StepFault};
+pub use event::{Answer, Event, Handed, Happenings, OctetRef, StepFault};
 pub use hearing::WholeUnit;
 pub use laws::{
     addresses_differ, counters_only_rise, counts_are_right, every_run_is_safe,

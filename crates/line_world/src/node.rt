@@ -132,7 +132,7 @@ impl Node {
         self.ring = KeyRing::open(&self.keeper).unwrap();
         self.counter = SendCounter::open(&self.keeper).unwrap();
         self.marks = PeerMarks::open(&self.keeper).unwrap();
-        self.book = KeyBook::open(&self.keeper).unwrap();
+        self.book.reload(&self.keeper).unwrap();
         self.near = Neighbours::new();
     }
 

@@ -1,5 +1,5 @@
 //! What a node makes of the octets of a frame, up to where it takes the sender's counter in.
-ghost use Rattle.std.specs.Prelude.{◌≡◌, ◌≤◌, ◌++◌, Ok, Some, None, IfOk, IfNone, length, if◌then◌else◌};
+ghost use Rattle.std.specs.Prelude.{◌≡◌, ◌≤◌, ◌++◌, Ok, Some, None, IfOk, IfSome, IfNone, length, if◌then◌else◌};
 ghost use Rattle.plc_base.specs.declared.key.Key.{Key};
 ghost use Rattle.mac_frames.specs.Grammar.{Frame, IsSealed, header};
 ghost use Rattle.mac_frames.specs.Sealing.{payload_in};
@@ -7,8 +7,8 @@ ghost use Rattle.frame_counters.specs.PeerMarks.{room_for, mark_of};
 ghost use Rattle.line_world.specs.Nodes.{is_own};
 ghost use Rattle.line_world.specs.Opening.{is_for, has_tag, mark_fault, opening, opening_head};
 
-use crate::Answer;
 use crate::node::Node;
+use crate::{Answer, OctetRef};
 use aes_modes::Aes;
 use frame_counters::PeerFault;
 use mac_frames::{MacHead, RawFrame, open_frame, read_frame};
@@ -19,7 +19,7 @@ pub const ALL: u16 = 0xFFFF;
 
 /// A sealed frame that a node opened, and would take in.
 #[derive(Drop)]
-pub struct Opened {
+pub struct Opened<'a> {
     /// The group key that opened it.
     pub key: Key,
     /// The short address that it is for, FFFF for all.
@@ -29,20 +29,20 @@ pub struct Opened {
     /// Its counter.
     pub counter: u32,
     /// What it carries.
-    pub payload: FrameBuf,
+    pub payload: OctetRef<'a>,
 }
 
 /// What a sealed frame carries, where its tag is that of a key.
 #[tactic(auto, using(crate::proofs::Tags::tag_true, crate::proofs::Tags::tag_false))]
-fn opened_under(key: &Key, raw: &RawFrame<'_>) -> Option<FrameBuf>
+fn opened_under<'a>(key: &Key, raw: &RawFrame<'_>, space: &'a mut FrameBuf) -> Option<OctetRef<'a>>
     requires sealed { IsSealed raw.now.head }
     requires frame { Frame raw.now.head raw.now.body.now (raw.now.header.now ++ raw.now.body.now) }
     requires header { raw.now.header.now ≡ header raw.now.head }
-    ensures { result ≡ (if has_tag key.now raw.now.head raw.now.body.now then Some (payload_in key.now.0 raw.now.head raw.now.body.now) else None) }
+    ensures value { result ≡ (if has_tag key.now raw.now.head raw.now.body.now then Some (payload_in key.now.0 raw.now.head raw.now.body.now) else None) }
+    ensures payload { IfSome result (λ payload. length payload ≤ 400) }
 {
-    let mut payload = FrameBuf::new();
-    match open_frame(&Aes::new(key), raw, &mut payload) {
-        Ok(()) => Some(payload),
+    match open_frame(&Aes::new(key), raw, space) {
+        Ok(()) => Some(OctetRef::new(space.octets())),
         Err(_) => None,
     }
 }
@@ -88,10 +88,15 @@ impl Node {
     }
 
     /// The frame, opened, or why the node goes no further with it.
-    fn open_frame(&self, raw: &RawFrame<'_>) -> Result<Opened, Answer>
+    fn open_frame<'a>(
+        &self,
+        raw: &RawFrame<'_>,
+        space: &'a mut FrameBuf,
+    ) -> Result<Opened<'a>, Answer>
         requires frame { Frame raw.now.head raw.now.body.now (raw.now.header.now ++ raw.now.body.now) }
         requires header { raw.now.header.now ≡ header raw.now.head }
         ensures value { result ≡ opening_head self.now raw.now.head raw.now.body.now }
+        ensures payload { IfOk result (λ opened. length opened.payload ≤ 400) }
         ensures room { IfOk result (λ opened. room_for self.now.marks opened.from opened.counter ≡ Ok tt) }
     {
         if !self.is_for(&raw.head) {
@@ -110,7 +115,7 @@ impl Node {
         let Some(key) = self.ring.key(index) else {
             return Err(Answer::NoKey);
         };
-        let Some(payload) = opened_under(&key, raw) else {
+        let Some(payload) = opened_under(&key, raw, space) else {
             return Err(Answer::BadTag);
         };
         if let Some(answer) = self.mark_fault(from, counter) {
@@ -127,13 +132,14 @@ impl Node {
 
     /// The frame that the octets are, opened, or why the node goes no further with them.
     #[tactic(auto, unfolding(crate::specs::Opening::opening))]
-    pub fn open(&self, octets: &[u8]) -> Result<Opened, Answer>
+    pub fn open<'a>(&self, octets: &[u8], space: &'a mut FrameBuf) -> Result<Opened<'a>, Answer>
         ensures value { result ≡ opening self.now octets.now }
+        ensures payload { IfOk result (λ opened. length opened.payload ≤ 400) }
         ensures room { IfOk result (λ opened. room_for self.now.marks opened.from opened.counter ≡ Ok tt) }
         ensures fits { IfOk result (λ opened. length octets.now ≤ 400) }
     {
         match read_frame(octets) {
-            Ok(raw) => self.open_frame(&raw),
+            Ok(raw) => self.open_frame(&raw, space),
             Err(_) => Err(Answer::Malformed),
         }
     }

@@ -3,7 +3,7 @@ ghost use Rattle.std.specs.Prelude.{◌≡◌, false, ◌<◌, ◌≤◌, length
 ghost use Rattle.line_world.specs.Sending.{frame_of, sealing_key, unit_of, goes_whole};
 
 use crate::world::World;
-use crate::{Answer, Flight, Happenings, LineOctets, StepFault};
+use crate::{Answer, Flight, Happenings, OctetRef, StepFault};
 use aes_modes::Aes;
 use mac_frames::{MacHead, seal_frame};
 use mesh_header::{Mesh, Unit, write_unit};
@@ -25,13 +25,13 @@ fn goes_whole(datagram: &[u8]) -> bool
     !datagram.is_empty() && datagram.len() <= MAX_WHOLE
 }
 
-/// The octets of a whole datagram's unit.
+/// Writes the octets of a whole datagram's unit, in place of what `out` held.
 #[tactic(auto, unfolding(crate::specs::Sending::unit_of))]
-fn unit_of(own: Short, to: Short, datagram: &[u8]) -> FrameBuf
+fn write_unit_of(own: Short, to: Short, datagram: &[u8], out: &mut FrameBuf)
     requires some { 0 < length datagram.now }
     requires whole { length datagram.now ≤ 375 }
-    ensures value { result ≡ unit_of own to datagram.now }
-    ensures fits { length result ≤ 381 }
+    ensures value { out.new ≡ unit_of own to datagram.now }
+    ensures fits { length out.new ≤ 381 }
 {
     let mesh = Mesh {
         hops: FIRST_HOPS,
@@ -39,9 +39,7 @@ fn unit_of(own: Short, to: Short, datagram: &[u8]) -> FrameBuf
         to,
     };
     let octets = FrameBuf::from_octets(datagram);
-    let mut out = FrameBuf::new();
-    write_unit(&Unit::Whole { mesh, octets }, &mut out);
-    out
+    write_unit(&Unit::Whole { mesh, octets }, out);
 }
 
 /// The key that seals.
@@ -51,12 +49,12 @@ fn sealing_key(ring: &Grant) -> Key
     ring.key(ring.active).unwrap()
 }
 
-/// The octets of the frame of a datagram to a neighbour.
+/// Writes the octets of the frame of a datagram to a neighbour, in place of what `out` held.
 #[tactic(auto, unfolding(crate::specs::Sending::frame_of, crate::specs::Sending::sealed))]
-fn frame_of(ring: &Grant, counter: u32, to: Short, datagram: &[u8]) -> FrameBuf
+fn write_frame_of(ring: &Grant, counter: u32, to: Short, datagram: &[u8], out: &mut FrameBuf)
     requires some { 0 < length datagram.now }
     requires whole { length datagram.now ≤ 375 }
-    ensures { result ≡ frame_of ring.now counter to datagram.now }
+    ensures value { out.new ≡ frame_of ring.now counter to datagram.now }
 {
     let head = MacHead::Sealed {
         ack: true,
@@ -67,15 +65,9 @@ fn frame_of(ring: &Grant, counter: u32, to: Short, datagram: &[u8]) -> FrameBuf
         counter,
         index: ring.active,
     };
-    let unit = unit_of(ring.address, to, datagram);
-    let mut out = FrameBuf::new();
-    seal_frame(
-        &Aes::new(&sealing_key(ring)),
-        &head,
-        unit.octets(),
-        &mut out,
-    );
-    out
+    let mut unit = FrameBuf::new();
+    write_unit_of(ring.address, to, datagram, &mut unit);
+    seal_frame(&Aes::new(&sealing_key(ring)), &head, unit.octets(), out);
 }
 
 impl World {
@@ -91,7 +83,7 @@ impl World {
         ring: &Grant,
         to: Short,
         datagram: &[u8],
-    ) -> Result<Happenings, StepFault>
+    ) -> Result<Happenings<'static>, StepFault>
         requires events { self.old.events < 50000 }
         requires node { from < length self.old.nodes }
         requires left { IfSome (node_at self.old from) (λ node. node.counter.next < 4294967295) }
@@ -101,14 +93,16 @@ impl World {
     {
         let first_flight = self.flights.len() as u32 + 1;
         let counter = u32::MAX - self.nodes[from as usize].left();
+        let mut frame = FrameBuf::new();
+        write_frame_of(ring, counter, to, datagram, &mut frame);
         let flight = Flight {
             from: from as u16,
-            octets: frame_of(ring, counter, to, datagram),
+            octets: OctetRef::new(frame.octets()),
             key: Some(sealing_key(ring)),
             note: self.sends + 1,
             lost: false,
         };
-        if self.flights.push(flight).is_err() {
+        if self.flights.push(&flight).is_err() {
             return Err(StepFault::Memory);
         }
         self.nodes[from as usize].count();
@@ -130,8 +124,8 @@ impl World {
         &mut self,
         from: u32,
         to: u32,
-        datagram: &LineOctets,
-    ) -> Result<Happenings, StepFault>
+        datagram: &[u8],
+    ) -> Result<Happenings<'static>, StepFault>
         requires { self.old.events < 50000 }
         ensures { Gives self.old result self.new (sending self.old from to datagram.now) }
     {
@@ -150,7 +144,7 @@ impl World {
         let Some(ring) = sender.grant() else {
             return Ok(self.answered(Answer::NotJoined));
         };
-        if !goes_whole(datagram.octets()) {
+        if !goes_whole(datagram) {
             return Ok(self.answered(Answer::BadSize));
         }
         if ring.address.number() == to.number() {
@@ -162,12 +156,12 @@ impl World {
         if sender.left() == 0 {
             return Ok(self.answered(Answer::CounterSpent));
         }
-        self.go(from, &ring, to, datagram.octets())
+        self.go(from, &ring, to, datagram)
     }
 
     /// Takes a flight away.
     #[tactic(auto, unfolding(crate::specs::Sending::losing, crate::specs::Sending::lost))]
-    pub(crate) fn lose(&mut self, flight: u32) -> Result<Happenings, StepFault>
+    pub(crate) fn lose(&mut self, flight: u32) -> Result<Happenings<'static>, StepFault>
         requires { self.old.events < 50000 }
         ensures step { Gives self.old result self.new (losing self.old flight) }
         ensures memory { HasMemory false result }
@@ -183,7 +177,7 @@ impl World {
 
     /// Starts a node anew from its store.
     #[tactic(auto, unfolding(crate::specs::Sending::restarting, crate::specs::Sending::renewed))]
-    pub(crate) fn restart(&mut self, number: u32) -> Result<Happenings, StepFault>
+    pub(crate) fn restart(&mut self, number: u32) -> Result<Happenings<'static>, StepFault>
         requires { self.old.events < 50000 }
         ensures step { Gives self.old result self.new (restarting self.old number) }
         ensures memory { HasMemory false result }

@@ -17,14 +17,14 @@ impl World {
     ghost use Rattle.line_world.specs.Setup.{is_known, coordinated, metered, grant_of, depoted, neared, counting, made};
 
     /// Nothing but an answer.
-    pub(crate) fn happened(&self, answer: Answer) -> Happenings
+    pub(crate) fn happened(&self, answer: Answer) -> Happenings<'static>
         ensures { result ≡ happened self.now answer }
     {
         self.opened(answer, false)
     }
 
     /// An answer to a frame that was opened.
-    pub(crate) fn opened(&self, answer: Answer, forged: bool) -> Happenings
+    pub(crate) fn opened(&self, answer: Answer, forged: bool) -> Happenings<'static>
         ensures { result ≡ answered self.now answer forged }
     {
         Happenings {
@@ -37,7 +37,7 @@ impl World {
     }
 
     /// Counts an event that changed nothing else.
-    pub(crate) fn answered(&mut self, answer: Answer) -> Happenings
+    pub(crate) fn answered(&mut self, answer: Answer) -> Happenings<'static>
         requires { self.old.events < 50000 }
         ensures world { self.new ≡ ran self.old }
         ensures happened { result ≡ happened self.old answer }
@@ -75,7 +75,7 @@ impl World {
     }
 
     #[tactic(auto, unfolding(crate::specs::Setup::made))]
-    fn make(&mut self, node: Node) -> Result<Happenings, StepFault>
+    fn make(&mut self, node: Node) -> Result<Happenings<'static>, StepFault>
         requires events { self.old.events < 50000 }
         requires room { length self.old.nodes < MAX_NODES }
         ensures { Gives self.old result self.new (Ok (made self.old node)) }
@@ -88,7 +88,11 @@ impl World {
     }
 
     #[tactic(auto, unfolding(crate::specs::Setup::coordinated))]
-    pub(crate) fn coordinator(&mut self, eui: Eui, key: Key) -> Result<Happenings, StepFault>
+    pub(crate) fn coordinator(
+        &mut self,
+        eui: Eui,
+        key: Key,
+    ) -> Result<Happenings<'static>, StepFault>
         requires { self.old.events < 50000 }
         ensures { Gives self.old result self.new (coordinated self.old eui key) }
     {
@@ -107,7 +111,7 @@ impl World {
     }
 
     #[tactic(auto, unfolding(crate::specs::Setup::metered))]
-    pub(crate) fn meter(&mut self, eui: Eui, psk: Key) -> Result<Happenings, StepFault>
+    pub(crate) fn meter(&mut self, eui: Eui, psk: Key) -> Result<Happenings<'static>, StepFault>
         requires { self.old.events < 50000 }
         ensures { Gives self.old result self.new (metered self.old eui psk) }
     {
@@ -131,7 +135,7 @@ impl World {
     }
 
     /// A meter installs its grant.
-    fn install(&mut self, number: u32, grant: &Grant) -> Happenings
+    fn install(&mut self, number: u32, grant: &Grant) -> Happenings<'static>
         requires events { self.old.events < 50000 }
         requires node { number < length self.old.nodes }
         ensures { IfSome (node_at self.old number) (λ meter. (self.new, result) ≡ installed self.old number meter grant.now) }
@@ -142,7 +146,7 @@ impl World {
     }
 
     #[tactic(auto, unfolding(crate::specs::Setup::depoted), using(crate::proofs::Stores::full_result))]
-    pub(crate) fn depot(&mut self, number: u32) -> Result<Happenings, StepFault>
+    pub(crate) fn depot(&mut self, number: u32) -> Result<Happenings<'static>, StepFault>
         requires { self.old.events < 50000 }
         ensures step { Gives self.old result self.new (depoted self.old number) }
         ensures memory { HasMemory false result }
@@ -171,7 +175,12 @@ impl World {
     }
 
     #[tactic(auto, unfolding(crate::specs::Setup::neared, crate::specs::Setup::set_near))]
-    pub(crate) fn near(&mut self, a: u32, b: u32, cost: LinkCost) -> Result<Happenings, StepFault>
+    pub(crate) fn near(
+        &mut self,
+        a: u32,
+        b: u32,
+        cost: LinkCost,
+    ) -> Result<Happenings<'static>, StepFault>
         requires { self.old.events < 50000 }
         ensures step { Gives self.old result self.new (neared self.old a b cost) }
         ensures memory { HasMemory false result }
@@ -201,7 +210,11 @@ impl World {
     }
 
     #[tactic(auto, unfolding(crate::specs::Setup::counting, crate::specs::Setup::counted))]
-    pub(crate) fn counter(&mut self, number: u32, value: u32) -> Result<Happenings, StepFault>
+    pub(crate) fn counter(
+        &mut self,
+        number: u32,
+        value: u32,
+    ) -> Result<Happenings<'static>, StepFault>
         requires { self.old.events < 50000 }
         ensures step { Gives self.old result self.new (counting self.old number value) }
         ensures memory { HasMemory false result }

@@ -1,5 +1,5 @@
 //! What short lines come to, event by event.
-use crate::{Answer, Counts, Event, Happenings, LineOctets, StepFault, World};
+use crate::{Answer, Counts, Event, Happenings, OctetRef, StepFault, World};
 use aes_modes::Aes;
 use mac_frames::{MacHead, seal_frame};
 use plc_base::{Eui, FrameBuf, Key, LinkCost, PAN, Short};
@@ -24,19 +24,15 @@ fn cost(value: u8) -> Result<LinkCost, Fail> {
     Ok(LinkCost::new(value).ok_or("no cost")?)
 }
 
-fn send(from: u32, to: u32, datagram: &[u8]) -> Event {
-    let mut octets = LineOctets::new();
-    if datagram.len() <= 2048 {
-        octets.append(datagram);
-    }
+fn send(from: u32, to: u32, datagram: &[u8]) -> Event<'_> {
     Event::Send {
         from,
         to,
-        datagram: octets,
+        datagram: OctetRef::new(datagram),
     }
 }
 
-fn deliver(flight: u32, node: u32) -> Result<Event, Fail> {
+fn deliver(flight: u32, node: u32) -> Result<Event<'static>, Fail> {
     Ok(Event::Deliver {
         flight,
         node,
@@ -44,24 +40,29 @@ fn deliver(flight: u32, node: u32) -> Result<Event, Fail> {
     })
 }
 
-fn inject(node: u32, frame: &FrameBuf) -> Result<Event, Fail> {
+fn inject(node: u32, frame: &FrameBuf) -> Result<Event<'_>, Fail> {
     Ok(Event::Inject {
         node,
         cost: cost(3)?,
-        octets: LineOctets::from_octets(frame.octets()),
+        octets: OctetRef::new(frame.octets()),
     })
 }
 
 // One event, while there is room for it.
-fn take(world: &mut World, event: Event) -> Result<Happenings, StepFault> {
+fn take<'a>(
+    world: &mut World,
+    event: Event<'_>,
+    space: &'a mut FrameBuf,
+) -> Result<Happenings<'a>, StepFault> {
     if world.counts().events >= 50_000 {
         return Err(StepFault::Memory);
     }
-    world.step(&event)
+    world.step(&event, space)
 }
 
-fn answer(world: &mut World, event: Event) -> Result<Answer, StepFault> {
-    Ok(take(world, event)?.answer)
+fn answer(world: &mut World, event: Event<'_>) -> Result<Answer, StepFault> {
+    let mut space = FrameBuf::new();
+    Ok(take(world, event, &mut space)?.answer)
 }
 
 // A coordinator and two meters, joined, with the route to each other: six events.
@@ -89,7 +90,7 @@ fn two_meters(alloc: Global) -> Result<World, Fail> {
         },
     ];
     for event in setup {
-        take(&mut world, event)?;
+        answer(&mut world, event)?;
     }
     Ok(world)
 }
@@ -106,7 +107,8 @@ fn two_meters_one_hop(rt: HostRuntime) -> Result<(), Fail> {
     assert_eq!(rt; frame.get(..15), Some(header.as_slice()));
     assert_eq!(rt; world.flight_sender(1), Some(1));
     assert_eq!(rt; world.flight_sender(2), None);
-    let heard = take(&mut world, deliver(1, 2)?)?;
+    let mut space = FrameBuf::new();
+    let heard = take(&mut world, deliver(1, 2)?, &mut space)?;
     assert_eq!(rt; heard.answer, Answer::Up);
     assert!(rt; !heard.forged);
     let up = heard.up.ok_or("nothing handed up")?;
@@ -164,7 +166,8 @@ fn a_forged_frame_is_named(rt: HostRuntime) -> Result<(), Fail> {
     let unit = [0xbe, 0x00, 0x01, 0x00, 0x02, 0x41, 0x00];
     let mut frame = FrameBuf::new();
     seal_frame(&Aes::new(&K), &head, &unit, &mut frame);
-    let heard = take(&mut world, inject(2, &frame)?)?;
+    let mut space = FrameBuf::new();
+    let heard = take(&mut world, inject(2, &frame)?, &mut space)?;
     assert_eq!(rt; heard.answer, Answer::Up);
     assert!(rt; heard.forged);
     let up = heard.up.ok_or("nothing handed up")?;

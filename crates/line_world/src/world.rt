@@ -3,7 +3,7 @@ ghost use Rattle.std.specs.Prelude.{◌≡◌, ◌<◌, ◌≤◌, length};
 
 use crate::flights::Flights;
 use crate::node::Node;
-use crate::{Event, Happenings, StepFault};
+use crate::{Event, Happenings, OctetRef, StepFault};
 use plc_base::{FrameBuf, Key};
 use std::alloc::Global;
 use std::marker::Model;
@@ -16,11 +16,11 @@ pub const MAX_NODES: usize = 1000;
 
 /// A frame on its way. It may come any number of times, until it is lost.
 #[derive(Drop)]
-pub struct Flight {
+pub struct Flight<'a> {
     /// The node that sent it.
     pub from: u16,
     /// Its octets.
-    pub octets: FrameBuf,
+    pub octets: OctetRef<'a>,
     /// The group key that sealed it.
     pub key: Option<Key>,
     /// The number of the send that it carries, from 1.
@@ -125,7 +125,13 @@ impl World {
     /// `Setup`, `Node` and `Flight` come exactly where the definition says that the event is not taken for that reason, `Memory`
     /// where there was none for it, which only an event that makes a node or sends a datagram can meet. After each of them the
     /// world is as it was.
-    pub fn step(&mut self, event: &Event) -> Result<Happenings, StepFault>
+    ///
+    /// The payload of a frame that is opened stands in `space`, and what is handed up is a part of it.
+    pub fn step<'a>(
+        &mut self,
+        event: &Event<'_>,
+        space: &'a mut FrameBuf,
+    ) -> Result<Happenings<'a>, StepFault>
         requires { self.old.events < MAX_EVENTS }
         ensures step { Gives self.old result self.new (step self.old event.now) }
         ensures memory { HasMemory (takes_memory event.now) result }
@@ -136,9 +142,9 @@ impl World {
             Event::Depot { node } => self.depot(*node),
             Event::Near { a, b, cost } => self.near(*a, *b, *cost),
             Event::Counter { node, value } => self.counter(*node, *value),
-            Event::Send { from, to, datagram } => self.send(*from, *to, datagram),
-            Event::Deliver { flight, node, .. } => self.deliver(*flight, *node),
-            Event::Inject { node, octets, .. } => self.inject(*node, octets.octets()),
+            Event::Send { from, to, datagram } => self.send(*from, *to, datagram.octets()),
+            Event::Deliver { flight, node, .. } => self.deliver(*flight, *node, space),
+            Event::Inject { node, octets, .. } => self.inject(*node, octets.octets(), space),
             Event::Lose { flight } => self.lose(*flight),
             Event::Restart { node } => self.restart(*node),
         }

@@ -3,7 +3,7 @@
 use Rattle.std.proofs.Common.{◌≡◌, ◌≢◌, ℕ, zero, suc, ◌+◌, ◌<◌, ◌≤◌, Bool, true, false, cond, List, [], ◌∷◌, ◌++◌, Option, Some, None, Result, Ok, Err, length, get_or, take, map, refl, sym, ap, subst, ◌∙◌, inl, inr, arith, length-append}
 use Rattle.std.specs.Prelude.{position, slice_get, is_some, ◌==◌, ◌⊎◌, IsSome}
 use Rattle.std.specs.Option.{option_map, option_map_or}
-use Rattle.std.specs.Result.{IfOk, MatchResult}
+use Rattle.std.specs.Result.{IfOk, OnOk, MatchResult}
 use Rattle.std.proofs.lemmas.Bool.{cases_eq, cases_lt}
 use Rattle.std.proofs.lemmas.Bool.Decides.{nat_tests}
 use Rattle.std.proofs.lemmas.Option.{slice_get_past, slice_get-get_or}
@@ -13,7 +13,7 @@ use Rattle.std.specs.Ordering.{nat_cmp}
 use Rattle.std.specs.FinMap.{get, empty, get-empty}
 use Rattle.plc_base.specs.Keeper.{Records}
 use Rattle.plc_base.specs.declared.keeper.BadStore.{BadStore}
-use Rattle.plc_base.specs.SlotTables.{Layout, slot_of, place_of, IsTable, IsStored, IsGapless, IsReading, IsSecond, IsBad, entry_at, with_record, opened, opened_from}
+use Rattle.plc_base.specs.SlotTables.{Layout, slot_of, place_of, IsTable, IsStored, IsGapless, IsReading, IsSecond, IsBad, entry_at, with_record, opened, opened_from, read_into}
 use Rattle.plc_base.proofs.SlotTables.{slice_get-push, slice_get-push_other, found, free_new, IsTable-push}
 
 -- # The three ways in which a record goes
@@ -399,3 +399,16 @@ opened_reads layout records r e = reads_from layout layout.slots 0 records [] r 
   each = λ q h. absurd (omega arith);
   there = λ q h. absurd (omega arith);
 })
+
+-- what a table that was read again holds
+pub reloaded : {A : Type 0} (layout : Layout A) (records : Records) (r : Result (Unit {0}) BadStore) (t : List A) → ReadsAtRest layout → ((e : A) → layout.key (layout.rest e) ≡ layout.key e) → read_into r t ≡ opened layout records
+    → OnOk r (IsReading layout t records) × (IsGapless layout records → OnOk r (IsStored layout t records)) × ((table : List A) → IsTable layout table → IsStored layout table records → (r ≡ Ok tt) × (t ≡ map layout.rest table))
+reloaded {A = A} layout records (Ok u) t rests keys e =
+    (opened_reads layout records (Ok t) e, opened_kept layout records (Ok t) rests e, λ table h k. (refl, ok_is t (map layout.rest table) (e ∙ reopened layout records table keys h k)))
+  where
+    ok_is : (a b : List A) → ◌≡◌ {A = Result (List A) BadStore} (Ok a) (Ok b) → a ≡ b
+    ok_is a b same = cc
+reloaded {A = A} layout records (Err bad) t rests keys e = (tt, λ gapless. tt, λ table h k. absurd (never (map layout.rest table) (e ∙ reopened layout records table keys h k)))
+  where
+    never : (b : List A) → ◌≡◌ {A = Result (List A) BadStore} (Err bad) (Ok b) → ⊥
+    never b same = cc

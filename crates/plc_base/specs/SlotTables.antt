@@ -78,6 +78,11 @@ opened_from layout (suc left) place records table =
 abbrev pub opened : {A : Type 0} → Layout A → Records → Result (List A) BadStore
 opened layout records = opened_from layout layout.slots 0 records []
 
+-- what was read into a table, or why it could not be
+abbrev pub read_into : {A : Type 0} → Result (Unit {0}) BadStore → List A → Result (List A) BadStore
+read_into (Ok _) table = Ok table
+read_into (Err bad) table = Err bad
+
 -- The same, where every slot has room in the table.
 pub record IsTableOf {A : Type 0} (layout : Layout A) (room : ℕ) (table : List A) : Type 0 where
   pub sound : IsTable layout table

@@ -2,7 +2,7 @@
 ghost use Rattle.std.specs.Prelude.{◌≡◌, ◌⊎◌, ◌==◌, ◌<◌, ◌≤◌, ◌+◌, ◌∷◌, ◌++◌, [], List, length, map, set, is_ok, is_some, slice_get, IsTrue, IfSome, MatchOption, IfOk, IfErr, OnOk, OnErr, Some, Ok};
 ghost use Rattle.std.specs.Prelude.{ℕ};
 ghost use Rattle.plc_base.specs.Keeper.{IsSlot, Records, Puts, Stores, SameOutside};
-ghost use Rattle.plc_base.specs.SlotTables.{Layout, slot_of, IsTable, IsFree, IsStored, IsGapless, IsReading, IsBad, place_of, entry_of, entry_write, last_of, opened};
+ghost use Rattle.plc_base.specs.SlotTables.{Layout, slot_of, IsTable, IsFree, IsStored, IsGapless, IsReading, IsBad, place_of, entry_of, entry_write, last_of, opened, read_into};
 
 use crate::{BadStore, Failed, Keeper, Record};
 use arrayvec::ArrayVec;
@@ -77,20 +77,23 @@ impl<E: SlotEntry, const N: usize> SlotTable<E, N> {
             → result ≡ Ok (map E.layout.rest table) }
     {
         let mut entries: ArrayVec<E, N> = ArrayVec::new();
-        for place in 0..N {
-            let slot = E::slot(place);
-            let Some(octets) = keeper.get(slot) else {
-                break;
-            };
-            let Some(entry) = E::read(place, octets.octets()) else {
-                return Err(BadStore { slot });
-            };
-            if place_of(&entries, entry.key()).is_some() {
-                return Err(BadStore { slot });
-            }
-            entries.push(entry);
+        match read_all(&mut entries, keeper) {
+            Ok(()) => Ok(SlotTable { entries }),
+            Err(bad) => Err(bad),
         }
-        Ok(SlotTable { entries })
+    }
+
+    /// The same in place of what the table held, so that no table is made or copied. After an error it holds the entries before the
+    /// bad record.
+    pub fn reload<K: Keeper>(&mut self, keeper: &K) -> Result<(), BadStore>
+        ensures table { read_into result self.new ≡ opened E.layout (K.store keeper.now).records }
+        ensures reading { OnOk result (IsReading E.layout self.new (K.store keeper.now).records) }
+        ensures kept { IsGapless E.layout (K.store keeper.now).records → OnOk result (IsStored E.layout self.new (K.store keeper.now).records) }
+        ensures reopened { (table : List E) → IsTable E.layout table → IsStored E.layout table (K.store keeper.now).records
+            → (result ≡ Ok tt) × (self.new ≡ map E.layout.rest table) }
+    {
+        self.entries.clear();
+        read_all(&mut self.entries, keeper)
     }
 
     /// The entries in the order of their slots.
@@ -207,6 +210,32 @@ impl<E: SlotEntry, const N: usize> SlotTable<E, N> {
     {
         self.entries[place] = entry;
     }
+}
+
+// Reads the table that the keeper's records give, where none is held yet.
+fn read_all<E: SlotEntry, K: Keeper, const N: usize>(
+    entries: &mut ArrayVec<E, N>,
+    keeper: &K,
+) -> Result<(), BadStore>
+    requires slots { N ≡ E.layout.slots }
+    requires none { entries.old.items ≡ [] }
+    ensures read { read_into result entries.new.items ≡ opened E.layout (K.store keeper.now).records }
+    ensures table { IsTable E.layout entries.new.items }
+{
+    for place in 0..N {
+        let slot = E::slot(place);
+        let Some(octets) = keeper.get(slot) else {
+            break;
+        };
+        let Some(entry) = E::read(place, octets.octets()) else {
+            return Err(BadStore { slot });
+        };
+        if place_of(entries, entry.key()).is_some() {
+            return Err(BadStore { slot });
+        }
+        entries.push(entry);
+    }
+    Ok(())
 }
 
 // The place of the entry with a key.

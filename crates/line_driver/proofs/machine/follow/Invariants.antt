@@ -5,7 +5,7 @@ use Rattle.line_driver.proofs.machine.follow.Given as goal
 
 abbrev pub invariant-loop-machine : goal.invariant-loop-machine
 invariant-loop-machine g l = record {
-  so_far : SoFar g.M.LineMachine.turn g.M.LineMachine.end_text l.fn.machine (g.S.Source.left l.fn.source) (g.S.Source.left l.source) (g.K.Sink.taken l.fn.sink) (g.K.Sink.taken l.sink) l.machine l.input.seen l.input.count l.input.window.items l.input.ended;
+  so_far : SoFar g.M.LineMachine.turn g.M.LineMachine.end_text l.fn.machine (g.S.Source.left l.fn.source) (g.S.Source.left l.source) (g.K.Sink.taken l.fn.sink) (g.K.Sink.taken l.sink) l.machine l.input.seen l.input.count l.input.window.ahead l.input.ended;
   over : IsTrue l.input.ended → IsOver (g.S.Source.ended l.source) (g.S.Source.left l.source);
   within : l.input.seen ≤ 67108864;
   source_later : g.S.Source.faults l.fn.source ≤ g.S.Source.faults l.source;

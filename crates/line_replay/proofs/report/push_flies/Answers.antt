@@ -9,9 +9,8 @@ loop-number-init c = rw c.from-number.ensures (record { text = flies_none c.args
 pub loop-number-preserved : goal.loop-number-preserved
 loop-number-preserved c =
     let from : c.args.first ≤ c.loop-number.number = c.loop-number.invariant.from in
-    let line : string_bytes c.in_ok-line.line ≡ fly_text c.args.world.now c.loop-number.number = c.in_ok-line.ensures in
     record {
-      text = (c.in_ok-push_str.ensures).bytes ∙ ap (λ l. string_bytes c.loop-number.text ++ l) (c.as_str.ensures.value ∙ line)
+      text = c.in_ok-push_fly.ensures
           ∙ ap (λ l. l ++ fly_text c.args.world.now c.loop-number.number) c.loop-number.invariant.text
           ∙ flies_more c.args.world.now c.args.first c.loop-number.number (string_bytes c.args.text.now) from;
       from = omega arith;

@@ -1,141 +1,112 @@
-use Rattle.std.proofs.Common.{ℕ, arith, sym, ap}
+use Rattle.std.proofs.Common.{◌+◌, ◌-◌, ◌≤◌, refl, ap, ◌∙◌, arith, drop, length, length-drop}
+use Rattle.std.proofs.lemmas.List.{nil_from_length}
 use Rattle.std.proofs.lemmas.Result.{err_from_is_err_and}
-use Rattle.circular_buffer.specs.Buffer.{Buffer}
-use Rattle.line_driver.specs.Next.{kind_of}
-use Rattle.line_driver.proofs.Taking.{octet_none, octet_some, part_pushed, part_long, taking_more, found_line, found_too_much, found_at_end, found_failure}
+use Rattle.line_driver.specs.Windows.{Window}
+use Rattle.line_driver.proofs.Taking.{taking_none, taking_shed, taking_more, shed_clear, clear_front, found_line, found_too_much, found_at_end, found_failure}
 use Rattle.line_driver.proofs.input.Input.next_line.Goals as goal
 
-pub returns-in_err-next_octet-clause-next : goal.returns-in_err-next_octet-clause-next
-returns-in_err-next_octet-clause-next g c =
-    let o = c.in_err-next_octet.ensures.next in
-    let p = err_from_is_err_and c.from_residual.result c.from_residual.ensures.1 in
-    rw p.1 (found_failure c.loop-self.invariant.taking o p.0 _ _ o.failed.0 o.failed.1 o.failed.2)
+pub loop-at-init : goal.loop-at-init
+loop-at-init g c = record {
+  taking = taking_none _ _ _ _ _;
+  begin = omega arith;
+  count = omega arith;
+  later = omega arith;
+  inside = omega arith;
+  within = omega (arith, c.requires);
+  none = tt;
+  over = λ was. was;
+  cause = omega arith;
+}
 
-pub returns-in-None-clause-next : goal.returns-in-None-clause-next
-returns-in-None-clause-next g c =
-    let o = c.in_ok-next_octet.ensures.next in
-    let last = c.last_line.ensures in
-    found_at_end
-    c.loop-self.invariant.taking
-    o
-    _
-    _
-    _
-    _
-    _
-    _
-    _
-    (octet_none o c.in-None.is)
-    (omega (arith, c.loop-self.invariant.later, c.loop-self.invariant.begin))
-    c.loop-self.invariant.within
-    c.in_ok-next_octet.ensures.seen
-    last.same.0
-    (omega (arith, c.in_ok-next_octet.ensures.count, c.loop-self.invariant.count))
-    last.kind
-    last.count
-    (ap (λ (b : Buffer ℕ). b.items) last.same.1)
-    last.same.2
-
-pub returns-then-long-clause-next : goal.returns-then-long-clause-next
-returns-then-long-clause-next g c =
-    let o = c.in_ok-next_octet.ensures.next in
+pub returns-in-Feed-clause-next : goal.returns-in-Feed-clause-next
+returns-in-Feed-clause-next g c =
+    let took = c.take_line.ensures in
     found_line
-    c.loop-self.invariant.taking
-    o
-    _
-    c.in-Some-eq10.field-0
+    c.loop-at.invariant.taking
+    c.in-Feed.at
     _
     _
-    (sym (ap kind_of c.if-long.true))
-    (octet_some o _ c.in-Some-eq10.is)
-    c.in-Some-eq10.field-0-test
-    c.loop-self-test.true
-    (omega (arith, c.in_ok-next_octet.ensures.seen))
-    (omega (arith, c.in_ok-next_octet.ensures.count, c.loop-self.invariant.count))
+    _
+    _
+    _
+    _
+    c.in-Feed.ensures
+    took.kind
+    took.seen
+    (omega (arith, took.count, c.loop-at.invariant.count))
+    (ap (λ (w : Window). w.line) took.window)
+    (ap (λ (w : Window). w.ahead) took.window)
+    took.ended
 
-pub returns-else-long-clause-next : goal.returns-else-long-clause-next
-returns-else-long-clause-next g c =
-    let o = c.in_ok-next_octet.ensures.next in
-    found_line
-    c.loop-self.invariant.taking
-    o
-    _
-    c.in-Some-eq10.field-0
-    _
-    _
-    (sym (ap kind_of c.if-long.false))
-    (octet_some o _ c.in-Some-eq10.is)
-    c.in-Some-eq10.field-0-test
-    c.loop-self-test.true
-    (omega (arith, c.in_ok-next_octet.ensures.seen))
-    (omega (arith, c.in_ok-next_octet.ensures.count, c.loop-self.invariant.count))
-
-pub loop-self-preserved-then-len-lt-MAX_LINE : goal.loop-self-preserved-then-len-lt-MAX_LINE
-loop-self-preserved-then-len-lt-MAX_LINE g c =
-    let o = c.in_ok-next_octet.ensures.next in
-    let t = c.loop-self.invariant.taking in record {
-      taking = rw c.in_ok-next_octet.ensures.seen (taking_more t o c.in-Some.octet _ _ (octet_some o _ c.in-Some.is) c.in-Some.octet-test.1 c.loop-self-test.true (part_pushed t.part _ _ _ _ t.is c.push.ensures.items (omega arith)));
-      begin = c.loop-self.invariant.begin;
-      count = omega (arith, c.in_ok-next_octet.ensures.count, c.loop-self.invariant.count);
-      later = omega (arith, c.in_ok-next_octet.ensures.seen, c.loop-self.invariant.later);
-      within = omega (arith, c.in_ok-next_octet.ensures.seen, c.loop-self-test.true);
-      over = λ was. c.in_ok-next_octet.ensures.over (c.loop-self.invariant.over was);
-      cause = omega (arith, c.loop-self.invariant.cause, c.in_ok-next_octet.ensures.cause.later);
-    }
-
-pub loop-self-preserved : goal.loop-self-preserved
-loop-self-preserved g c =
-    let o = c.in_ok-next_octet.ensures.next in
-    let t = c.loop-self.invariant.taking in record {
-      taking = rw c.in_ok-next_octet.ensures.seen (taking_more t o c.in-Some.octet _ _ (octet_some o _ c.in-Some.is) c.in-Some.octet-test.1 c.loop-self-test.true (part_long t.part c.loop-self.line.items c.loop-self.line.items _ _ t.is (omega arith)));
-      begin = c.loop-self.invariant.begin;
-      count = omega (arith, c.in_ok-next_octet.ensures.count, c.loop-self.invariant.count);
-      later = omega (arith, c.in_ok-next_octet.ensures.seen, c.loop-self.invariant.later);
-      within = omega (arith, c.in_ok-next_octet.ensures.seen, c.loop-self-test.true);
-      over = λ was. c.in_ok-next_octet.ensures.over (c.loop-self.invariant.over was);
-      cause = omega (arith, c.loop-self.invariant.cause, c.in_ok-next_octet.ensures.cause.later);
-    }
-
-pub returns-in_err-next_octet-2-clause-next : goal.returns-in_err-next_octet-2-clause-next
-returns-in_err-next_octet-2-clause-next g c =
-    let o = c.in_err-next_octet-2.ensures.next in
-    let p = err_from_is_err_and c.from_residual-in_err-next_octet-2.result c.from_residual-in_err-next_octet-2.ensures.1 in
-    rw p.1 (found_failure c.loop-self.invariant.taking o p.0 _ _ o.failed.0 o.failed.1 o.failed.2)
-
-pub returns-in-None-2-clause-next : goal.returns-in-None-2-clause-next
-returns-in-None-2-clause-next g c =
-    let o = c.in_ok-next_octet-2.ensures.next in
-    let last = c.last_line-in-None-2.ensures in
-    found_at_end
-    c.loop-self.invariant.taking
-    o
-    _
-    _
-    _
-    _
-    _
-    _
-    _
-    (octet_none o c.in-None-2.is)
-    (omega (arith, c.loop-self.invariant.later, c.loop-self.invariant.begin))
-    c.loop-self.invariant.within
-    c.in_ok-next_octet-2.ensures.seen
-    last.same.0
-    (omega (arith, c.in_ok-next_octet-2.ensures.count, c.loop-self.invariant.count))
-    last.kind
-    last.count
-    (ap (λ (b : Buffer ℕ). b.items) last.same.1)
-    last.same.2
-
-pub returns-in-Some-2-clause-next : goal.returns-in-Some-2-clause-next
-returns-in-Some-2-clause-next g c =
-    let o = c.in_ok-next_octet-2.ensures.next in
+pub returns-in-PastRoom-clause-next : goal.returns-in-PastRoom-clause-next
+returns-in-PastRoom-clause-next g c =
+    let took = c.take_too_much.ensures in
     found_too_much
-    c.loop-self.invariant.taking
-    o
-    c.in-Some-2.field-0
+    c.loop-at.invariant.taking
+    _
+    (67108864 - c.loop-at.self.seen)
     _
     _
-    (octet_some o _ c.in-Some-2.is)
-    c.loop-self-test.false
-    (omega (arith, c.in_ok-next_octet-2.ensures.count, c.loop-self.invariant.count))
+    _
+    _
+    _
+    refl
+    (omega (arith, c.loop-at.invariant.within))
+    c.in-PastRoom.ensures
+    took.kind
+    (omega (arith, took.count, c.loop-at.invariant.count))
+    (ap (λ (w : Window). w.ahead) took.window)
+    took.ended
+
+pub returns-then-self-clause-next : goal.returns-then-self-clause-next
+returns-then-self-clause-next g c =
+    let took = c.take_last.ensures in
+    let ahead = c.loop-at.self.window.ahead in
+    let found = c.in-Neither.ensures in
+    found_at_end
+    c.loop-at.invariant.taking
+    _
+    _
+    _
+    _
+    _
+    _
+    c.if-self.true
+    found.1
+    (omega (arith, found.0, c.loop-at.invariant.within))
+    (omega (arith, c.loop-at.invariant.later, c.loop-at.invariant.begin))
+    took.seen
+    took.kind
+    (took.count ∙ rw c.loop-at.invariant.count refl)
+    (ap (λ (w : Window). w.line) took.window)
+    (ap (λ (w : Window). w.ahead) took.window ∙ nil_from_length (drop (length ahead) ahead) (omega (arith, length-drop (length ahead) ahead)))
+    took.ended
+
+pub loop-at-preserved : goal.loop-at-preserved
+loop-at-preserved g c =
+    let found = c.in-Neither.ensures in
+    let room : c.loop-at.self.seen + length c.loop-at.self.window.ahead ≤ 67108864 = omega (arith, found.0, c.loop-at.invariant.within) in
+    let shed = c.shed-long.ensures.shed in
+    let clear = shed_clear c.loop-at.self.seen c.shed-long.new.self.seen c.loop-at.self.window.ahead c.shed-long.new.self.window.ahead c.loop-at.long c.shed-long.result found.1 room shed in
+    let given = c.in_ok-refill.ensures.given in
+    let front = clear_front c.shed-long.new.self.window.ahead c.refill.new.self.window.ahead given.octets given.grown clear.0 in
+    let there = c.len-clear.ensures.len in record {
+      taking = rw c.in_ok-refill.ensures.seen (taking_more (taking_shed c.loop-at.invariant.taking c.shed-long.new.self.seen c.shed-long.new.self.window.ahead c.shed-long.result found.1 room shed) c.if-self.false given);
+      begin = c.loop-at.invariant.begin;
+      count = c.in_ok-refill.ensures.count ∙ c.shed-long.ensures.count ∙ c.loop-at.invariant.count;
+      later = omega (arith, c.in_ok-refill.ensures.seen, clear.2, c.loop-at.invariant.later);
+      inside = rw there front.1;
+      within = rw (there, c.in_ok-refill.ensures.seen) clear.1;
+      none = rw there front.0;
+      over = λ was. c.in_ok-refill.ensures.over;
+      cause = omega (arith, c.loop-at.invariant.cause, c.in_ok-refill.ensures.cause.later);
+    }
+
+pub returns-in_err-refill-clause-next : goal.returns-in_err-refill-clause-next
+returns-in_err-refill-clause-next g c =
+    let found = c.in-Neither.ensures in
+    let room : c.loop-at.self.seen + length c.loop-at.self.window.ahead ≤ 67108864 = omega (arith, found.0, c.loop-at.invariant.within) in
+    let shed = c.shed-long.ensures.shed in
+    let clear = shed_clear c.loop-at.self.seen c.shed-long.new.self.seen c.loop-at.self.window.ahead c.shed-long.new.self.window.ahead c.loop-at.long c.shed-long.result found.1 room shed in
+    let p = err_from_is_err_and c.from_residual.result c.from_residual.ensures.1 in
+    rw p.1 (found_failure (taking_shed c.loop-at.invariant.taking c.shed-long.new.self.seen c.shed-long.new.self.window.ahead c.shed-long.result found.1 room shed) p.0 _ _ _ _ _ c.if-self.false clear.0 clear.1 c.in_err-refill.ensures.err.2)

@@ -1,39 +1,60 @@
-use Rattle.std.proofs.Common.{◌≡◌, ℕ, true, false, cond, List, Some, Vec, Global, is_some, sym, ap, subst, ◌∙◌}
-use Rattle.std.specs.Str.{bytes_eq}
-use Rattle.line_world.specs.declared.world.Flight.{Flight}
-use Rattle.line_world.specs.Names.{name_of, noted, IsNoted}
-use Rattle.line_world.proofs.FirstNotes.{noted_plain, noted_again, noted_first, list_updates, looked_up, not_err}
+use Rattle.std.proofs.Common.{◌≡◌, List, [], ◌∷◌, ◌++◌, ℕ, ap, sym, ◌∙◌, length, arith}
+use Rattle.line_world.specs.declared.flights.Kept.{Kept}
+use Rattle.line_world.specs.Buckets.{bucket_of, flights_of}
+use Rattle.line_world.proofs.Parts.{kept_grown, kept_of, kept_push, flights_grown, flights_push, popped, on_err, is_error, no_error}
 use Rattle.line_world.proofs.flights.Flights.push.Goals as goal
 
-abbrev items : Vec ℕ Global → List ℕ
-items k = k.items
+pub invariant_of-self-in_err-push : goal.invariant_of-self-in_err-push
+invariant_of-self-in_err-push c =
+    let grown : c.extend_from_slice.new.self.items ≡ c.self.inside.octets.items ++ c.args.flight.now.octets = c.in_ok-extend_from_slice.ensures.items ∙ ap (λ (l : List ℕ). c.self.inside.octets.items ++ l) c.octets-octets.ensures in
+    rw (grown, c.in_err-push.ensures.items) (kept_grown c.self.inside.octets.items c.args.flight.now.octets c.self.inside.items.items c.self.inside.chains c.self.invariant)
 
-pub invariant_of-self-in_default : goal.invariant_of-self-in_default
-invariant_of-self-in_default c =
-    subst (λ (fs : List Flight). IsNoted fs c.self.inside.notes items) (sym c.in_ok-push.ensures.items)
-    (noted_plain items c.self.inside.items.items c.self.inside.notes c.self.invariant c.args.flight c.in_default.is)
+pub returns-in_err-push-clause-err : goal.returns-in_err-push-clause-err
+returns-in_err-push-clause-err c =
+    let grown : c.extend_from_slice.new.self.items ≡ c.self.inside.octets.items ++ c.args.flight.now.octets = c.in_ok-extend_from_slice.ensures.items ∙ ap (λ (l : List ℕ). c.self.inside.octets.items ++ l) c.octets-octets.ensures in
+    on_err c.from_residual-in_err-push.result _
+    (ap (λ (l : List ℕ). flights_of l c.push.new.self.items) grown
+    ∙ ap (λ (l : List Kept). flights_of (c.self.inside.octets.items ++ c.args.flight.now.octets) l) c.in_err-push.ensures.items
+    ∙ flights_grown c.self.inside.octets.items c.args.flight.now.octets c.self.inside.items.items c.self.invariant.placed ∙ c.self.view_is)
 
-pub invariant_of-self-then-is_some : goal.invariant_of-self-then-is_some
-invariant_of-self-then-is_some c =
-    let name : c.octets-2.result.now ≡ name_of c.in-Some.key c.args.flight.octets =
-    c.octets-2.ensures.value ∙ c.name_of-name.ensures.name ∙ ap (name_of c.in-Some.key) c.octets.ensures.value in
-    let found : is_some c.get.result ≡ true = sym c.is_some.ensures ∙ c.if-is_some.true in
-    let there : is_some (noted c.self.inside.notes items (name_of c.in-Some.key c.args.flight.octets)) ≡ true =
-    subst (λ n. is_some (noted c.self.inside.notes items n) ≡ true) name (sym (looked_up c.get.result _ c.get.ensures.value) ∙ found) in
-    subst (λ (fs : List Flight). IsNoted fs c.self.inside.notes items) (sym c.in_ok-push-2.ensures.items)
-    (noted_again items c.self.inside.items.items c.self.inside.notes c.self.invariant c.args.flight c.in-Some.key c.in-Some.is c.name_of-name.ensures.key there)
+pub invariant_of-self-then-is_err : goal.invariant_of-self-then-is_err
+invariant_of-self-then-is_err c =
+    let grown : c.extend_from_slice.new.self.items ≡ c.self.inside.octets.items ++ c.args.flight.now.octets = c.in_ok-extend_from_slice.ensures.items ∙ ap (λ (l : List ℕ). c.self.inside.octets.items ++ l) c.octets-octets.ensures in
+    let kept = popped c.self.inside.items.items c.pop.new.self.items c.push.new.self.items _ c.push.new.self.len c.pop.ensures.rest c.in_ok-push.ensures.items (omega (arith, c.in_ok-push.ensures.len)) in
+    let same = is_error c.push-2.result _ (sym c.if-is_err.ensures.value) c.push-2.ensures.err in
+    rw (grown, kept, same) (kept_grown c.self.inside.octets.items c.args.flight.now.octets c.self.inside.items.items c.self.inside.chains c.self.invariant)
+
+pub returns-then-is_err-clause-err : goal.returns-then-is_err-clause-err
+returns-then-is_err-clause-err c =
+    let grown : c.extend_from_slice.new.self.items ≡ c.self.inside.octets.items ++ c.args.flight.now.octets = c.in_ok-extend_from_slice.ensures.items ∙ ap (λ (l : List ℕ). c.self.inside.octets.items ++ l) c.octets-octets.ensures in
+    let kept = popped c.self.inside.items.items c.pop.new.self.items c.push.new.self.items _ c.push.new.self.len c.pop.ensures.rest c.in_ok-push.ensures.items (omega (arith, c.in_ok-push.ensures.len)) in
+    ap (λ (l : List ℕ). flights_of l c.pop.new.self.items) grown
+    ∙ ap (λ (l : List Kept). flights_of (c.self.inside.octets.items ++ c.args.flight.now.octets) l) kept
+    ∙ flights_grown c.self.inside.octets.items c.args.flight.now.octets c.self.inside.items.items c.self.invariant.placed ∙ c.self.view_is
 
 pub invariant_of-self-else-is_err : goal.invariant_of-self-else-is_err
 invariant_of-self-else-is_err c =
-    let own = name_of c.in-Some.key c.args.flight.octets in
-    let name : c.octets-2.result.now ≡ own = c.octets-2.ensures.value ∙ c.name_of-name.ensures.name ∙ ap (name_of c.in-Some.key) c.octets.ensures.value in
-    let kept : c.in_ok-name.name.items ≡ own =
-    c.in_ok-name.ensures.items ∙ c.octets-3.ensures.value ∙ c.name_of-name.ensures.name ∙ ap (name_of c.in-Some.key) c.octets.ensures.value in
-    let missing : is_some c.get.result ≡ false = sym c.is_some.ensures ∙ c.if-is_some.false in
-    let fresh : is_some (noted c.self.inside.notes items own) ≡ false =
-    subst (λ n. is_some (noted c.self.inside.notes items n) ≡ false) name (sym (looked_up c.get.result _ c.get.ensures.value) ∙ missing) in
-    let updates = list_updates items c.self.inside.notes c.insert.new.self c.in_ok-name.name c.args.flight.note
-    (not_err c.insert.result _ (sym c.is_err.ensures.value ∙ c.if-is_err.false) c.insert.ensures.updates) in
-    subst (λ (fs : List Flight). IsNoted fs c.insert.new.self items) (sym c.in_ok-push-3.ensures.items)
-    (noted_first items c.self.inside.items.items c.self.inside.notes c.self.invariant c.args.flight c.in-Some.key c.insert.new.self c.in-Some.is c.name_of-name.ensures.key fresh
-    (λ n. subst (λ k. noted c.insert.new.self items n ≡ cond (bytes_eq k n) (Some c.args.flight.note) (noted c.self.inside.notes items n)) kept (updates n)))
+    let xs = c.self.inside.octets.items in
+    let f = c.args.flight.now in
+    let grown : c.extend_from_slice.new.self.items ≡ xs ++ f.octets = c.in_ok-extend_from_slice.ensures.items ∙ ap (λ (l : List ℕ). xs ++ l) c.octets-octets.ensures in
+    let start : c.len-start.result ≡ length xs = omega (arith, c.len-start.ensures) in
+    let end : c.len-end.result ≡ length (xs ++ f.octets) = omega (arith, c.len-end.ensures, ap (λ (l : List ℕ). length l) grown) in
+    let kept : c.push.new.self.items ≡ c.self.inside.items.items ++ kept_of xs f ∷ [] =
+    c.in_ok-push.ensures.items ∙ (λ i. c.self.inside.items.items ++ record { from = f.from; start = start i; end = end i; key = f.key; note = f.note; lost = f.lost } ∷ []) in
+    let chained : c.push-2.new.self ≡ c.self.inside.chains ++ bucket_of f.octets ∷ [] =
+    no_error c.push-2.result _ (sym c.if-is_err.ensures.value) c.push-2.ensures.ok ∙ ap (λ b. c.self.inside.chains ++ b ∷ []) (c.bucket.ensures.value ∙ ap bucket_of c.octets-octets.ensures) in
+    rw (grown, kept, chained) (kept_push xs c.self.inside.items.items c.self.inside.chains f c.self.invariant c.requires.fits)
+
+pub returns-clause-ok : goal.returns-clause-ok
+returns-clause-ok c =
+    let xs = c.self.inside.octets.items in
+    let f = c.args.flight.now in
+    let grown : c.extend_from_slice.new.self.items ≡ xs ++ f.octets = c.in_ok-extend_from_slice.ensures.items ∙ ap (λ (l : List ℕ). xs ++ l) c.octets-octets.ensures in
+    let start : c.len-start.result ≡ length xs = omega (arith, c.len-start.ensures) in
+    let end : c.len-end.result ≡ length (xs ++ f.octets) = omega (arith, c.len-end.ensures, ap (λ (l : List ℕ). length l) grown) in
+    let kept : c.push.new.self.items ≡ c.self.inside.items.items ++ kept_of xs f ∷ [] =
+    c.in_ok-push.ensures.items ∙ (λ i. c.self.inside.items.items ++ record { from = f.from; start = start i; end = end i; key = f.key; note = f.note; lost = f.lost } ∷ []) in
+    ap (λ (l : List ℕ). flights_of l c.push.new.self.items) grown
+    ∙ ap (λ (l : List Kept). flights_of (xs ++ f.octets) l) kept
+    ∙ flights_push xs c.self.inside.items.items c.self.inside.chains f c.self.invariant
+    ∙ ap (λ l. l ++ f ∷ []) c.self.view_is

@@ -1,94 +1,29 @@
-use Rattle.std.proofs.Common.{true, false, ◌≡◌, ◌+◌, ◌-◌, Some, None, Err, ℕ, arith, sym, ap, ◌∙◌}
-use Rattle.std.specs.Prelude.{is_some}
-use Rattle.std.specs.FinMap.{get}
-use Rattle.plc_base.specs.SlotTables.{place_of, opened_from, slot_of}
-use Rattle.plc_base.proofs.SlotTables.{IsTable-push, free_new}
-use Rattle.plc_base.proofs.Opening.{with_record-none, with_record-held, with_record-new, opened_from-empty, opened_from-damaged, opened_from-more, opened_from-none_left, opened_kept, opened_reads, reopened}
+use Rattle.plc_base.proofs.Opening.{opened_kept, opened_reads, reopened}
+use Rattle.std.proofs.Common.{◌∙◌}
 use Rattle.plc_base.proofs.slot_table.SlotTable.open.Goals as goal
-use Rattle.plc_base.proofs.slot_table.SlotTable.open.Goals.{else-loop-place-test, then-loop-place-test+in_default}
 
-pub returns-in_default-read : goal.returns-in_default-read
-returns-in_default-read g c =
+pub returns-in-Ok : goal.returns-in-Ok
+returns-in-Ok g c =
     let layout = g.E.SlotEntry.layout in
     let records = (g.K.Keeper.store c.args.keeper.now).records in
-    let table = c.loop-place.entries.items in
-    let got : get records (slot_of layout c.loop-place.place) ≡ Some c.in-Some.octets = ap (get records) (sym c.slot-slot.ensures.value) ∙ sym c.in-Some.ensures in
-    let unread : layout.read c.loop-place.place c.in-Some.octets ≡ None = ap (layout.read c.loop-place.place) (sym c.octets.ensures.value) ∙ sym c.in_default-read.ensures in
-    let damaged = with_record-none layout c.loop-place.place table c.in-Some.octets unread in
-    let opens = ap (λ (k : ℕ). Err (record { slot = k })) c.slot-slot.ensures.value
-    ∙ sym (opened_from-damaged layout _ c.loop-place.place records table c.in-Some.octets (omega (arith, c.requires)) got damaged) ∙ c.loop-place.invariant.rest in
-    let reads = opened_reads layout records _ opens in
+    let opens = c.in-Ok.ensures.read in
     record {
       table = opens;
-      reading = tt;
-      bad = reads;
+      reading = opened_reads layout records _ opens;
+      bad = tt;
       kept = opened_kept layout records _ g.met.E.SlotEntry.rests opens;
       reopened = λ t h k. opens ∙ reopened layout records t g.met.E.SlotEntry.keeps_key h k;
     }
 
-pub returns-then-is_some : goal.returns-then-is_some
-returns-then-is_some g c =
+pub returns-in-Err : goal.returns-in-Err
+returns-in-Err g c =
     let layout = g.E.SlotEntry.layout in
     let records = (g.K.Keeper.store c.args.keeper.now).records in
-    let table = c.loop-place.entries.items in
-    let got : get records (slot_of layout c.loop-place.place) ≡ Some c.in-Some.octets = ap (get records) (sym c.slot-slot.ensures.value) ∙ sym c.in-Some.ensures in
-    let entry : layout.read c.loop-place.place c.in-Some.octets ≡ Some c.in-Some-read.entry = ap (layout.read c.loop-place.place) (sym c.octets.ensures.value) ∙ sym c.in-Some-read.ensures in
-    let held : is_some (place_of layout table (layout.key c.in-Some-read.entry)) ≡ true = ap (λ (k : ℕ). is_some (place_of layout table k)) (sym c.key.ensures) ∙ ap is_some (sym c.place_of.ensures) ∙ sym c.if-is_some.ensures in
-    let damaged = with_record-held layout c.loop-place.place table c.in-Some.octets c.in-Some-read.entry entry held in
-    let opens = ap (λ (k : ℕ). Err (record { slot = k })) c.slot-slot.ensures.value
-    ∙ sym (opened_from-damaged layout _ c.loop-place.place records table c.in-Some.octets (omega (arith, c.requires)) got damaged) ∙ c.loop-place.invariant.rest in
-    let reads = opened_reads layout records _ opens in
+    let opens = c.in-Err.ensures.read in
     record {
       table = opens;
       reading = tt;
-      bad = reads;
+      bad = opened_reads layout records _ opens;
       kept = opened_kept layout records _ g.met.E.SlotEntry.rests opens;
       reopened = λ t h k. opens ∙ reopened layout records t g.met.E.SlotEntry.keeps_key h k;
     }
-
-pub loop-place-preserved : goal.loop-place-preserved
-loop-place-preserved g c =
-    let layout = g.E.SlotEntry.layout in
-    let records = (g.K.Keeper.store c.args.keeper.now).records in
-    let table = c.loop-place.entries.items in
-    let got : get records (slot_of layout c.loop-place.place) ≡ Some c.in-Some.octets = ap (get records) (sym c.slot-slot.ensures.value) ∙ sym c.in-Some.ensures in
-    let entry : layout.read c.loop-place.place c.in-Some.octets ≡ Some c.in-Some-read.entry = ap (layout.read c.loop-place.place) (sym c.octets.ensures.value) ∙ sym c.in-Some-read.ensures in
-    let new : is_some (place_of layout table (layout.key c.in-Some-read.entry)) ≡ false = ap (λ (k : ℕ). is_some (place_of layout table k)) (sym c.key.ensures) ∙ ap is_some (sym c.place_of.ensures) ∙ sym c.if-is_some.ensures in
-    let more = with_record-new layout c.loop-place.place table c.in-Some.octets c.in-Some-read.entry entry new in
-    record {
-      rest = ap (opened_from layout (layout.slots - (c.loop-place.place + 1)) (c.loop-place.place + 1) records) c.push.ensures.items
-          ∙ sym (opened_from-more layout _ (layout.slots - (c.loop-place.place + 1)) c.loop-place.place records table _ c.in-Some.octets (omega (arith, c.requires)) got more)
-          ∙ c.loop-place.invariant.rest;
-      count = omega arith;
-      table = rw c.push.ensures.items (IsTable-push layout table c.in-Some-read.entry c.loop-place.invariant.table (omega (arith, c.requires)) (free_new layout table _ _ new));
-    }
-
-pub returns : goal.returns
-returns g c =
-    let layout = g.E.SlotEntry.layout in
-    let records = (g.K.Keeper.store c.args.keeper.now).records in
-    let table = c.loop-place.entries.items in
-    elim c.loop-place-test.branch [
-      | else-loop-place-test w ↦
-          let none_left : layout.slots - c.loop-place.place ≡ 0 = omega (arith, c.requires) in
-          let opens = sym (opened_from-none_left layout c.loop-place.place records table) ∙ (rw none_left at c.loop-place.invariant.rest) in
-          let reads = opened_reads layout records _ opens in
-          record {
-            table = opens;
-            reading = reads;
-            bad = tt;
-            kept = opened_kept layout records _ g.met.E.SlotEntry.rests opens;
-            reopened = λ t h k. opens ∙ reopened layout records t g.met.E.SlotEntry.keeps_key h k;
-          }
-      | then-loop-place-test+in_default w ↦
-          let none : get records (slot_of layout c.loop-place.place) ≡ None = ap (get records) (sym w.slot-slot.ensures.value) ∙ sym w.in_default.ensures in
-          let opens = sym (opened_from-empty layout _ c.loop-place.place records table none) ∙ c.loop-place.invariant.rest in
-          let reads = opened_reads layout records _ opens in
-          record {
-            table = opens;
-            reading = reads;
-            bad = tt;
-            kept = opened_kept layout records _ g.met.E.SlotEntry.rests opens;
-            reopened = λ t h k. opens ∙ reopened layout records t g.met.E.SlotEntry.keeps_key h k;
-          }
-    ]

@@ -1,6 +1,6 @@
 use Rattle.std.proofs.Common.{◌≡◌, ◌-◌, length}
 use Rattle.plc_base.specs.SlotTables.{IsTable, opened, opened_from}
-use Rattle.plc_base.proofs.slot_table.SlotTable.open.Given as goal
+use Rattle.plc_base.proofs.slot_table.read_all.Given as goal
 
 abbrev pub invariant-loop-place : goal.invariant-loop-place
 invariant-loop-place g l =

@@ -1,7 +1,7 @@
 use Rattle.std.proofs.Common.{◌+◌, ◌++◌, arith}
 use Rattle.line_replay.specs.Texts.{happened_text, sent_text}
-use Rattle.line_replay.proofs.Turning.{event_taken}
-use Rattle.line_replay.proofs.replay.Replay.take_event.Goals as goal
+use Rattle.line_replay.proofs.Turning.{event_taken, made_so}
+use Rattle.line_replay.proofs.replay.Player.take_event.Goals as goal
 
 pub returns-clause-turned : goal.returns-clause-turned
 returns-clause-turned g c =
@@ -13,8 +13,9 @@ returns-clause-turned g c =
     c.step.new.self
     c.args.event.now
     c.in-Ok.happened
-    c.tell.result
+    c.tell_made.result
     c.counts-taken.ensures.events
     (omega arith)
     c.in-Ok.ensures.step
-    (c.tell.ensures.told (happened_text (c.counts-taken.result.events + 1) c.in-Ok.happened ++ sent_text c.self.inside.quiet c.step.new.self c.in-Ok.happened.first_flight) c.entry_text.ensures))
+    (c.tell_made.ensures.told (happened_text (c.counts-taken.result.events + 1) c.in-Ok.happened ++ sent_text c.self.inside.quiet c.step.new.self c.in-Ok.happened.first_flight)
+    (made_so c.push_entry-made.result _ c.as_str.ensures.value c.clear.ensures.bytes c.push_entry-made.ensures)))
