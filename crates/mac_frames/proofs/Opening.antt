@@ -1,6 +1,9 @@
 -- A sealed body is an encrypted payload and a tag, in one way.
 use Rattle.std.proofs.Common.{Result, Ok, Err, ◌≡◌, ℕ, ◌≤◌, List, ◌++◌, length, take, drop, subst, refl, sym, ap, ◌∙◌, arith}
-use Rattle.std.specs.Prelude.{IsOk, OnOk}
+use Rattle.std.specs.Prelude.{IsOk, OnOk, MatchResult, Some, None, true, false}
+use Rattle.std.specs.Str.{bytes_eq}
+use Rattle.std.specs.Cmp.Lexicographic.{bytes_decides}
+use Rattle.std.proofs.lemmas.Bool.{false_from_ne_true}
 use Rattle.aes_modes.proofs.Opened.{at_ok}
 use Rattle.std.proofs.Math.Seq.{take-append_seam, drop-append_seam}
 use Rattle.std.proofs.lemmas.List.{length-append}
@@ -9,7 +12,7 @@ use Rattle.aes_modes.proofs.Texts.{ccm_text-twice, length-ccm_tag}
 use Rattle.mac_frames.specs.declared.head.MacHead.{MacHead}
 use Rattle.mac_frames.specs.declared.head.MacHead.TheVariants.{Sealed, Up, Down}
 use Rattle.mac_frames.specs.Grammar.{Frame, IsBody, IsSealed, header}
-use Rattle.mac_frames.specs.Sealing.{SealedFrame, nonce_of}
+use Rattle.mac_frames.specs.Sealing.{SealedFrame, HasTag, nonce_of, opened_in, payload_in, sealed_tag}
 use Rattle.mac_frames.proofs.Headers.{header_then-append}
 use Rattle.mac_frames.proofs.Values.{one_value}
 
@@ -76,3 +79,16 @@ pub tag_fits : (head : MacHead) (body : List ℕ) → IsSealed head → IsBody h
 tag_fits (Sealed ack seq pan to from counter index) body sealed rest = rest
 tag_fits (Up ack version seq pan to from) body sealed rest = absurd sealed
 tag_fits (Down ack version seq pan to from) body sealed rest = absurd sealed
+
+-- the two of them, as what the key opens
+pub opens_exactly : {E : Type 0} (r : Result (Unit {0}) E) (key : List ℕ) (head : MacHead) (front body out : List ℕ)
+    → (IsOk r → HasTag key head front body) → (HasTag key head front body → IsOk r) → OnOk r (out ≡ payload_in key head body)
+    → MatchResult r (λ _. opened_in key head front body ≡ Some out) (λ _. opened_in key head front body ≡ None)
+unfolding HasTag
+opens_exactly (Ok u) key head front body out tag right is =
+    let same : bytes_eq (sealed_tag body) (ccm_tag 4 key (nonce_of head) front (payload_in key head body)) ≡ true = (bytes_decides (sealed_tag body) (ccm_tag 4 key (nonce_of head) front (payload_in key head body))).1 (tag refl) in
+    rw same (ap Some (sym is))
+opens_exactly (Err e) key head front body out tag right is =
+    let other : bytes_eq (sealed_tag body) (ccm_tag 4 key (nonce_of head) front (payload_in key head body)) ≡ false =
+    false_from_ne_true _ (λ same. absurd (cc (right ((bytes_decides (sealed_tag body) (ccm_tag 4 key (nonce_of head) front (payload_in key head body))).0 same)))) in
+    rw other refl

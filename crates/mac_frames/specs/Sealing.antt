@@ -1,5 +1,6 @@
 -- Sealed frames: CCM* with tags of 4 octets (IEEE 802.15.4-2006, section 7.6.3 and annex B).
-use Rattle.std.specs.Prelude.{◌≡◌, ℕ, ◌-◌, List, [], ◌∷◌, ◌++◌, length, take, drop}
+use Rattle.std.specs.Prelude.{◌≡◌, ℕ, ◌-◌, List, [], ◌∷◌, ◌++◌, length, take, drop, Option, Some, None, if◌then◌else◌}
+use Rattle.std.specs.Str.{bytes_eq}
 use Rattle.byteorder.specs.Endian.{big_bytes}
 use Rattle.aes_modes.specs.Ccm.{ccm_text, ccm_tag}
 use Rattle.mac_frames.specs.declared.head.MacHead.{MacHead}
@@ -32,6 +33,11 @@ payload_in key head body = ccm_text key (nonce_of head) (sealed_text body)
 -- its tag is the one that the key, the head, the header's octets and that payload have
 unfoldable pub HasTag : List ℕ → MacHead → List ℕ → List ℕ → Type 0
 HasTag key head front body = sealed_tag body ≡ ccm_tag 4 key (nonce_of head) front (payload_in key head body)
+
+-- the payload of a sealed body, where its tag is right
+abbrev pub opened_in : List ℕ → MacHead → List ℕ → List ℕ → Option (List ℕ)
+opened_in key head front body =
+    if bytes_eq (sealed_tag body) (ccm_tag 4 key (nonce_of head) front (payload_in key head body)) then Some (payload_in key head body) else None
 
 -- The octets are a frame whose body is the payload, encrypted under the key and the head's nonce, and the
 -- tag of all octets before it and the payload.

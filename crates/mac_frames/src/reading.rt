@@ -1,5 +1,5 @@
 //! Reads frames.
-ghost use Rattle.std.specs.Prelude.{◌≡◌, ◌≤◌, ◌<◌, ◌≢◌, ◌^◌, ◌+◌, ◌∷◌, ◌++◌, ℕ, List, [], true, false, length, reverse, IfOk, IsOkAnd, MatchResult, Some, None, Ok};
+ghost use Rattle.std.specs.Prelude.{◌≡◌, ◌≤◌, ◌<◌, ◌≢◌, ◌^◌, ◌+◌, ◌∷◌, ◌++◌, ℕ, List, [], true, false, length, take, reverse, IfOk, IsOkAnd, MatchResult, Some, None, Ok};
 ghost use Rattle.byteorder.specs.Endian.{little_bytes};
 ghost use Rattle.octet_fields.specs.Fields.{after, little_two};
 ghost use Rattle.octet_fields.specs.Addresses.{IsAddress};
@@ -163,6 +163,7 @@ fn head_of(octets: &[u8]) -> Result<MacHead, FrameFault>
 fn frame_of<'a>(octets: &'a [u8]) -> Result<RawFrame<'a>, FrameFault>
     ensures found { IfOk result (λ raw. Frame raw.head raw.body.now octets.now) }
     ensures parts { IfOk result (λ raw. (raw.header.now ≡ header raw.head) × (octets.now ≡ raw.header.now ++ raw.body.now)) }
+    ensures front { IfOk result (λ raw. raw.header.now ≡ take 15 octets.now) }
     ensures exact { MatchResult result (λ raw. frame_fault octets.now ≡ None) (λ e. frame_fault octets.now ≡ Some e) }
 {
     if octets.len() > 400 {
@@ -181,6 +182,7 @@ pub fn read_frame<'a>(octets: &'a [u8]) -> Result<RawFrame<'a>, FrameFault>
     ensures places { IfOk result (λ raw. (raw.head ≡ head_in octets.now) × (raw.body.now ≡ body_in octets.now)) }
     // The header and the body are the two parts of the octets.
     ensures parts { IfOk result (λ raw. (raw.header.now ≡ header raw.head) × (octets.now ≡ raw.header.now ++ raw.body.now)) }
+    ensures front { IfOk result (λ raw. raw.header.now ≡ take 15 octets.now) }
     // A fault is the first one.
     ensures exact { MatchResult result (λ raw. frame_fault octets.now ≡ None) (λ e. frame_fault octets.now ≡ Some e) }
     // What is spelled so is read.

@@ -1,8 +1,8 @@
 //! Seals and opens frames.
-ghost use Rattle.std.specs.Prelude.{◌≡◌, ◌≤◌, ◌↔◌, ◌++◌, ℕ, List, [], length, IsOk, OnOk, OnErr};
+ghost use Rattle.std.specs.Prelude.{◌≡◌, ◌≤◌, ◌↔◌, ◌++◌, ℕ, List, [], length, IsOk, OnOk, OnErr, MatchResult, Some, None};
 ghost use Rattle.aes_modes.specs.Ccm.{ccm_tag, ccm_text};
 ghost use Rattle.mac_frames.specs.Grammar.{Frame, IsAllowed, IsSealed};
-ghost use Rattle.mac_frames.specs.Sealing.{HasTag, SealedFrame, nonce, nonce_of, payload_in};
+ghost use Rattle.mac_frames.specs.Sealing.{HasTag, SealedFrame, nonce, nonce_of, opened_in, payload_in};
 
 use crate::head::MacHead;
 use crate::reading::RawFrame;
@@ -86,6 +86,7 @@ fn open_text(
     ensures tag { IsOk result ↔ (tag.now ≡ ccm_tag 4 aes.now nonce.now header.now (ccm_text aes.now nonce.now sealed.now)) }
     ensures opened { OnOk result (out.new ≡ ccm_text aes.now nonce.now sealed.now) }
     ensures bad_tag { OnErr result (out.new ≡ []) }
+    ensures fits { length out.new ≤ 381 }
 {
     out.clear();
     let count = sealed.len();
@@ -111,6 +112,10 @@ pub fn open_frame(aes: &Aes, raw: &RawFrame<'_>, out: &mut FrameBuf) -> Result<(
     ensures only { (payload : List ℕ) → SealedFrame raw.now.head aes.now payload (raw.now.header.now ++ raw.now.body.now)
         → IsOk result × (out.new ≡ payload) }
     ensures bad_tag { OnErr result (out.new ≡ []) }
+    // It is the payload that the key opens, if it opens one.
+    ensures exact { MatchResult result (λ _. opened_in aes.now raw.now.head raw.now.header.now raw.now.body.now ≡ Some out.new)
+        (λ _. opened_in aes.now raw.now.head raw.now.header.now raw.now.body.now ≡ None) }
+    ensures fits { length out.new ≤ 381 }
 {
     let (sealed, tag) = raw.body.split_at(raw.body.len() - TAG);
     open_text(aes, &nonce_of(&raw.head), raw.header, sealed, tag, out)

@@ -117,7 +117,10 @@ hear_reply l own by origin to rank now =
 abbrev pub loses : ℕ → ℕ → Line → Doing Line
 loses lost by l = rerouted (λ r. routing.without_next_to r lost by) (begun l)
 
--- and the error goes on by the hop that still leads to its target, unless that is the lost one itself
+-- and the error goes on by the hop that leads to its target as the routes then are, whatever address that is; at its target it ends
+abbrev pub error_hop : Line → (own by lost to : ℕ) → Option ℕ
+error_hop l own by lost to = if to == own then None else next_hop (loses lost by l).memory to
+
 abbrev pub tells_on : ℕ → ℕ → Option ℕ → Doing Line → Doing Line
 tells_on lost to None d = d
 tells_on lost to (Some hop) d = tells hop (Rerr lost to) d
@@ -125,7 +128,7 @@ tells_on lost to (Some hop) d = tells hop (Rerr lost to) d
 -- the route ends, and the error goes on where it is for another node
 abbrev pub hear_error : Line → (own by lost to : ℕ) → Hearing
 hear_error l own by lost to =
-    ends l (tells_on lost to (if (to == own) || (to == lost) then None else next_hop (loses lost by l).memory to) (loses lost by l)) heard.Broken
+    ends l (tells_on lost to (error_hop l own by lost to) (loses lost by l)) heard.Broken
 
 -- # Units over the mesh for other nodes
 

@@ -24,6 +24,31 @@ pub wrote_stop : (s t : Store) (o : Option Write) (ws : List Write) → Stores s
 wrote_stop s t None ws first = absurd (cc)
 wrote_stop s t (Some w) ws first = record { by = (false, t, first, tt, (refl, refl)) }
 
+-- a part puts once at most, and nothing follows
+pub wrote_one : (s t : Store) (o : Option Write) (done : Bool) → Stores s o done t → Wrote s (puts_of o) done t
+wrote_one s t None true h = record { by = (refl, h.1) }
+wrote_one s t None false h = absurd (cc)
+wrote_one s t (Some w) true h = record { by = (true, t, h, (refl, refl), tt) }
+wrote_one s t (Some w) false h = record { by = (false, t, h, tt, (refl, refl)) }
+
+writes_append : (s m t : Store) (ws vs : List Write) (done : Bool) → Writes s ws true m → Writes m vs done t → Writes s (ws ++ vs) done t
+writes_append s m t [] vs done a b = subst (λ (k : Store). Writes k vs done t) a.1 b
+writes_append s m t (w ∷ ws) vs done (true, mid, p, rest, u) b = (true, mid, p, writes_append mid m t ws vs done rest b, tt)
+writes_append s m t (w ∷ ws) vs done (false, mid, p, u, stop) b = absurd (cc (stop.0))
+
+writes_stop : (s t : Store) (ws vs : List Write) → Writes s ws false t → Writes s (ws ++ vs) false t
+writes_stop s t [] vs a = absurd (cc (a.0))
+writes_stop s t (w ∷ ws) vs (true, mid, p, rest, u) = (true, mid, p, writes_stop mid t ws vs rest, tt)
+writes_stop s t (w ∷ ws) vs (false, mid, p, u, stop) = (false, mid, p, tt, stop)
+
+-- the puts of a list were done, and those of another follow
+pub wrote_append : (s m t : Store) (ws vs : List Write) (done : Bool) → Wrote s ws true m → Wrote m vs done t → Wrote s (ws ++ vs) done t
+wrote_append s m t ws vs done a b = record { by = writes_append s m t ws vs done a.by b.by }
+
+-- one of the puts of a list failed, and those of another do not follow
+pub wrote_append_stop : (s t : Store) (ws vs : List Write) → Wrote s ws false t → Wrote s (ws ++ vs) false t
+wrote_append_stop s t ws vs a = record { by = writes_stop s t ws vs a.by }
+
 -- # The cut of some puts
 
 faults_rise : (s t : Store) (ws : List Write) (done : Bool) → Writes s ws done t → s.faults ≤ t.faults

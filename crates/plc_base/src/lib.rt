@@ -29,7 +29,7 @@ pub use mem_keeper::MemKeeper;
 pub use memory::{MemSink, MemSource};
 pub use numbers::a_number_has_the_octets_it_was_read_from;
 pub use octets::{DatagramBuf, EapBuf, FrameBuf, Octets, Record};
-pub use out_frame::OutFrame;
+pub use out_frame::{Out, OutFrame, OutFrames};
 pub use slot_table::{SlotEntry, SlotTable};
 pub use standard::{StdSink, StdSource};
 pub use streams::{Failed, Sink, Source, write_all};

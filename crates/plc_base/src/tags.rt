@@ -90,6 +90,13 @@ impl PairTags {
     {
         self.items.push(tag);
     }
+
+    /// Drops all tags.
+    pub fn clear(&mut self)
+        ensures { self.new ≡ [] }
+    {
+        self.items.clear();
+    }
 }
 
 impl Default for PairTags {
@@ -117,6 +124,14 @@ impl TagList {
             made: PairTags::new(),
             opened: PairTags::new(),
         }
+    }
+
+    /// Drops all tags.
+    pub fn clear(&mut self)
+        ensures { self.new ≡ record { made = []; opened = [] } }
+    {
+        self.made.clear();
+        self.opened.clear();
     }
 }
 

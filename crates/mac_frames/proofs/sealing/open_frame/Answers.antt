@@ -3,7 +3,7 @@ use Rattle.std.proofs.lemmas.List.{take-append-drop}
 use Rattle.std.proofs.lemmas.Result.{on_ok_weaker}
 use Rattle.aes_modes.specs.Ccm.{ccm_tag, ccm_text}
 use Rattle.mac_frames.specs.Sealing.{HasTag, nonce_of, payload_in}
-use Rattle.mac_frames.proofs.Opening.{opens_only, opens_so, tag_fits}
+use Rattle.mac_frames.proofs.Opening.{opens_exactly, opens_only, opens_so, tag_fits}
 use Rattle.mac_frames.proofs.sealing.open_frame.Goals as goal
 use Rattle.mac_frames.proofs.sealing.open_frame.Goals.{After-open_text}
 
@@ -34,6 +34,15 @@ unfolding payload_in
 wanted c = λ i.
     ccm_tag 4 c.args.aes.now (c.nonce_of.ensures i) c.args.raw.now.header.now
     (ccm_text c.args.aes.now (c.nonce_of.ensures i) (c.split_at.ensures.front i))
+
+pub returns-clause-exact : goal.returns-clause-exact
+unfolding payload_in HasTag
+returns-clause-exact c =
+    opens_exactly c.open_text.result c.args.aes.now c.args.raw.now.head c.args.raw.now.header.now c.args.raw.now.body.now c.open_text.new.out
+    (λ ok. sym c.split_at.ensures.back ∙ c.open_text.ensures.tag.0 ok ∙ wanted c)
+    (λ right. c.open_text.ensures.tag.1 (c.split_at.ensures.back ∙ right ∙ sym (wanted c)))
+    (on_ok_weaker c.open_text.result
+    (λ is. is ∙ (λ i. ccm_text c.args.aes.now (c.nonce_of.ensures i) (c.split_at.ensures.front i))) c.open_text.ensures.opened)
 
 pub returns-clause-tag : goal.returns-clause-tag
 unfolding HasTag

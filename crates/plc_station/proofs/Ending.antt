@@ -1,0 +1,106 @@
+-- A doing that is carried to its end.
+use Rattle.std.proofs.Common.{◌≡◌, ℕ, ◌++◌, Bool, true, false, List, [], length, map, Option, Some, None, Result, Ok, Err, refl, sym, ap, subst, ◌∙◌}
+use Rattle.std.specs.Prelude.{if◌then◌else◌}
+use Rattle.plc_base.specs.Keeper.{Store, Stores}
+use Rattle.plc_base.specs.Writes.{Wrote, puts_of}
+use Rattle.plc_base.specs.declared.out_frame.Out.{Out}
+use Rattle.plc_base.proofs.WritesLemmas.{wrote_one, wrote_append, wrote_append_stop}
+use Rattle.frame_counters.specs.SendCounter.{reserved, reserve_write}
+use Rattle.std.specs.Option.{option_map_or}
+use Rattle.plc_base.specs.declared.key.Key.{Key}
+use Rattle.group_keys.specs.KeyRing.{Ring}
+use Rattle.node_rules.specs.Ciphers.{network}
+use Rattle.node_rules.specs.Frames.{spelled}
+use Rattle.node_rules.specs.Memory.{Line}
+use Rattle.node_rules.specs.Plans.{Plan, resting}
+use Rattle.node_rules.specs.Doings.{Doing, Ends, alone, refused, sealing, sealed_by, sealing_key, letters}
+use Rattle.plc_station.specs.State.{State, Carries, nothing}
+use Rattle.plc_station.proofs.Carrying.{resting_carried}
+
+-- what is sent, and what is left where a put failed
+abbrev pub sent : Doing Line → Out
+sent d = record { frames = map (spelled network) (d.plain ++ sealed_by d.memory.ring d.memory.counter.next d.units); tags = record { made = d.made; opened = d.opened } }
+
+abbrev pub unsent : Doing Line → Out
+unsent d = record { frames = []; tags = record { made = []; opened = d.opened } }
+
+-- all puts were done
+pub ended : {H E : Type 0} (ends : Ends E) (s t : State Line) (d e : Doing Line) (answer : H) (m : Store) (out : Out) (count : ℕ) → d ≡ e → Wrote s.store d.puts true m
+    → count ≡ length d.units → Stores m (reserve_write d.memory.counter count) true t.store → out ≡ sent d
+    → t ≡ record { store = t.store; eui = s.eui; memory = Some (record d.memory { counter = reserved d.memory.counter count }) }
+    → Carries s (sealing alone ends e answer) (Ok answer) out t
+ended {H} {E} ends s t d e answer m out count same wrote few stores is new = subst (λ (x : Doing Line). Carries s (sealing alone ends x answer) (Ok answer) out t) same (record {
+  done = true;
+  wrote = wrote_append s.store m t.store d.puts _ true wrote (wrote_one m t.store _ true (subst (λ n. Stores m (reserve_write d.memory.counter n) true t.store) few stores));
+  answer_is = refl;
+  out_is = is;
+  new_is = new ∙ ap (λ n. record { store = t.store; eui = s.eui; memory = Some (record d.memory { counter = reserved d.memory.counter n }) }) few;
+})
+
+-- one of the first puts failed
+pub stopped : {H E : Type 0} (ends : Ends E) (s t : State Line) (d e : Doing Line) (answer : H) (out : Out) → d ≡ e → Wrote s.store d.puts false t.store → out ≡ unsent d
+    → t ≡ record { store = t.store; eui = s.eui; memory = None } → Carries s (sealing alone ends e answer) (Err ends.store) out t
+stopped {H} {E} ends s t d e answer out same wrote is new = subst (λ (x : Doing Line). Carries s (sealing alone ends x answer) (Err ends.store) out t) same (record {
+  done = false;
+  wrote = wrote_append_stop s.store t.store d.puts _ wrote;
+  answer_is = refl;
+  out_is = is;
+  new_is = new;
+})
+
+-- the put of the counter failed
+pub uncounted : {H E : Type 0} (ends : Ends E) (s t : State Line) (d e : Doing Line) (answer : H) (m : Store) (out : Out) (count : ℕ) → d ≡ e → Wrote s.store d.puts true m
+    → count ≡ length d.units → Stores m (reserve_write d.memory.counter count) false t.store → out ≡ unsent d
+    → t ≡ record { store = t.store; eui = s.eui; memory = None } → Carries s (sealing alone ends e answer) (Err ends.store) out t
+uncounted {H} {E} ends s t d e answer m out count same wrote few stores is new = subst (λ (x : Doing Line). Carries s (sealing alone ends x answer) (Err ends.store) out t) same (record {
+  done = false;
+  wrote = wrote_append s.store m t.store d.puts _ false wrote (wrote_one m t.store _ false (subst (λ n. Stores m (reserve_write d.memory.counter n) false t.store) few stores));
+  answer_is = refl;
+  out_is = is;
+  new_is = new;
+})
+
+-- no unit, no frame
+pub sealed_none : (r : Ring) (first : ℕ) → sealed_by r first [] ≡ []
+sealed_none None first = refl
+sealed_none (Some g) first = by_key (sealing_key g)
+  where
+    by_key : (k : Option Key) → option_map_or (λ key. letters g key first []) k [] ≡ []
+    by_key None = refl
+    by_key (Some key) = refl
+
+-- # Refusals and answers
+
+pub refusal : {H E : Type 0} (ends : Ends E) (s : State Line) (l : Line) (reason : E) (p : Plan Line (Result H E)) (out : Out) → s.memory ≡ Some l → refused {H = H} ends l reason ≡ p → out ≡ nothing
+    → Carries s p (Err reason) out s
+refusal {H} {E} ends s l reason p out m e o =
+    subst (λ (q : Plan Line (Result H E)). Carries s q (Err reason) out s) e
+    (subst (λ (q : Out). Carries s (refused {H = H} ends l reason) (Err reason) q s) (sym o) (resting_carried s l (Err reason) (Err ends.store) m))
+
+pub carried_by : {A : Type 0} (s t : State Line) (p q : Plan Line A) (answer : A) (out : Out) → p ≡ q → Carries s p answer out t → Carries s q answer out t
+carried_by {A} s t p q answer out e h = subst (λ (k : Plan Line A). Carries s k answer out t) e h
+
+-- a step that was done, with an answer of its own
+pub answered : {H E : Type 0} (ends : Ends E) (s t : State Line) (d : Doing Line) (u : Unit {0}) (answer : H) (out : Out) → Carries s (sealing {H = Unit {0}} alone ends d tt) (Ok u) out t
+    → Carries s (sealing alone ends d answer) (Ok answer) out t
+answered {H} {E} ends s t d u answer out c = record { done = c.done; wrote = c.wrote; answer_is = so c.done c.answer_is; out_is = c.out_is; new_is = c.new_is }
+  where
+    so : (done : Bool) → ◌≡◌ {A = Result (Unit {0}) E} (Ok u) (if done then Ok tt else Err ends.store) → ◌≡◌ {A = Result H E} (Ok answer) (if done then Ok answer else Err ends.store)
+    so true e = refl
+    so false e = cc
+
+pub failed : {H E : Type 0} (ends : Ends E) (s t : State Line) (d : Doing Line) (reason : E) (answer : H) (out : Out) → Carries s (sealing {H = Unit {0}} alone ends d tt) (Err reason) out t
+    → Carries s (sealing alone ends d answer) (Err reason) out t
+failed {H} {E} ends s t d reason answer out c = record { done = c.done; wrote = c.wrote; answer_is = so c.done c.answer_is; out_is = c.out_is; new_is = c.new_is }
+  where
+    so : (done : Bool) → ◌≡◌ {A = Result (Unit {0}) E} (Err reason) (if done then Ok tt else Err ends.store) → ◌≡◌ {A = Result H E} (Err reason) (if done then Ok answer else Err ends.store)
+    so true e = cc
+    so false e = ap Err (same e)
+      where
+        same : ◌≡◌ {A = Result (Unit {0}) E} (Err reason) (Err ends.store) → reason ≡ ends.store
+        same h = cc
+
+-- a plan that changes nothing
+pub rested : {A : Type 0} (s : State Line) (l : Line) (answer fault : A) (p : Plan Line A) (out : Out) → s.memory ≡ Some l → resting l answer fault ≡ p → out ≡ nothing → Carries s p answer out s
+rested {A} s l answer fault p out m e o =
+    subst (λ (q : Plan Line A). Carries s q answer out s) e (subst (λ (q : Out). Carries s (resting l answer fault) answer q s) (sym o) (resting_carried s l answer fault m))

@@ -1,0 +1,39 @@
+use Rattle.std.proofs.Common.{◌≡◌, ℕ, ◌∷◌, [], ◌++◌, ◌+◌, true, false, Some, None, Ok, Err, List, map, drop, refl, sym, ap, ◌∙◌, arith}
+use Rattle.std.proofs.lemmas.Bool.Decides.{nat_tests}
+use Rattle.plc_base.proofs.WritesLemmas.{wrote_one, wrote_none}
+use Rattle.loadng_messages.specs.Grammar as messages
+use Rattle.loadng_messages.specs.declared.message.Message.TheVariants.{Rreq}
+use Rattle.mesh_header.specs.declared.unit.Unit.TheVariants.{Local, Carried}
+use Rattle.routing_set.specs.OwnNumber.{advance_write}
+use Rattle.node_rules.specs.declared.heard.SentHow.TheVariants.{Sent, Waiting}
+use Rattle.node_rules.specs.declared.refusal.SendRefusal.TheVariants.{NotJoined, WaitingFull, SeqSpent, CounterSpent}
+use Rattle.node_rules.specs.Ciphers.{network}
+use Rattle.node_rules.specs.Frames.{Sent as Frame, spelled}
+use Rattle.node_rules.specs.Memory.{Line, Command, next_hop}
+use Rattle.node_rules.specs.Doings.{begun, goes, body_goes, own_mesh, waits, seeks, numbered, sealed_by}
+use Rattle.node_rules.specs.Calls.{sending_ends}
+use Rattle.node_rules.specs.Hearing.{dropped}
+use Rattle.plc_station.specs.Bodies.{Held}
+use Rattle.plc_station.specs.Lines.{line_in}
+use Rattle.plc_station.specs.Sealing.{only_frames}
+use Rattle.plc_station.specs.State.{State}
+use Rattle.plc_station.proofs.Carrying.{if_some, on_memory, at_some, lines_are}
+use Rattle.plc_station.proofs.Ending.{ended, stopped, uncounted, refusal, carried_by, sealed_none}
+use Rattle.plc_station.proofs.Ways.{too_few, enough}
+use Rattle.plc_station.proofs.Commanding as ways
+use Rattle.plc_station.proofs.station.Station.command_seeks.Goals as goal
+
+pub returns-in_default-clause-carries : goal.returns-in_default-clause-carries
+unfolding waits goes numbered begun
+returns-in_default-clause-carries g c =
+    rw (← c.self.view_is) (on_memory c.self.inside.halted _ _ (λ running. stopped sending_ends _ _ (waits c.args.to 0 (Command c.args.octets.now) c.args.now (seeks c.args.grant.now.address c.args.to (begun (line_in c.self.inside.parts c.self.inside.bodies)))) (waits c.args.to 0 (Command c.args.octets.now) c.args.now (seeks c.args.grant.now.address c.args.to (begun (line_in c.self.inside.parts c.self.inside.bodies)))) Waiting _ refl (wrote_one _ _ (advance_write c.self.inside.parts.own_number) _ c.in_default.ensures.store) c.requires.empty refl))
+
+pub returns-in_default-reserve-clause-carries : goal.returns-in_default-reserve-clause-carries
+unfolding waits goes numbered begun
+returns-in_default-reserve-clause-carries g c =
+    rw (← c.self.view_is) (on_memory c.self.inside.halted _ _ (λ running. uncounted sending_ends _ _ (waits c.args.to 0 (Command c.args.octets.now) c.args.now (seeks c.args.grant.now.address c.args.to (begun (line_in c.self.inside.parts c.self.inside.bodies)))) (waits c.args.to 0 (Command c.args.octets.now) c.args.now (seeks c.args.grant.now.address c.args.to (begun (line_in c.self.inside.parts c.self.inside.bodies)))) Waiting _ _ _ refl (wrote_one _ _ (advance_write c.self.inside.parts.own_number) _ c.in-Ok.ensures.store) refl c.in_default-reserve.ensures.store c.requires.empty refl))
+
+pub returns-clause-carries : goal.returns-clause-carries
+unfolding waits goes numbered begun
+returns-clause-carries g c =
+    rw (← c.self.view_is) (on_memory c.self.inside.halted _ _ (λ running. ended sending_ends _ _ (waits c.args.to 0 (Command c.args.octets.now) c.args.now (seeks c.args.grant.now.address c.args.to (begun (line_in c.self.inside.parts c.self.inside.bodies)))) (waits c.args.to 0 (Command c.args.octets.now) c.args.now (seeks c.args.grant.now.address c.args.to (begun (line_in c.self.inside.parts c.self.inside.bodies)))) Waiting _ _ _ refl (wrote_one _ _ (advance_write c.self.inside.parts.own_number) _ c.in-Ok.ensures.store) refl c.in-Ok-reserve.ensures.store (c.seal_request.ensures ∙ (λ i. only_frames (map (spelled network) (sealed_by ((sym (at_some c.args.self.now.memory (λ l. l.ring ≡ Some c.args.grant.now) (line_in c.self.inside.parts c.self.inside.bodies) (ap (λ (s : State Line). s.memory) (sym c.self.view_is) ∙ running) c.requires.ring)) i) (c.in-Ok-reserve.ensures.number i) (record { to = 0xFFFF; unit = Local 1 (messages.spelling (Rreq (c.in-Ok.ensures.number i) 0 c.args.grant.now.address c.args.to)); note = 0 } ∷ []))))) (lines_are _ _ _ _ refl c.in-Ok-reserve.ensures.counter refl refl c.in-Ok.ensures.numbering refl (ap (λ (h : Held). h.reassemblies) c.push.ensures) (ap (λ (h : Held). h.waiting) c.push.ensures))))

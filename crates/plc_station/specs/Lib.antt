@@ -1,0 +1,14 @@
+pub mod Codes
+pub mod Bodies
+pub mod Holding
+pub mod State
+pub mod Parts
+pub mod Lines
+pub mod Sealing
+pub mod Opening
+pub mod Pieces
+pub mod Outcome
+pub mod Leaving
+pub mod Heard
+pub mod Rooms
+pub mod Shown

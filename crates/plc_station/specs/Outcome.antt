@@ -1,0 +1,26 @@
+-- What a call does, as a function of the cut that is to come.
+use Rattle.std.specs.Prelude.{◌≡◌, map, Option, None, Some, IfSome, IfNone}
+use Rattle.plc_base.specs.declared.keeper.Cut.{Cut}
+use Rattle.plc_base.specs.declared.out_frame.Out.{Out}
+use Rattle.plc_base.specs.Causes.{Rose}
+use Rattle.node_rules.specs.Ciphers.{network}
+use Rattle.node_rules.specs.Frames.{spelled}
+use Rattle.node_rules.specs.Plans.{Plan, Outcome, carry_out}
+use Rattle.plc_station.specs.State.{State}
+
+-- the answer, what is given out, and the state are those of an outcome
+pub record Shows {M A : Type 0} (o : Outcome M A) (old : State M) (answer : A) (out : Out) (new : State M) : Type 0 where
+  pub answer_is : answer ≡ o.answer
+  pub out_is : out ≡ record { frames = map (spelled network) o.frames; tags = record { made = o.made; opened = o.opened } }
+  pub records_is : new.store.records ≡ o.records
+  pub memory_is : new.memory ≡ o.memory
+  pub eui_is : new.eui ≡ old.eui
+  pub told_is : IfSome old.store.told (λ c. new.store.told ≡ Some o.cut)
+
+-- The call does what `carry_out` gives, under the cut that the keeper tells. Where it tells none there is one all the same, and it
+-- is none where the count of faults did not rise.
+pub record IsCarriedOut {M A : Type 0} (old : State M) (p : Plan M A) (answer : A) (out : Out) (new : State M) : Type 0 where
+  pub cut : Option Cut
+  pub told : IfSome old.store.told (λ c. c ≡ cut)
+  pub shows : Shows (carry_out old.store.records cut p) old answer out new
+  pub fault : (Rose old.store.faults new.store.faults → ⊥) → IfNone old.store.told (cut ≡ None)

@@ -1,0 +1,234 @@
+//! Commands that a station sends over the mesh.
+ghost use Rattle.std.specs.Prelude.{◌≡◌, ◌+◌, ◌<◌, ◌≤◌, false, Some, None, Ok, Err, IfSome, IfNone, IsSome, length};
+ghost use Rattle.std.specs.Prelude.{drop};
+ghost use Rattle.mesh_header.specs.declared.unit.Unit.TheVariants as mesh;
+ghost use Rattle.mesh_header.specs.Grammar.{IsAllowed, spelled_length};
+ghost use Rattle.node_rules.specs.Memory.{Command};
+ghost use Rattle.node_rules.specs.Doings as doings;
+ghost use Rattle.node_rules.specs.Calls as calls;
+ghost use Rattle.node_rules.specs.declared.heard.SentHow.TheVariants as how;
+ghost use Rattle.plc_station.specs.State.{Carries, Agrees, nothing};
+ghost use Rattle.plc_station.specs.Rooms.{room_answer};
+
+use crate::sealing::{own_mesh, seal_request};
+use crate::station::Station;
+use mesh_header::Unit;
+use node_rules::{SendRefusal, SentHow};
+use plc_base::{FrameBuf, Grant, Keeper, Out, Short};
+
+// The unit of a command, whose code stands first.
+fn command_unit(grant: &Grant, to: Short, octets: &[u8]) -> Unit
+    requires some { 1 ≤ length octets.now }
+    requires fits { length octets.now ≤ 374 }
+    ensures value { result ≡ mesh.Carried (doings.own_mesh grant.now.address to) (drop 1 octets.now) }
+    ensures allowed { IsAllowed result }
+    ensures short { spelled_length result ≤ 381 }
+{
+    Unit::Carried {
+        mesh: own_mesh(grant, to),
+        body: FrameBuf::from_octets(&octets[1..]),
+    }
+}
+
+impl<K: Keeper + Drop> Station<K> {
+    // A command goes to a next hop.
+    fn command_goes(
+        &mut self,
+        grant: &Grant,
+        hop: Short,
+        to: Short,
+        octets: &[u8],
+        out: &mut Out,
+    ) -> Result<SentHow, SendRefusal>
+        requires running { IsSome self.old.memory }
+        requires agrees { Agrees self.old }
+        requires ring { IfSome self.old.memory (λ l. l.ring ≡ Some grant.now) }
+        requires some { 1 ≤ length octets.now }
+        requires fits { length octets.now ≤ 374 }
+        requires left { IfSome self.old.memory (λ l. l.counter.next + 1 ≤ 4294967295) }
+        requires empty { out.old ≡ nothing }
+        ensures carries { IfSome self.old.memory (λ l. Carries self.old (doings.sealing doings.alone calls.sending_ends
+            (doings.body_goes grant.now.address hop to 0 (Command octets.now) (doings.begun l)) how.Sent) result out.new self.new) }
+        ensures agrees { Agrees self.new }
+    {
+        let unit = command_unit(grant, to, octets);
+        match self.send_unit(grant, hop.number(), &unit, 0, out) {
+            Ok(()) => Ok(SentHow::Sent),
+            Err(_) => Err(SendRefusal::Store),
+        }
+    }
+
+    // A command waits for a route that something else waits for already.
+    fn command_waits(
+        &mut self,
+        to: Short,
+        octets: &[u8],
+        now: u64,
+        out: &Out,
+    ) -> Result<SentHow, SendRefusal>
+        requires running { IsSome self.old.memory }
+        requires agrees { Agrees self.old }
+        requires some { 1 ≤ length octets.now }
+        requires fits { length octets.now ≤ 374 }
+        requires room { IfSome self.old.memory (λ l. doings.no_room l (length octets.now) ≡ false) }
+        requires empty { out.now ≡ nothing }
+        ensures carries { IfSome self.old.memory (λ l. Carries self.old (doings.sealing doings.alone calls.sending_ends
+            (doings.waits to 0 (Command octets.now) now (doings.begun l)) how.Waiting) result out.now self.new) }
+        ensures agrees { Agrees self.new }
+    {
+        let _left = self.parts.counter.left();
+        self.halted = true;
+        let Ok(_) = self.parts.counter.reserve(&mut self.keeper, 0) else {
+            return Err(SendRefusal::Store);
+        };
+        self.bodies.push(to, 0, now, None, octets);
+        self.halted = false;
+        Ok(SentHow::Waiting)
+    }
+
+    // A command waits for a route, and the route is sought.
+    fn command_seeks(
+        &mut self,
+        grant: &Grant,
+        to: Short,
+        octets: &[u8],
+        now: u64,
+        out: &mut Out,
+    ) -> Result<SentHow, SendRefusal>
+        requires running { IsSome self.old.memory }
+        requires agrees { Agrees self.old }
+        requires ring { IfSome self.old.memory (λ l. l.ring ≡ Some grant.now) }
+        requires some { 1 ≤ length octets.now }
+        requires fits { length octets.now ≤ 374 }
+        requires room { IfSome self.old.memory (λ l. doings.no_room l (length octets.now) ≡ false) }
+        requires number { IfSome self.old.memory (λ l. l.own_number.last < 65535) }
+        requires left { IfSome self.old.memory (λ l. l.counter.next + 1 ≤ 4294967295) }
+        requires empty { out.old ≡ nothing }
+        ensures carries { IfSome self.old.memory (λ l. Carries self.old (doings.sealing doings.alone calls.sending_ends
+            (doings.waits to 0 (Command octets.now) now (doings.seeks grant.now.address to (doings.begun l))) how.Waiting) result out.new self.new) }
+        ensures agrees { Agrees self.new }
+    {
+        self.halted = true;
+        let Ok(number) = self.parts.own_number.advance(&mut self.keeper) else {
+            return Err(SendRefusal::Store);
+        };
+        let Ok(counter) = self.parts.counter.reserve(&mut self.keeper, 1) else {
+            return Err(SendRefusal::Store);
+        };
+        seal_request(grant, counter, number, to, out);
+        self.bodies.push(to, 0, now, None, octets);
+        self.halted = false;
+        Ok(SentHow::Waiting)
+    }
+
+    // A command is sent from the own address.
+    fn command_from(
+        &mut self,
+        grant: &Grant,
+        to: Short,
+        octets: &[u8],
+        now: u64,
+        out: &mut Out,
+    ) -> Result<SentHow, SendRefusal>
+        requires running { IsSome self.old.memory }
+        requires agrees { Agrees self.old }
+        requires ring { IfSome self.old.memory (λ l. l.ring ≡ Some grant.now) }
+        requires some { 1 ≤ length octets.now }
+        requires fits { length octets.now ≤ 374 }
+        requires empty { out.old ≡ nothing }
+        ensures carries { IfSome self.old.memory (λ l. Carries self.old (calls.command_from l grant.now.address to octets.now now) result out.new self.new) }
+        ensures agrees { Agrees self.new }
+    {
+        let left = self.parts.counter.left();
+        if let Some(hop) = self.parts.routing.route(to) {
+            if left < 1 {
+                return Err(SendRefusal::CounterSpent);
+            }
+            return self.command_goes(grant, hop, to, octets, out);
+        }
+        if self.bodies.no_room(octets.len()) {
+            return Err(SendRefusal::WaitingFull);
+        }
+        if self.bodies.is_awaited(to) {
+            return self.command_waits(to, octets, now, out);
+        }
+        if self.parts.own_number.last() == u16::MAX {
+            return Err(SendRefusal::SeqSpent);
+        }
+        if left < 1 {
+            return Err(SendRefusal::CounterSpent);
+        }
+        self.command_seeks(grant, to, octets, now, out)
+    }
+
+    /// Sends a command, whose code stands first, to an address, at a time in seconds. The own address is treated as any other.
+    ///
+    /// Halted, NotJoined, WaitingFull, SeqSpent, CounterSpent, Store, in this order.
+    pub fn send_command(
+        &mut self,
+        to: Short,
+        body: &[u8],
+        now: u64,
+        out: &mut Out,
+    ) -> Result<SentHow, SendRefusal>
+        requires agrees { Agrees self.old }
+        requires some { 1 ≤ length body.now }
+        requires fits { length body.now ≤ 374 }
+        ensures halted { IfNone self.old.memory ((result ≡ Err SendRefusal.Halted) × (out.new ≡ nothing) × (self.new ≡ self.old)) }
+        ensures carries { IfSome self.old.memory (λ l. Carries self.old (calls.send_command l to body.now now) result out.new self.new) }
+        ensures agrees { Agrees self.new }
+    {
+        out.clear();
+        if self.halted {
+            return Err(SendRefusal::Halted);
+        }
+        let Some(grant) = self.parts.ring.grant() else {
+            return Err(SendRefusal::NotJoined);
+        };
+        self.command_from(&grant, to, body, now, out)
+    }
+
+    // What a command would be refused for by a station that is joined.
+    fn room_for(&self, to: Short, octets: u16) -> Result<(), SendRefusal>
+        requires fits { octets ≤ 374 }
+        ensures { IfSome self.now.memory (λ l. result ≡ room_answer (calls.room_fault l to octets)) }
+    {
+        let left = self.parts.counter.left();
+        if let Some(_) = self.parts.routing.route(to) {
+            if left < 1 {
+                return Err(SendRefusal::CounterSpent);
+            }
+            return Ok(());
+        }
+        if self.bodies.no_room(usize::from(octets)) {
+            return Err(SendRefusal::WaitingFull);
+        }
+        if self.bodies.is_awaited(to) {
+            return Ok(());
+        }
+        if self.parts.own_number.last() == u16::MAX {
+            return Err(SendRefusal::SeqSpent);
+        }
+        if left < 1 {
+            return Err(SendRefusal::CounterSpent);
+        }
+        Ok(())
+    }
+
+    /// What a command of so many octets for an address would be refused for. The own address is treated as any other.
+    ///
+    /// Halted, NotJoined, WaitingFull, SeqSpent, CounterSpent, in this order.
+    pub fn room(&self, to: Short, octets: u16) -> Result<(), SendRefusal>
+        requires fits { octets ≤ 374 }
+        ensures halted { IfNone self.now.memory (result ≡ Err SendRefusal.Halted) }
+        ensures room { IfSome self.now.memory (λ l. result ≡ room_answer (calls.room l to octets)) }
+    {
+        if self.halted {
+            return Err(SendRefusal::Halted);
+        }
+        let Some(_) = self.parts.ring.joined() else {
+            return Err(SendRefusal::NotJoined);
+        };
+        self.room_for(to, octets)
+    }
+}

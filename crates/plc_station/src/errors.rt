@@ -1,0 +1,110 @@
+//! What a station makes of route errors.
+ghost use Rattle.std.specs.Prelude.{◌≡◌, ◌+◌, ◌≤◌, IfSome, IsSome, Some};
+ghost use Rattle.loadng_messages.specs.declared.message.Message.TheVariants as message;
+ghost use Rattle.node_rules.specs.declared.heard.Heard.TheVariants as heard;
+ghost use Rattle.node_rules.specs.Doings as doings;
+ghost use Rattle.node_rules.specs.Hearing as hearing;
+ghost use Rattle.routing_set.specs.RoutingSet as routes;
+ghost use Rattle.plc_station.specs.State.{Carries, Agrees, nothing};
+
+use crate::sealing::seal_message;
+use crate::station::Station;
+use loadng_messages::Message;
+use node_rules::{Dropped, Heard};
+use plc_base::{Grant, Keeper, Out, Short};
+use routing_set::RoutingSet;
+
+// The next hop to an address once the route to the lost one has ended where it goes by a neighbour.
+fn hop_left(routing: &RoutingSet, by: Short, lost: Short, to: Short) -> Option<Short>
+    ensures { result ≡ routes.next_of (routes.without_next_to routing.now lost by) to }
+{
+    let Some(hop) = routing.route(to) else {
+        return None;
+    };
+    if to.number() != lost.number() {
+        return Some(hop);
+    }
+    if hop.number() == by.number() {
+        return None;
+    }
+    Some(hop)
+}
+
+impl<K: Keeper + Drop> Station<K> {
+    // The route to the lost address ends, and the error ends here.
+    fn lose(&mut self, by: Short, lost: Short, out: &Out) -> Result<Heard, Dropped>
+        requires running { IsSome self.old.memory }
+        requires agrees { Agrees self.old }
+        requires left { IfSome self.old.memory (λ l. l.counter.next ≤ 4294967295) }
+        requires empty { out.now ≡ nothing }
+        ensures carries { IfSome self.old.memory (λ l. Carries self.old (doings.sealing doings.alone hearing.dropped (hearing.loses lost by l) heard.Broken) result out.now self.new) }
+        ensures agrees { Agrees self.new }
+    {
+        self.halted = true;
+        let Ok(_) = self.parts.counter.reserve(&mut self.keeper, 0) else {
+            return Err(Dropped::Store);
+        };
+        self.parts.routing.invalidate(lost, by);
+        self.halted = false;
+        Ok(Heard::Broken)
+    }
+
+    // The route to the lost address ends, and the error goes on to the hop.
+    fn tell_on(
+        &mut self,
+        grant: &Grant,
+        by: Short,
+        lost: Short,
+        to: Short,
+        hop: Short,
+        out: &mut Out,
+    ) -> Result<Heard, Dropped>
+        requires running { IsSome self.old.memory }
+        requires agrees { Agrees self.old }
+        requires ring { IfSome self.old.memory (λ l. l.ring ≡ Some grant.now) }
+        requires left { IfSome self.old.memory (λ l. l.counter.next + 1 ≤ 4294967295) }
+        requires empty { out.old ≡ nothing }
+        ensures carries { IfSome self.old.memory (λ l. Carries self.old (doings.sealing doings.alone hearing.dropped
+            (doings.tells hop (message.Rerr lost to) (hearing.loses lost by l)) heard.Broken) result out.new self.new) }
+        ensures agrees { Agrees self.new }
+    {
+        self.halted = true;
+        let Ok(counter) = self.parts.counter.reserve(&mut self.keeper, 1) else {
+            return Err(Dropped::Store);
+        };
+        self.parts.routing.invalidate(lost, by);
+        let error = Message::Rerr { lost, to };
+        seal_message(grant, counter, hop.number(), &error, out);
+        self.halted = false;
+        Ok(Heard::Broken)
+    }
+
+    // Hears a route error.
+    pub(crate) fn hear_error(
+        &mut self,
+        grant: &Grant,
+        by: Short,
+        lost: Short,
+        to: Short,
+        out: &mut Out,
+    ) -> Result<Heard, Dropped>
+        requires running { IsSome self.old.memory }
+        requires agrees { Agrees self.old }
+        requires ring { IfSome self.old.memory (λ l. l.ring ≡ Some grant.now) }
+        requires empty { out.old ≡ nothing }
+        ensures carries { IfSome self.old.memory (λ l. Carries self.old (hearing.hear_error l grant.now.address by lost to) result out.new self.new) }
+        ensures agrees { Agrees self.new }
+    {
+        let left = self.parts.counter.left();
+        if to.number() == grant.address.number() {
+            return self.lose(by, lost, out);
+        }
+        let Some(hop) = hop_left(&self.parts.routing, by, lost, to) else {
+            return self.lose(by, lost, out);
+        };
+        if left < 1 {
+            return Err(Dropped::CounterSpent);
+        }
+        self.tell_on(grant, by, lost, to, hop, out)
+    }
+}

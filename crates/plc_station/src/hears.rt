@@ -1,0 +1,233 @@
+//! What a station makes of a frame that it accepted.
+ghost use Rattle.std.specs.Prelude.{◌≡◌, ◌+◌, ◌≤◌, IfSome, IsSome, Some, None, length};
+ghost use Rattle.mesh_header.specs.Grammar.{IsAllowed, spelled_length};
+ghost use Rattle.loadng_messages.specs.Grammar as messages;
+ghost use Rattle.loadng_messages.specs.Reading as reading;
+ghost use Rattle.node_rules.specs.Hearing as hearing;
+ghost use Rattle.plc_station.specs.Heard.{Fits};
+ghost use Rattle.plc_station.specs.State.{Carries, Agrees, nothing};
+
+use crate::hearing::unit_in;
+use crate::station::Station;
+use loadng_messages::{Message, read_message};
+use mesh_header::Unit;
+use node_rules::{Accepted, Dropped, Heard, Path, Way};
+use plc_base::{FrameBuf, Grant, Keeper, LinkCost, Out, Short};
+
+// The message that octets are, if they are one.
+fn message_in(octets: &[u8]) -> Option<Message>
+    ensures message { result ≡ reading.message_in octets.now }
+    ensures allowed { IfSome result (λ m. messages.IsAllowed m) }
+{
+    match read_message(octets) {
+        Ok(message) => Some(message),
+        Err(_) => None,
+    }
+}
+
+// The body of a joining command, if a unit is one.
+fn joining_body(unit: Unit) -> Option<FrameBuf>
+    ensures { result ≡ hearing.is_joining unit }
+{
+    match unit {
+        Unit::Local { code, body } => {
+            if code == 2 {
+                return Some(body);
+            }
+            None
+        }
+        Unit::Whole { .. } => None,
+        Unit::Part { .. } => None,
+        Unit::Carried { .. } => None,
+    }
+}
+
+impl<K: Keeper + Drop> Station<K> {
+    // Hears a route message: to all a request alone, to this node a reply or an error.
+    fn hear_message(
+        &mut self,
+        grant: &Grant,
+        by: Short,
+        all: bool,
+        message: Message,
+        link: LinkCost,
+        now: u64,
+        out: &mut Out,
+    ) -> Result<Heard, Dropped>
+        requires running { IsSome self.old.memory }
+        requires agrees { Agrees self.old }
+        requires ring { IfSome self.old.memory (λ l. l.ring ≡ Some grant.now) }
+        requires allowed { messages.IsAllowed message }
+        requires empty { out.old ≡ nothing }
+        ensures carries { IfSome self.old.memory (λ l. Carries self.old (hearing.hear_message l grant.now.address by all link now message) result out.new self.new) }
+        ensures agrees { Agrees self.new }
+    {
+        match message {
+            Message::Rreq {
+                number,
+                cost,
+                origin,
+                dest,
+            } => {
+                if !all {
+                    return Err(Dropped::BadUnit);
+                }
+                let cost = u32::from(cost) + u32::from(link.number());
+                self.hear_request(grant, by, number, cost, origin, dest, now, out)
+            }
+            Message::Rrep {
+                number,
+                cost,
+                origin,
+                to,
+            } => {
+                if all {
+                    return Err(Dropped::BadUnit);
+                }
+                let cost = u32::from(cost) + u32::from(link.number());
+                self.hear_reply(grant, by, number, cost, origin, to, now, out)
+            }
+            Message::Rerr { lost, to } => {
+                if all {
+                    return Err(Dropped::BadUnit);
+                }
+                self.hear_error(grant, by, lost, to, out)
+            }
+        }
+    }
+
+    // Hears a command for the neighbours: a route message, or one of code 03, 04 or 05, which is handed on unread.
+    fn hear_command(
+        &mut self,
+        grant: &Grant,
+        by: Short,
+        all: bool,
+        code: u8,
+        body: FrameBuf,
+        link: LinkCost,
+        now: u64,
+        out: &mut Out,
+    ) -> Result<Heard, Dropped>
+        requires running { IsSome self.old.memory }
+        requires agrees { Agrees self.old }
+        requires ring { IfSome self.old.memory (λ l. l.ring ≡ Some grant.now) }
+        requires empty { out.old ≡ nothing }
+        ensures carries { IfSome self.old.memory (λ l. Carries self.old (hearing.hear_command l grant.now.address by all code body link now) result out.new self.new) }
+        ensures agrees { Agrees self.new }
+    {
+        if code == 1 {
+            let Some(message) = message_in(body.octets()) else {
+                return Err(Dropped::BadUnit);
+            };
+            return self.hear_message(grant, by, all, message, link, now, out);
+        }
+        if code == 2 {
+            return Err(Dropped::BadUnit);
+        }
+        Ok(Heard::Local {
+            from: by,
+            to_all: all,
+            code,
+            body,
+        })
+    }
+
+    // Hears the unit of a sealed frame: a command for the neighbours, or a unit over the mesh, which may not go to all.
+    fn hear_sealed(
+        &mut self,
+        grant: &Grant,
+        by: Short,
+        all: bool,
+        unit: Unit,
+        link: LinkCost,
+        note: u32,
+        now: u64,
+        out: &mut Out,
+    ) -> Result<Heard, Dropped>
+        requires running { IsSome self.old.memory }
+        requires agrees { Agrees self.old }
+        requires ring { IfSome self.old.memory (λ l. l.ring ≡ Some grant.now) }
+        requires allowed { IsAllowed unit }
+        requires fits { spelled_length unit ≤ 381 }
+        requires empty { out.old ≡ nothing }
+        ensures carries { IfSome self.old.memory (λ l. Carries self.old (hearing.hear_sealed l grant.now.address by all unit link note now) result out.new self.new) }
+        ensures agrees { Agrees self.new }
+    {
+        match unit {
+            Unit::Local { code, body } => {
+                self.hear_command(grant, by, all, code, body, link, now, out)
+            }
+            Unit::Whole { mesh, octets } => {
+                if all {
+                    return Err(Dropped::BadUnit);
+                }
+                let whole = Unit::Whole { mesh, octets };
+                self.hear_over_mesh(grant, whole, note, now, out)
+            }
+            Unit::Part { mesh, piece } => {
+                if all {
+                    return Err(Dropped::BadUnit);
+                }
+                let part = Unit::Part { mesh, piece };
+                self.hear_over_mesh(grant, part, note, now, out)
+            }
+            Unit::Carried { mesh, body } => {
+                if all {
+                    return Err(Dropped::BadUnit);
+                }
+                let carried = Unit::Carried { mesh, body };
+                self.hear_over_mesh(grant, carried, note, now, out)
+            }
+        }
+    }
+
+    /// Hears a frame that was accepted, over a link of this cost, under a number of the caller's, at a time in seconds: a datagram
+    /// or a joining command for this node is handed up, and what goes on or is answered is in `out`, sealed.
+    ///
+    /// Refused for the first reason that its rule names.
+    pub fn hear(
+        &mut self,
+        got: &Accepted,
+        cost: LinkCost,
+        note: u32,
+        now: u64,
+        out: &mut Out,
+    ) -> Result<Heard, Dropped>
+        requires running { IsSome self.old.memory }
+        requires agrees { Agrees self.old }
+        requires fits { Fits got.now }
+        ensures carries { IfSome self.old.memory (λ l. Carries self.old (hearing.hear l got.now cost note now) result out.new self.new) }
+        ensures agrees { Agrees self.new }
+    {
+        out.clear();
+        let Some(unit) = unit_in(got.payload.octets()) else {
+            return Err(Dropped::BadUnit);
+        };
+        match got.path {
+            Path::Sealed { from, to_all, .. } => {
+                let Some(grant) = self.parts.ring.grant() else {
+                    return Err(Dropped::BadUnit);
+                };
+                self.hear_sealed(&grant, from, to_all, unit, cost, note, now, out)
+            }
+            Path::Up { from } => {
+                let Some(body) = joining_body(unit) else {
+                    return Err(Dropped::BadUnit);
+                };
+                Ok(Heard::Joining {
+                    way: Way::Air(from),
+                    body,
+                })
+            }
+            Path::Down { from } => {
+                let Some(body) = joining_body(unit) else {
+                    return Err(Dropped::BadUnit);
+                };
+                Ok(Heard::Joining {
+                    way: Way::Near(from),
+                    body,
+                })
+            }
+        }
+    }
+}

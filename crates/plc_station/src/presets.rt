@@ -1,0 +1,85 @@
+//! What the workshop sets at a station.
+ghost use Rattle.std.specs.Prelude.{◌≡◌, ◌≤◌, true, false, IfSome, IsSome};
+ghost use Rattle.node_rules.specs.Doings as doings;
+ghost use Rattle.node_rules.specs.Calls as calls;
+ghost use Rattle.routing_set.specs.RoutingSet as routing;
+ghost use Rattle.plc_station.specs.State.{Carries, Agrees, nothing};
+
+use crate::station::Station;
+use node_rules::PresetFault;
+use plc_base::{Keeper, LinkCost, Short};
+use routing_set::Rank;
+
+impl<K: Keeper + Drop> Station<K> {
+    /// Sets the next counter. Store, after which it is halted.
+    pub fn preset_counter(&mut self, value: u32) -> Result<(), PresetFault>
+        requires running { IsSome self.old.memory }
+        requires agrees { Agrees self.old }
+        ensures carries { IfSome self.old.memory (λ l. Carries self.old (calls.preset_counter l value) result nothing self.new) }
+        ensures agrees { Agrees self.new }
+    {
+        self.halted = true;
+        let Ok(()) = self.parts.counter.set_limit(&mut self.keeper, value) else {
+            return Err(PresetFault::Store);
+        };
+        self.halted = false;
+        Ok(())
+    }
+
+    /// Sets the last own number. Store, after which it is halted.
+    pub fn preset_number(&mut self, value: u16) -> Result<(), PresetFault>
+        requires running { IsSome self.old.memory }
+        requires agrees { Agrees self.old }
+        requires value { 1 ≤ value }
+        ensures carries { IfSome self.old.memory (λ l. Carries self.old (calls.preset_number l value) result nothing self.new) }
+        ensures agrees { Agrees self.new }
+    {
+        self.halted = true;
+        let Ok(()) = self.parts.own_number.set_limit(&mut self.keeper, value) else {
+            return Err(PresetFault::Store);
+        };
+        self.halted = false;
+        Ok(())
+    }
+
+    // Keeps the rank of a neighbour, which beats the one that is held.
+    fn keep_near(&mut self, to: Short, cost: u16, now: u64) -> Result<(), PresetFault>
+        requires running { IsSome self.old.memory }
+        requires agrees { Agrees self.old }
+        requires better { IfSome self.old.memory (λ l. routing.is_better l.routing to (calls.near_rank cost) ≡ true) }
+        requires room { IfSome self.old.memory (λ l. routing.is_full l.routing to now ≡ false) }
+        ensures carries { IfSome self.old.memory (λ l. Carries self.old
+            (doings.sealing doings.alone calls.presetting_ends (doings.ranked to (calls.near_rank cost) to now (doings.begun l)) tt) result nothing self.new) }
+        ensures agrees { Agrees self.new }
+    {
+        let _left = self.parts.counter.left();
+        let rank = Rank { number: 1, cost };
+        self.halted = true;
+        let Ok(()) = self.parts.routing.keep(&mut self.keeper, to, rank, to, now) else {
+            return Err(PresetFault::Store);
+        };
+        let Ok(_) = self.parts.counter.reserve(&mut self.keeper, 0) else {
+            return Err(PresetFault::Store);
+        };
+        self.halted = false;
+        Ok(())
+    }
+
+    /// Offers a neighbour over a link of this cost as a route by itself. NotBetter, RoutesFull, Store, in this order; after Store
+    /// it is halted.
+    pub fn preset_near(&mut self, to: Short, cost: LinkCost, now: u64) -> Result<(), PresetFault>
+        requires running { IsSome self.old.memory }
+        requires agrees { Agrees self.old }
+        ensures carries { IfSome self.old.memory (λ l. Carries self.old (calls.preset_near l to cost now) result nothing self.new) }
+        ensures agrees { Agrees self.new }
+    {
+        let cost = u16::from(cost.number());
+        if !self.parts.routing.is_better(to, 1, u32::from(cost)) {
+            return Err(PresetFault::NotBetter);
+        }
+        if self.parts.routing.full(to, now) {
+            return Err(PresetFault::RoutesFull);
+        }
+        self.keep_near(to, cost, now)
+    }
+}

@@ -1,0 +1,108 @@
+//! What a station does about its ring.
+ghost use Rattle.std.specs.Prelude.{◌≡◌, ◌≤◌, true, Some, None, IfSome, IsSome, is_some};
+ghost use Rattle.group_keys.specs.KeyRing as ring;
+ghost use Rattle.node_rules.specs.Doings as doings;
+ghost use Rattle.node_rules.specs.Calls as calls;
+ghost use Rattle.plc_station.specs.State.{Carries, Agrees, nothing};
+
+use crate::station::Station;
+use group_keys::RingFault;
+use plc_base::{Grant, Keeper, Key};
+
+impl<K: Keeper + Drop> Station<K> {
+    /// Keeps a grant as its ring. Store, after which it is halted.
+    pub fn install(&mut self, grant: &Grant) -> Result<(), RingFault>
+        requires running { IsSome self.old.memory }
+        requires agrees { Agrees self.old }
+        ensures carries { IfSome self.old.memory (λ l. Carries self.old (calls.install l grant.now) result nothing self.new) }
+        ensures agrees { Agrees self.new }
+    {
+        let _left = self.parts.counter.left();
+        self.halted = true;
+        let Ok(()) = self.parts.ring.keep(&mut self.keeper, Some(*grant)) else {
+            return Err(RingFault::Store);
+        };
+        let Ok(_) = self.parts.counter.reserve(&mut self.keeper, 0) else {
+            return Err(RingFault::Store);
+        };
+        self.halted = false;
+        Ok(())
+    }
+
+    /// Keeps a key at an index of its ring. Store, after which it is halted.
+    pub fn put_key(&mut self, index: u8, key: &Key) -> Result<(), RingFault>
+        requires running { IsSome self.old.memory }
+        requires agrees { Agrees self.old }
+        requires index { index ≤ 1 }
+        requires joined { IfSome self.old.memory (λ l. IsSome l.ring) }
+        ensures carries { IfSome self.old.memory (λ l. Carries self.old (calls.put_key l index key.now) result nothing self.new) }
+        ensures agrees { Agrees self.new }
+    {
+        let _left = self.parts.counter.left();
+        self.halted = true;
+        let Ok(()) = self.parts.ring.put(&mut self.keeper, index, key) else {
+            return Err(RingFault::Store);
+        };
+        let Ok(_) = self.parts.counter.reserve(&mut self.keeper, 0) else {
+            return Err(RingFault::Store);
+        };
+        self.halted = false;
+        Ok(())
+    }
+
+    // Makes the key at an index the one that seals.
+    fn set_active(&mut self, index: u8) -> Result<(), RingFault>
+        requires running { IsSome self.old.memory }
+        requires agrees { Agrees self.old }
+        requires index { index ≤ 1 }
+        requires held { IfSome self.old.memory (λ l. is_some (ring.key_in_ring l.ring index) ≡ true) }
+        ensures carries { IfSome self.old.memory (λ l. Carries self.old (calls.ring_ends (doings.ringed (ring.with_active l.ring index) (doings.begun l))) result nothing self.new) }
+        ensures agrees { Agrees self.new }
+    {
+        let _left = self.parts.counter.left();
+        self.halted = true;
+        let Ok(()) = self.parts.ring.set_active(&mut self.keeper, index) else {
+            return Err(RingFault::Store);
+        };
+        let Ok(_) = self.parts.counter.reserve(&mut self.keeper, 0) else {
+            return Err(RingFault::Store);
+        };
+        self.halted = false;
+        Ok(())
+    }
+
+    /// Seals with the key at an index from now on. NotHeld, where no key is there; Store, after which it is halted.
+    pub fn activate(&mut self, index: u8) -> Result<(), RingFault>
+        requires running { IsSome self.old.memory }
+        requires agrees { Agrees self.old }
+        requires index { index ≤ 1 }
+        ensures carries { IfSome self.old.memory (λ l. Carries self.old (calls.activate l index) result nothing self.new) }
+        ensures agrees { Agrees self.new }
+    {
+        let Some(_) = self.parts.ring.key(index) else {
+            return Err(RingFault::NotHeld);
+        };
+        self.set_active(index)
+    }
+
+    /// Drops its ring, and with it all routes, what is gathered and what waits. Store, after which it is halted.
+    pub fn leave(&mut self) -> Result<(), RingFault>
+        requires running { IsSome self.old.memory }
+        requires agrees { Agrees self.old }
+        ensures carries { IfSome self.old.memory (λ l. Carries self.old (calls.leave l) result nothing self.new) }
+        ensures agrees { Agrees self.new }
+    {
+        let _left = self.parts.counter.left();
+        self.halted = true;
+        let Ok(()) = self.parts.ring.keep(&mut self.keeper, None) else {
+            return Err(RingFault::Store);
+        };
+        let Ok(_) = self.parts.counter.reserve(&mut self.keeper, 0) else {
+            return Err(RingFault::Store);
+        };
+        self.parts.routing.invalidate_all();
+        self.bodies.clear();
+        self.halted = false;
+        Ok(())
+    }
+}
