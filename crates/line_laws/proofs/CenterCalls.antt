@@ -1,0 +1,150 @@
+-- Every call of the coordinator, and accepting a frame, keep memory and records, and stay within the sizes.
+use Rattle.line_laws.proofs.Planned.{planned_failed}
+use Rattle.std.proofs.Common.{◌≡◌, ℕ, ◌≤◌, ◌<◌, ◌^◌, List, length, Option, Some, Result, Ok, Err, refl, sym, ap, ◌∙◌, subst, arith}
+use Rattle.plc_base.specs.Keeper.{Records}
+use Rattle.plc_base.specs.declared.address.Eui.{Eui}
+use Rattle.plc_base.specs.declared.key.Key.{Key}
+use Rattle.plc_base.specs.Grant.{Granted}
+use Rattle.frame_counters.specs.PeerMarks as marks
+use Rattle.joining_messages.specs.declared.message.JoinMessage.{JoinMessage}
+use Rattle.joining_messages.specs.Reading.{join_in}
+use Rattle.mesh_header.specs.Reading.{unit_in}
+use Rattle.routing_set.specs.declared.rank.Rank.{Rank}
+use Rattle.routing_set.specs.RoutingSet as routing
+use Rattle.node_rules.specs.declared.heard.Accepted.{Accepted}
+use Rattle.node_rules.specs.declared.heard.CoordinatorHeard.TheVariants as coordinator_heard
+use Rattle.node_rules.specs.declared.refusal.FrameRefusal.TheVariants as frames
+use Rattle.node_rules.specs.Ciphers.{Ciphers}
+use Rattle.node_rules.specs.Frames.{arrived}
+use Rattle.node_rules.specs.Memory.{Line, Memory, Role, Coordinator}
+use Rattle.node_rules.specs.Plans.{Plan, resting}
+use Rattle.node_rules.specs.Accepting.{Accepting, accept, marking}
+use Rattle.node_rules.specs.Doings.{Ends}
+use Rattle.node_rules.specs.Hearing.{dropped}
+use Rattle.node_rules.specs.Holding.{in_memory}
+use Rattle.node_rules.specs.Coordinators as coordinators
+use Rattle.node_rules.specs.Steps.{of_line}
+use Rattle.line_laws.specs.Stores.{IsHeld, IsKept}
+use Rattle.line_laws.specs.Sizes.{IsSized}
+use Rattle.line_laws.specs.Owed.{AreOctets, KeepsRanges}
+use Rattle.line_laws.proofs.HeadsSaid.{head_ranges}
+use Rattle.line_laws.proofs.RouteRanges.{route_ranges}
+use Rattle.line_laws.proofs.Readings.{join_ranges}
+use Rattle.line_laws.proofs.Keeping.{leads_beside}
+use Rattle.line_laws.proofs.StoreRanks.{EntryFits}
+use Rattle.line_laws.proofs.StoreFold.{WordFits}
+use Rattle.line_laws.proofs.StoreBook.{Rest, rest_lasts, line_leads}
+use Rattle.line_laws.proofs.StoreMarks.{IsAdmitted, IsPlain, Accepts, Turned, Plain, Marked, accept_is, marks_lead}
+use Rattle.line_laws.proofs.Planned.{Planned, planned_weaker}
+use Rattle.line_laws.proofs.Made.{RingWord, Given, Offered}
+use Rattle.line_laws.proofs.HoldingForms.{AnyAnswer, HandedIn, MadeBy}
+use Rattle.line_laws.proofs.CoordinatorForms.{HandsNothingUp, IsGranted, coordinator_is, allow_is, depot_is, rekey_is, activate_self_is, challenge_is, activate_is, kick_is}
+use Rattle.line_laws.proofs.CallForms.{Nothing}
+use Rattle.line_laws.proofs.Nodes.{PlanOk, plan_ok}
+use Rattle.line_laws.proofs.Frontiers.{marks_high}
+use Rattle.line_laws.proofs.NodeCalls.{handed_counter, RoutesFit, heard_given, call_given, heard_offers, call_offers, granted_keys, few_of, handed_kept, handed_within}
+
+-- # The coordinator
+
+-- an EUI and a pair key of a line
+abbrev HasEui : Eui → Type 0
+HasEui eui = length eui.0 ≡ 8
+
+abbrev HasPair : Eui → Key → Type 0
+HasPair eui psk = length psk.0 ≡ 16
+
+-- what an order does to the coordinator's ring
+abbrev Ordered : RingWord → Type 0
+Ordered w = WordFits w
+
+module _ (ciphers : Ciphers) (fits : KeepsRanges ciphers) (own : coordinators.CoordinatorIdentity) (m : Memory) (h : IsSized m) where
+  heard_eui : (octets : List ℕ) (join : JoinMessage) → join_in octets ≡ Some join → HasEui join.eui
+  heard_eui octets join e = (join_ranges octets join e).0
+
+  L : Granted → Type 0
+  L granted = IsGranted m granted
+
+  center_ok : {H F : Type 0} (g : Given) → ((address : Option ℕ) (by origin : ℕ) (rank : Rank) → Offered g address by origin rank → EntryFits (routing.offered_entry origin rank by g.now))
+      → (ends : Ends F) (K : Memory → H → Type 0) (N : H → Type 0) → ((n : Memory) (answer : H) → K n answer → (r : Records) → IsKept Coordinator m r → IsKept Coordinator n r) → ((n : Memory) (answer : H) → K n answer → IsSized m → IsSized n) → ((n : Memory) (answer : H) → K n answer → n.line.counter ≡ m.line.counter)
+      → (p : Plan Memory (Result H F)) → Planned in_memory ends m K (MadeBy Ordered (IsGranted m) HasPair HasEui g m N) p → PlanOk Coordinator m p
+  center_ok g offers ends K N kept sized same p s = plan_ok Coordinator Ordered (IsGranted m) HasPair HasEui g m (λ w k. k) offers (λ eui k. k) (λ eui psk k. k) (λ b e change. refl) (granted_keys Coordinator m) ends K kept sized same p
+      (planned_weaker p (λ n answer k. k) (few_of N m Ordered (IsGranted m) HasPair HasEui g) s) h
+
+  order_ok : {H F : Type 0} (now : ℕ) (ends : Ends F) (p : Plan Memory (Result H F)) → Planned in_memory ends m Nothing (MadeBy Ordered (IsGranted m) HasPair HasEui (call_given 0 0 now) m AnyAnswer) p → PlanOk Coordinator m p
+  order_ok now ends p s = center_ok (call_given 0 0 now) (call_offers 0 0 now) ends Nothing AnyAnswer (λ n answer k. absurd k) (λ n answer k. absurd k) (λ n answer k. absurd k) p s
+
+  pub coordinator_hears_ok : (got : Accepted) (cost note now : ℕ) → RoutesFit got → PlanOk Coordinator m (coordinators.hear_coordinator own m got cost note now)
+  coordinator_hears_ok got cost note now routes = center_ok (heard_given got cost note now) (heard_offers got cost note now routes) dropped (HandedIn coordinator_heard.Line (heard_given got cost note now) m) HandsNothingUp
+      (handed_kept Coordinator m h coordinator_heard.Line (heard_given got cost note now)) (handed_within Coordinator m h coordinator_heard.Line (heard_given got cost note now)) (handed_counter m coordinator_heard.Line (heard_given got cost note now)) _
+      (coordinator_is Ordered HasPair HasEui heard_eui (heard_given got cost note now) own m (λ to there join said. tt) got refl)
+
+  pub allow_ok : (eui : Eui) (psk : Key) → HasEui eui → HasPair eui psk → PlanOk Coordinator m (coordinators.allow m eui psk)
+  allow_ok eui psk known pair = order_ok 0 coordinators.orders _ (allow_is Ordered HasPair HasEui heard_eui (call_given 0 0 0) own m (λ to there join said. tt) eui psk known pair)
+
+  pub depot_ok : (eui : Eui) (psk : Key) → HasEui eui → HasPair eui psk → PlanOk Coordinator m (coordinators.depot m eui psk)
+  depot_ok eui psk known pair = order_ok 0 coordinators.orders _ (depot_is Ordered HasPair HasEui heard_eui (call_given 0 0 0) own m (λ to there join said. tt) eui psk known pair)
+
+  pub rekey_ok : (index : ℕ) (key : Key) → IsHeld (Some key) → PlanOk Coordinator m (coordinators.rekey m index key)
+  rekey_ok index key held = order_ok 0 coordinators.orders _ (rekey_is Ordered HasPair HasEui heard_eui (call_given 0 0 0) own m (λ to there join said. tt) index key held)
+
+  pub activate_self_ok : (index : ℕ) → index ≤ 1 → PlanOk Coordinator m (coordinators.activate_self m index)
+  activate_self_ok index low = order_ok 0 coordinators.orders _ (activate_self_is Ordered HasPair HasEui heard_eui (call_given 0 0 0) own m (λ to there join said. tt) index low)
+
+  pub challenge_ok : (eui : Eui) (now : ℕ) → HasEui eui → PlanOk Coordinator m (coordinators.challenge own.eui m eui now)
+  challenge_ok eui now known = order_ok now coordinators.orders _ (challenge_is Ordered HasPair HasEui heard_eui (call_given 0 0 now) own m (λ to there join said. tt) eui known)
+
+  pub activate_ok : (eui : Eui) (index now : ℕ) → PlanOk Coordinator m (coordinators.activate m eui index now)
+  activate_ok eui index now = order_ok now coordinators.orders _ (activate_is Ordered HasPair HasEui heard_eui (call_given 0 0 now) own m (λ to there join said. tt) eui index)
+
+  pub kick_ok : (eui : Eui) → HasEui eui → PlanOk Coordinator m (coordinators.kick m eui)
+  kick_ok eui known = order_ok 0 coordinators.orders _ (kick_is Ordered HasPair HasEui heard_eui (call_given 0 0 0) own m (λ to there join said. tt) eui known)
+
+pub depot_failed : (ciphers : Ciphers) → KeepsRanges ciphers → (own : coordinators.CoordinatorIdentity) (m : Memory) (eui : Eui) (psk : Key) → HasEui eui → HasPair eui psk → (coordinators.depot m eui psk).failed ≡ Err coordinators.orders.store
+depot_failed ciphers fits own m eui psk known pair = planned_failed _ (depot_is Ordered HasPair HasEui (λ octets join e. (join_ranges octets join e).0) (call_given 0 0 0) own m (λ to there join said. tt) eui psk known pair)
+
+-- # Accepting a frame
+
+module _ (ciphers : Ciphers) (fits : KeepsRanges ciphers) (octets : List ℕ) (are : AreOctets octets) where
+  pub admitted_fits : (l : Line) (from counter : ℕ) (got : Accepted) → IsAdmitted l (arrived ciphers octets) from counter got → (from < 0xFFFE) × (counter < 2 ^ 32)
+  admitted_fits l from counter got a = head_ranges ciphers octets a.frame a.head.0 a.head.1 a.head.2 a.to from counter a.index are a.is a.head.3
+
+  -- the path of what is accepted sealed, and its payload
+  admitted_routes : (l : Line) (from counter : ℕ) (got : Accepted) → IsAdmitted l (arrived ciphers octets) from counter got → RoutesFit got
+  admitted_routes l from counter got a = record {
+    run = λ by all key code body message path unit read.
+        route_ranges a.payload code body message (fits.opened octets a.frame a.key a.payload are a.is a.opened) (ap (λ (x : Accepted). unit_in x.payload) (sym a.got_is) ∙ unit) read;
+  }
+
+  plain_routes : (got : Accepted) → IsPlain got.path → RoutesFit got
+  plain_routes got plain = record { run = λ from all key code body message path unit read. absurd (subst IsPlain path plain) }
+
+  accepting_ok : (role : Role) (m : Memory) (p : Accepting) → Accepts m.line (arrived ciphers octets) p → IsSized m → PlanOk role m (of_line m p)
+  unfolding resting marking
+  accepting_ok role m p (Turned reason) h = record { leads = leads_beside (IsKept role) m m (λ r k. k); sized = h; few = omega arith; rises = λ fits. record { high = tt; numbered = omega arith } }
+  accepting_ok role m p (Plain got plain) h = record { leads = leads_beside (IsKept role) m m (λ r k. k); sized = h; few = omega arith; rises = λ fits. record { high = tt; numbered = omega arith } }
+  accepting_ok role m p (Marked from counter got a) h =
+      let in_range = admitted_fits m.line from counter got a in
+      record {
+        leads = line_leads role m m.line (record m.line { marks = marks.kept_after m.line.marks from counter }) _
+            (marks_lead (Rest role m) (rest_lasts role m) m.line from counter in_range.0 in_range.1 a.room);
+        sized = record { line = record { reassemblies = h.line.reassemblies; waiting = h.line.waiting; short = h.line.short }; sessions = h.sessions; randoms = h.randoms };
+        few = omega arith;
+        rises = λ fits. record { high = marks_high m.line.counter.limit m.line.marks from counter; numbered = omega arith };
+      }
+
+  pub accept_ok : (role : Role) (m : Memory) (own : Eui) → IsSized m → PlanOk role m (of_line m (accept m.line own (arrived ciphers octets)))
+  accept_ok role m own h = accepting_ok role m _ (accept_is m.line own (arrived ciphers octets)) h
+
+  -- route messages of what is accepted are in range
+  pub accepted_routes : (l : Line) (p : Accepting) (got : Accepted) → Accepts l (arrived ciphers octets) p → p.answer ≡ Ok got → RoutesFit got
+  unfolding resting marking
+  accepted_routes l p got (Turned reason) e = absurd (cc)
+  accepted_routes l p got (Plain x plain) e = let same : x ≡ got = cc in subst RoutesFit same (plain_routes x plain)
+  accepted_routes l p got (Marked from counter x a) e = let same : x ≡ got = cc in subst RoutesFit same (admitted_routes l from counter x a)
+
+  -- the word of a failed write
+  pub accept_failed : (l : Line) (p : Accepting) → Accepts l (arrived ciphers octets) p → p.failed ≡ Err frames.Store
+  unfolding resting marking
+  accept_failed l p (Turned reason) = refl
+  accept_failed l p (Plain x plain) = refl
+  accept_failed l p (Marked from counter x a) = refl

@@ -1,0 +1,54 @@
+-- How what a meter or the coordinator does is made: the words of the line, and those over all of the memory.
+use Rattle.std.proofs.Common.{◌≡◌, ℕ, true, false, List, [], ◌∷◌, ◌++◌, Some, None, length}
+use Rattle.std.specs.Prelude.{nat_lt}
+use Rattle.plc_base.specs.declared.address.Eui.{Eui}
+use Rattle.plc_base.specs.declared.key.Key.{Key}
+use Rattle.plc_base.specs.declared.key.Rand.{Rand}
+use Rattle.plc_base.specs.declared.tags.PairTag.{PairTag}
+use Rattle.plc_base.specs.Grant.{Granted}
+use Rattle.group_keys.specs.declared.key_book.BookEntry.{BookEntry}
+use Rattle.group_keys.specs.KeyBook as book
+use Rattle.joining_messages.specs.declared.message.JoinMessage.{JoinMessage}
+use Rattle.node_rules.specs.Memory.{Line, Memory, MeterSession, CoordinatorSession}
+use Rattle.node_rules.specs.Doings.{Doing, begun}
+use Rattle.node_rules.specs.Holding.{on_line, line_part, remembered, tagged_with, goes_up, goes_down, oldest, without_oldest}
+use Rattle.node_rules.specs.Meters as meters
+use Rattle.node_rules.specs.Coordinators as coordinators
+use Rattle.node_rules.proofs.HoldingShapes.{whole}
+use Rattle.line_laws.proofs.Made.{RingWord, Given, Made}
+
+-- what changes of a memory beside its line and its book, of which nothing is stored
+pub data Beside (E : Eui → Type 0) (m : Memory) : Memory → Type 0 where
+  Ends : Beside E m (meters.with_session None m)
+  Asks : (s : MeterSession) → Beside E m (meters.with_session (Some s) m)
+  Replies : (s : MeterSession) (value : Rand) → oldest m ≡ Some value → Beside E m (meters.with_session (Some s) (without_oldest m))
+  Opens : (s : CoordinatorSession) (value : Rand) → oldest m ≡ Some value → coordinators.sessions_full m s.server.eui ≡ false → E s.server.eui → Beside E m (coordinators.with_session s (without_oldest m))
+  Answers : (s t : CoordinatorSession) (eui : Eui) → coordinators.session_of m eui ≡ Some t → s.server.eui ≡ t.server.eui → Beside E m (coordinators.with_session s m)
+  Closes : (eui : Eui) → Beside E m (coordinators.without_session eui m)
+  Gives : (value : Rand) → nat_lt 7 (length m.randoms) ≡ false → Beside E m (record m { randoms = m.randoms ++ value ∷ [] })
+
+-- an EUI that a call is given, or that of a session
+pub data EuiFrom (E : Eui → Type 0) (m : Memory) : Eui → Type 0 where
+  Known : (eui : Eui) → E eui → EuiFrom E m eui
+  OfSession : (eui : Eui) (s : CoordinatorSession) → coordinators.session_of m eui ≡ Some s → EuiFrom E m s.server.eui
+
+-- what becomes of the entry of a meter: L holds of a grant whose keys are noted as issued, P of a pair key that is given
+pub data EntryChange (L : Granted → Type 0) (P : Eui → Key → Type 0) (E : Eui → Type 0) (m : Memory) (b : book.Book) : BookEntry → Type 0 where
+  Allows : (eui : Eui) (psk : Key) → E eui → P eui psk → book.has_room b eui ≡ true → EntryChange L P E m b (book.allowed_entry eui psk (book.entry_for b eui))
+  Issues : (eui : Eui) (granted : Granted) (e : BookEntry) → EuiFrom E m eui → L granted → book.allowed_one b eui ≡ Some e → EntryChange L P E m b (book.issued_entry eui granted e)
+  Kicks : (eui : Eui) (e : BookEntry) → E eui → book.allowed_one b eui ≡ Some e → EntryChange L P E m b (book.kicked_entry e.eui e)
+
+-- the same call without what came: no later word of a joining carries on what was heard
+abbrev pub unheard : Given → Given
+unheard g = record { got = None; cost = g.cost; note = 0; now = g.now; near = None }
+
+-- The doing is made of words.
+pub data MadeIn (W : RingWord → Type 0) (L : Granted → Type 0) (P : Eui → Key → Type 0) (E : Eui → Type 0) (g : Given) (m : Memory) : Doing Memory → Type 0 where
+  Begins : MadeIn W L P E g m (begun m)
+  Station : (d : Doing Line) → Made W g (begun m.line) d → MadeIn W L P E g m (whole m d)
+  OnLine : (word : Doing Line → Doing Line) (d : Doing Memory) → MadeIn W L P E g m d → Made W (unheard g) (line_part d) (word (line_part d)) → MadeIn W L P E g m (on_line word d)
+  Remembers : (change : Memory → Memory) (d : Doing Memory) → MadeIn W L P E g m d → Beside E d.memory (change d.memory) → MadeIn W L P E g m (remembered change d)
+  Tags : (made opened : List PairTag) (d : Doing Memory) → MadeIn W L P E g m d → MadeIn W L P E g m (tagged_with made opened d)
+  Enters : (e : BookEntry) (d : Doing Memory) → MadeIn W L P E g m d → EntryChange L P E m d.memory.book e → MadeIn W L P E g m (coordinators.entered e d)
+  Up : (agent : ℕ) (own : Eui) (message : JoinMessage) (d : Doing Memory) → MadeIn W L P E g m d → MadeIn W L P E g m (goes_up agent own message d)
+  Down : (own : ℕ) (message : JoinMessage) (d : Doing Memory) → MadeIn W L P E g m d → MadeIn W L P E g m (goes_down own message d)

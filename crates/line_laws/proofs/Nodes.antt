@@ -1,0 +1,151 @@
+-- What holds of a node, and that carrying out a plan keeps it.
+use Rattle.std.proofs.Common.{◌≡◌, ℕ, suc, ◌+◌, ◌≤◌, ◌<◌, ◌^◌, List, [], ◌∷◌, length, ⊎_elim, Option, Some, None, Result, refl, ap, subst, arith}
+use Rattle.std.specs.Prelude.{IfSome}
+use Rattle.std.specs.Option.{option_map_or}
+use Rattle.std.proofs.lemmas.List.{length-append}
+use Rattle.plc_base.specs.Keeper.{Records}
+use Rattle.plc_base.specs.declared.address.Eui.{Eui}
+use Rattle.plc_base.specs.declared.key.Key.{Key}
+use Rattle.plc_base.specs.Grant.{Granted}
+use Rattle.group_keys.specs.declared.key_book.BookEntry.{BookEntry}
+use Rattle.group_keys.specs.KeyRing as ring
+use Rattle.group_keys.specs.KeyBook as book
+use Rattle.routing_set.specs.declared.rank.Rank.{Rank}
+use Rattle.routing_set.specs.RoutingSet as routing
+use Rattle.node_rules.specs.Memory.{Memory, Role, Coordinator, Node}
+use Rattle.node_rules.specs.Plans.{Plan, Outcome, carry_out, resting}
+use Rattle.node_rules.specs.Doings.{Ends, Outgoing, letters, sealed_by, sealing_key}
+use Rattle.node_rules.specs.Holding.{in_memory}
+use Rattle.node_rules.specs.Steps.{Did, acts, stays, left_by}
+use Rattle.node_rules.specs.Laws.{IsWhole, IsCutOff}
+use Rattle.node_rules.proofs.Sizes.{pending, pending_bound}
+use Rattle.node_rules.proofs.Writing.{clean}
+use Rattle.line_laws.specs.Stores.{IsHeld, IsKept}
+use Rattle.line_laws.specs.Sizes.{IsSized}
+use Rattle.line_laws.proofs.Keeping.{Leads, Left, carried}
+use Rattle.line_laws.proofs.StoreRanks.{EntryFits}
+use Rattle.line_laws.proofs.StoreFold.{WordFits}
+use Rattle.line_laws.proofs.StorePlans.{plan_leads}
+use Rattle.line_laws.proofs.SizeFold.{plan_sized}
+use Rattle.line_laws.proofs.Planned.{Planned, Refuses, Keeps, Ended}
+use Rattle.line_laws.proofs.Made.{RingWord, Given, Offered}
+use Rattle.line_laws.proofs.MadeIn.{MadeIn, EntryChange}
+use Rattle.line_laws.proofs.CallForms.{Few}
+use Rattle.line_laws.proofs.Frontiers.{Numbered, PlanRises, plan_rises, frontier, acts_rise}
+
+-- What a plan keeps.
+pub record PlanFits (role : Role) (m : Memory) {A : Type 0} (p : Plan Memory A) : Type 0 where
+  pub leads : Leads (IsKept role) m p.puts p.memory
+  pub sized : IsSized p.memory
+  pub few : length p.frames ≤ 24
+
+-- The same with what it does to the counter.
+pub record PlanOk (role : Role) (m : Memory) {A : Type 0} (p : Plan Memory A) : Type 0 where
+  pub leads : Leads (IsKept role) m p.puts p.memory
+  pub sized : IsSized p.memory
+  pub few : length p.frames ≤ 24
+  pub rises : m.line.counter.limit < 2 ^ 32 → PlanRises m p
+
+-- What holds of a node.
+pub record NodeOk (x : Node) : Type 0 where
+  pub kept : Left (IsKept x.role) x.store.records x.memory
+  pub sized : IfSome x.memory IsSized
+
+-- What holds of what a node did.
+pub record DidFits (x : Node) {A : Type 0} (d : Did A) : Type 0 where
+  pub node : NodeOk d.node
+  pub role : d.node.role ≡ x.role
+  pub eui : d.node.eui ≡ x.eui
+  pub few : length d.frames ≤ 24
+
+-- The same, and its frames are numbered from its frontier on.
+pub record DidOk (x : Node) {A : Type 0} (d : Did A) : Type 0 where
+  pub node : NodeOk d.node
+  pub role : d.node.role ≡ x.role
+  pub eui : d.node.eui ≡ x.eui
+  pub few : length d.frames ≤ 24
+  pub rises : Numbered (frontier x) (frontier d.node) d.frames
+
+-- # A plan that is carried out
+
+outcome_sized : {A : Type 0} (x : Node) (m : Memory) (p : Plan Memory A) → IsSized p.memory → length p.frames ≤ 24
+    → let o : Outcome Memory A = carry_out x.store.records x.store.cut p in IfSome o.memory IsSized × (length o.frames ≤ 24)
+outcome_sized {A = A} x m p sized few = ⊎_elim whole cut_off (clean x.store.records x.store.cut p)
+  where
+    whole : IsWhole x.store.records x.store.cut p (carry_out x.store.records x.store.cut p) → let o : Outcome Memory A = carry_out x.store.records x.store.cut p in IfSome o.memory IsSized × (length o.frames ≤ 24)
+    whole w = rw (w.memory, w.frames) (sized, few)
+
+    cut_off : IsCutOff x.store.records x.store.cut p (carry_out x.store.records x.store.cut p) → let o : Outcome Memory A = carry_out x.store.records x.store.cut p in IfSome o.memory IsSized × (length o.frames ≤ 24)
+    cut_off c = rw (c.memory, c.frames) (tt, omega arith)
+
+pub acts_fits : {A : Type 0} (x : Node) (halted : A) (plan : Memory → Plan Memory A) → NodeOk x → ((m : Memory) → x.memory ≡ Some m → IsKept x.role m x.store.records → IsSized m → PlanFits x.role m (plan m))
+    → DidFits x (acts x halted plan)
+unfolding acts
+acts_fits {A = A} x halted plan ok f = by_memory x.memory refl ok.kept ok.sized
+  where
+    by_memory : (o : Option Memory) → x.memory ≡ o → Left (IsKept x.role) x.store.records o → IfSome o IsSized
+        → DidFits x (option_map_or (λ m. left_by x (carry_out x.store.records x.store.cut (plan m))) o (stays x halted))
+    by_memory None e kept sized = record { node = ok; role = refl; eui = refl; few = omega arith }
+    by_memory (Some m) e kept sized =
+        let p = f m e kept sized in
+        let o = outcome_sized x m (plan m) p.sized p.few in
+        record { node = record { kept = carried (IsKept x.role) x.store.records x.store.cut (plan m) m kept p.leads; sized = o.0 }; role = refl; eui = refl; few = o.1 }
+
+pub acts_ok : {A : Type 0} (x : Node) (halted : A) (plan : Memory → Plan Memory A) → NodeOk x → ((m : Memory) → x.memory ≡ Some m → IsKept x.role m x.store.records → IsSized m → PlanOk x.role m (plan m))
+    → DidOk x (acts x halted plan)
+acts_ok x halted plan ok f =
+    let d = acts_fits x halted plan ok (λ m there kept sized. let p = f m there kept sized in record { leads = p.leads; sized = p.sized; few = p.few }) in
+    record {
+      node = d.node;
+      role = d.role;
+      eui = d.eui;
+      few = d.few;
+      rises = acts_rise x halted plan (λ m there.
+          let kept : IsKept x.role m x.store.records = subst (λ o. Left (IsKept x.role) x.store.records o) there ok.kept in
+          let sized : IsSized m = subst (λ o. IfSome o IsSized) there ok.sized in
+          ((f m there kept sized).rises kept.line.range.counter, kept.line.counter.limit, kept.line.counter.below));
+    }
+
+-- # Frames
+
+length-letters : (g : Granted) (key : Key) (first : ℕ) (units : List Outgoing) → length (letters g key first units) ≡ length units
+length-letters g key first [] = refl
+length-letters g key first (o ∷ rest) = ap suc (length-letters g key (first + 1) rest)
+
+sealed_few : (r : ring.Ring) (first : ℕ) (units : List Outgoing) → length (sealed_by r first units) ≤ length units
+sealed_few None first units = omega arith
+sealed_few (Some g) first units = by_key (sealing_key g)
+  where
+    by_key : (key : Option Key) → length (option_map_or (λ k. letters g k first units) key []) ≤ length units
+    by_key None = omega arith
+    by_key (Some key) = let same = length-letters g key first units in omega arith
+
+pub waits_little : (m : Memory) → IsSized m → pending m.line ≤ 21
+waits_little m h = pending_bound m.line (record { bodies = h.line.waiting.0; blocks = h.line.waiting.1; datagrams = h.line.short })
+
+-- # Plans that are made of words
+
+module _ (role : Role) (W : RingWord → Type 0) (L : Granted → Type 0) (P : Eui → Key → Type 0) (E : Eui → Type 0) (g : Given) (m : Memory)
+    (words : (w : RingWord) → W w → WordFits w)
+    (offers : (address : Option ℕ) (by origin : ℕ) (rank : Rank) → Offered g address by origin rank → EntryFits (routing.offered_entry origin rank by g.now))
+    (known : (eui : Eui) → E eui → length eui.0 ≡ 8) (pairs : (eui : Eui) (psk : Key) → P eui psk → length psk.0 ≡ 16)
+    (center : (b : book.Book) (e : BookEntry) → EntryChange L P E m b e → role ≡ Coordinator)
+    (grants : (r : Records) → IsKept role m r → (granted : Granted) → L granted → IsHeld granted.key0 × IsHeld granted.key1) where
+  plan_few : {H F : Type 0} (ends : Ends F) (K : Memory → H → Type 0) (p : Plan Memory (Result H F)) → Planned in_memory ends m K (λ d a. MadeIn W L P E g m d × Few m.line d) p → pending m.line ≤ 21 → length p.frames ≤ 24
+  unfolding resting
+  plan_few ends K p (Refuses reason) waits = omega arith
+  plan_few ends K p (Keeps n answer k) waits = omega arith
+  plan_few ends K p (Ended d answer done left) waits =
+      let few = done.1.few waits in
+      let letters_few = sealed_few d.memory.line.ring d.memory.line.counter.next d.units in
+      let both = length-append d.plain (sealed_by d.memory.line.ring d.memory.line.counter.next d.units) in
+      omega arith
+
+  pub plan_ok : {H F : Type 0} (ends : Ends F) (K : Memory → H → Type 0) → ((n : Memory) (answer : H) → K n answer → (r : Records) → IsKept role m r → IsKept role n r) → ((n : Memory) (answer : H) → K n answer → IsSized m → IsSized n) → ((n : Memory) (answer : H) → K n answer → n.line.counter ≡ m.line.counter)
+      → (p : Plan Memory (Result H F)) → Planned in_memory ends m K (λ d a. MadeIn W L P E g m d × Few m.line d) p → IsSized m → PlanOk role m p
+  plan_ok ends K kept sized same p s h = record {
+    leads = plan_leads role W L P E g m words offers known pairs center grants ends K kept p s (waits_little m h);
+    sized = plan_sized W L P E g m ends K (λ d a. MadeIn W L P E g m d × Few m.line d) sized (λ d answer x. x.0) p s h;
+    few = plan_few ends K p s (waits_little m h);
+    rises = λ fits. plan_rises W L P E g m ends K (λ d a. MadeIn W L P E g m d × Few m.line d) same (λ d answer x. x.0) p s fits;
+  }

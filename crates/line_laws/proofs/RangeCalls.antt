@@ -1,0 +1,102 @@
+-- The other calls of a node keep the ranges.
+use Rattle.std.proofs.Common.{◌≡◌, ℕ, ◌<◌, ◌≤◌, ◌^◌, List, length, Option, Some, None, Result, refl, sym, subst}
+use Rattle.std.specs.Prelude.{IfSome}
+use Rattle.std.proofs.lemmas.Option.{same_Some}
+use Rattle.std.proofs.lemmas.List.Elements.{All-nil, All-filter}
+use Rattle.plc_base.specs.declared.address.Eui.{Eui}
+use Rattle.routing_set.specs.RoutingSet as routing
+use Rattle.node_rules.specs.Frames.{Arrived}
+use Rattle.node_rules.specs.Memory.{Line, Memory, Load, Datagram, Body}
+use Rattle.node_rules.specs.Plans.{Plan, resting}
+use Rattle.node_rules.specs.Accepting.{Accepting, accept, marking}
+use Rattle.node_rules.specs.Calls as calls
+use Rattle.node_rules.specs.Doings.{Ends, alone, begun}
+use Rattle.node_rules.specs.Holding.{in_memory, with_line}
+use Rattle.node_rules.specs.Steps.{of_line}
+use Rattle.node_rules.proofs.HoldingShapes.{whole}
+use Rattle.line_laws.specs.Ranges.{IsLoad, IsLineRanged, IsBody}
+use Rattle.line_laws.proofs.Planned.{Planned, Refuses, Keeps, Ended}
+use Rattle.line_laws.proofs.Made.{Given, RingWord, Carry, Drop, Install, Draw, Activate, Made}
+use Rattle.line_laws.proofs.MadeIn.{MadeIn, Station}
+use Rattle.line_laws.proofs.CallForms.{Few, Nothing, send_is, near_is}
+use Rattle.line_laws.proofs.StoreFold.{WordFits}
+use Rattle.line_laws.proofs.StoreMarks.{Accepts, Turned, Plain, Marked, accept_is}
+use Rattle.line_laws.proofs.NodeCalls.{NoGrant, NoPair, NoEui, NoWord, call_given, near_given, no_some}
+use Rattle.line_laws.proofs.RangeFold.{InRange, ended_hops}
+use Rattle.line_laws.proofs.RangeFrames.{IsSent}
+use Rattle.line_laws.proofs.RangePlans.{RangeOk, plan_ranged}
+
+-- what a call without a frame is given
+pub call_ranged : (W : RingWord → Type 0) (cost note now : ℕ) (near : Option ℕ) → IfSome near (λ by. (by < 0xFFFE) × (cost < 2 ^ 16)) → ((to n : ℕ) (load : Load) → W (Carry to n load) → (to < 0xFFFE) × IsLoad load) → ((w : RingWord) → W w → WordFits w)
+    → InRange W (record { got = None; cost = cost; note = note; now = now; near = near })
+call_ranged W cost note now near h carries words = record {
+  comes = λ by all u c. absurd (no_some _ c.is);
+  told = λ by all m t. absurd (no_some _ t.came.is);
+  near = λ by e. by_near near h by e;
+  carries = carries;
+  words = words;
+}
+  where
+    by_near : (o : Option ℕ) → IfSome o (λ by. (by < 0xFFFE) × (cost < 2 ^ 16)) → (by : ℕ) → o ≡ Some by → (by < 0xFFFE) × (cost < 2 ^ 16)
+    by_near None h by e = absurd (no_some _ e)
+    by_near (Some a) h by e = (subst (λ k. k < 0xFFFE) (same_Some a by e) h.0, h.1)
+
+module _ (m : Memory) (h : IsLineRanged m.line) where
+  line_ranged : {H F : Type 0} (W : RingWord → Type 0) (g : Given) → InRange W g → (ends : Ends F) (p : Plan Line (Result H F)) → Planned alone ends m.line Nothing (λ d (a : H). Made W g (begun m.line) d × Few m.line d) p → RangeOk (of_line m p)
+  unfolding resting
+  line_ranged {H = H} {F = F} W g known ends p s = plan_ranged W NoGrant NoPair NoEui g known m h ends Nothing (λ d a. MadeIn W NoGrant NoPair NoEui g m d × Few m.line d) (λ n answer k. absurd k) (λ d a x. x.0) (of_line m p) (over p s)
+    where
+      over : (p : Plan Line (Result H F)) → Planned alone ends m.line Nothing (λ d (a : H). Made W g (begun m.line) d × Few m.line d) p → Planned in_memory ends m Nothing (λ d (a : H). MadeIn W NoGrant NoPair NoEui g m d × Few m.line d) (of_line m p)
+      over p (Refuses reason) = Refuses reason
+      over p (Keeps n answer k) = absurd k
+      over p (Ended d answer done left) = Ended (whole m d) answer (Station d done.0, record { few = done.1.few }) left
+
+  -- the one body of a send
+  record IsTheSend (to note : ℕ) (datagram : List ℕ) (w : RingWord) : Type 0 where
+    is : w ≡ Carry to note (Datagram datagram m.line.next_tag)
+    some : 0 < length datagram
+    short : length datagram ≤ 1280
+
+  send_carries : (to note : ℕ) (datagram : List ℕ) → to < 0xFFFE → (t n : ℕ) (load : Load) → IsTheSend to note datagram (Carry t n load) → (t < 0xFFFE) × IsLoad load
+  send_carries to note datagram there t n load c = subst Fits (sym c.is) (there, (c.some, c.short, h.tag))
+    where
+      Fits : RingWord → Type 0
+      Fits (Carry t n load) = (t < 0xFFFE) × IsLoad load
+      Fits Drop = Unit {0}
+      Fits (Install granted) = Unit {0}
+      Fits (Draw index key) = Unit {0}
+      Fits (Activate index) = Unit {0}
+
+  send_words : (to note : ℕ) (datagram : List ℕ) (w : RingWord) → IsTheSend to note datagram w → WordFits w
+  send_words to note datagram w c = subst WordFits (sym c.is) tt
+
+  pub send_ranged : (to : ℕ) (datagram : List ℕ) (note now : ℕ) → to < 0xFFFE → RangeOk (of_line m (calls.send m.line to datagram note now))
+  send_ranged to datagram note now there =
+      line_ranged (IsTheSend to note datagram) (call_given 0 note now) (call_ranged (IsTheSend to note datagram) 0 note now None tt (send_carries to note datagram there) (send_words to note datagram)) calls.sending_ends _
+      (send_is (IsTheSend to note datagram) (call_given 0 note now) m.line to datagram (λ some short. record { is = refl; some = some; short = short }))
+
+  never : (w : RingWord) → ⊥ → WordFits w
+  never w none = absurd none
+
+  pub near_ranged : (to cost now : ℕ) → to < 0xFFFE → cost < 2 ^ 16 → RangeOk (of_line m (calls.preset_near m.line to cost now))
+  near_ranged to cost now there low =
+      line_ranged NoWord (near_given to cost now) (call_ranged NoWord cost 0 now (Some to) (there, low) (λ t n load none. absurd none) never) calls.presetting_ends _
+      (near_is NoWord (near_given to cost now) m.line to refl)
+
+  -- marks are no part of the ranges
+  pub accept_ranged : (own : Eui) (a : Option Arrived) → RangeOk (of_line m (accept m.line own a))
+  unfolding resting marking
+  accept_ranged own a = by_form _ (accept_is m.line own a)
+    where
+      by_form : (p : Accepting) → Accepts m.line a p → RangeOk (of_line m p)
+      by_form p (Turned reason) = record { line = h; frames = All-nil IsSent }
+      by_form p (Plain got plain) = record { line = h; frames = All-nil IsSent }
+      by_form p (Marked from counter got x) = record { line = record { ring = h.ring; tag = h.tag; hops = h.hops; bodies = h.bodies; number = h.number }; frames = All-nil IsSent }
+
+  -- time, and a link that breaks
+  pub tick_ranged : (now : ℕ) → IsLineRanged (calls.tick now m.line)
+  tick_ranged now = record { ring = h.ring; tag = h.tag; hops = ended_hops (routing.is_old now) m.line.routing h.hops; bodies = All-filter (λ (b : Body). calls.is_within 30 now b.since) IsBody m.line.waiting h.bodies; number = h.number }
+
+  pub broke_ranged : {A : Type 0} (next : ℕ) (answer : A) → RangeOk (resting (with_line (calls.broke next m.line) m) answer answer)
+  unfolding resting
+  broke_ranged next answer = record { line = record { ring = h.ring; tag = h.tag; hops = ended_hops (routing.goes_by next) m.line.routing h.hops; bodies = h.bodies; number = h.number }; frames = All-nil IsSent }

@@ -1,0 +1,161 @@
+-- What a node hears of ranks, where no event is forged, was said by the node of its neighbour's address, which backs it.
+use Rattle.std.proofs.Common.{◌≡◌, ◌⊎◌, inl, inr, ℕ, ◌≤◌, Bool, true, false, not, List, [], ◌∷◌, Option, Some, None, Ok, refl, sym, ap, ◌∙◌, subst}
+use Rattle.std.specs.Prelude.{All, ◌==◌, ◌||◌}
+use Rattle.std.specs.List.{list_any}
+use Rattle.std.specs.Option.{option_map_or}
+use Rattle.std.proofs.lemmas.Bool.{eqb-false, and_parts}
+use Rattle.std.proofs.lemmas.Option.{same_Some, none-some}
+use Rattle.std.specs.Str.{bytes_eq}
+use Rattle.group_keys.specs.KeyBook.{same_key}
+use Rattle.std.proofs.lemmas.Slice.Eq.{bytes_eq-Decides}
+use Rattle.std.proofs.lemmas.List.Elements.{All-head, All-tail}
+use Rattle.plc_base.specs.declared.key.Key.{Key}
+use Rattle.mesh_header.specs.declared.unit.Unit.{Unit as MeshUnit}
+use Rattle.mesh_header.specs.declared.unit.Unit.TheVariants as units
+use Rattle.mesh_header.specs.Reading.{unit_in}
+use Rattle.loadng_messages.specs.declared.message.Message.{Message}
+use Rattle.loadng_messages.specs.declared.message.Message.TheVariants.{Rreq, Rrep}
+use Rattle.loadng_messages.specs.Grammar as messages
+use Rattle.loadng_messages.specs.Reading.{message_in}
+use Rattle.routing_set.specs.declared.rank.Rank.{Rank}
+use Rattle.routing_set.specs.Ranks.{IsAtLeast}
+use Rattle.routing_set.specs.RoutingSet as routing
+use Rattle.node_rules.specs.declared.heard.Path.TheVariants as paths
+use Rattle.node_rules.specs.declared.heard.Accepted.{Accepted}
+use Rattle.node_rules.specs.Ciphers.{Ciphers}
+use Rattle.node_rules.specs.Frames.{Sealed, Letter, spelled, arrived, to_all}
+use Rattle.node_rules.specs.Hearing.{rank_over}
+use Rattle.node_rules.specs.Memory.{Line, Node}
+use Rattle.node_rules.specs.Worlds.{World, Flight, node_at, has_octets}
+use Rattle.node_rules.specs.Steps.{forged_by}
+use Rattle.node_rules.specs.Accepting.{Accepting, marking}
+use Rattle.node_rules.specs.Plans.{resting}
+use Rattle.line_laws.proofs.StoreMarks.{IsAdmitted, IsPlain, Accepts, Turned, Plain, Marked}
+use Rattle.line_laws.proofs.Made.{Offered, ByRequest, ByReply, ByItself}
+use Rattle.line_laws.proofs.NodeCalls.{RoutesFit, heard_given, heard_offers, no_some}
+use Rattle.line_laws.proofs.RankOrder.{beats_at_least, beats_farther}
+use Rattle.line_laws.proofs.RankFold.{IsAt, OfferFits}
+use Rattle.line_laws.proofs.RankSaid.{MessageBacked, UnitBacked, Says, IsWhole, IsPart, IsCarried}
+use Rattle.line_laws.proofs.RouteParts as parts
+use Rattle.line_laws.proofs.RouteParts.{At, Own, Nearer, IsNearer, FlightBacked, IsLetter}
+use Rattle.line_laws.specs.Loops.{stored, Homes, LetterRead}
+
+-- The node of an address stands behind a message.
+pub record SaidBy (h : Homes) (w : World) (by : ℕ) (message : Message) : Type 0 where
+  pub number : ℕ
+  pub node : Node
+  pub home : h number ≡ Some by
+  pub there : node_at w number ≡ Some node
+  pub backed : MessageBacked (At h number) (stored node) message
+
+-- Each route message of an accepted frame was said so.
+pub record SaidRight (h : Homes) (w : World) (got : Accepted) : Type 0 where
+  pub run : (by : ℕ) (all : Bool) (key : Key) (code : ℕ) (body : List ℕ) (message : Message) → got.path ≡ paths.Sealed by all key → unit_in got.payload ≡ Some (units.Local code body) → (code == 1) ≡ true → message_in body ≡ Some message
+      → SaidBy h w by message
+
+module _ (ciphers : Ciphers) (h : Homes) (w : World) (backed : All (FlightBacked ciphers h w) w.flights) where
+  -- A flight with these octets under this key.
+  record Found (octets : List ℕ) (key : Key) : Type 0 where
+    flight : Flight
+    octets_are : flight.octets ≡ octets
+    key_is : flight.key ≡ Some key
+    says : FlightBacked ciphers h w flight
+
+  same_bytes : (a b : List ℕ) → bytes_eq a b ≡ true → a ≡ b
+  same_bytes a b e = (bytes_eq-Decides a b).0 e
+
+  key_same : (key : Key) (o : Option Key) → option_map_or (same_key key) o false ≡ true → o ≡ Some key
+  key_same key None e = absurd (cc)
+  key_same key (Some k) e = ap (λ xs. Some (record { 0 = xs })) (sym (same_bytes key.0 k.0 e))
+
+  found : (octets : List ℕ) (key : Key) (fs : List Flight) → All (FlightBacked ciphers h w) fs → list_any (has_octets octets key) fs ≡ true → Found octets key
+  found octets key [] all e = absurd (cc)
+  found octets key (f ∷ fs) all e = by_first (found octets key fs (All-tail (FlightBacked ciphers h w) f fs all)) (has_octets octets key f) refl e
+    where
+      by_first : (list_any (has_octets octets key) fs ≡ true → Found octets key) → (b : Bool) → has_octets octets key f ≡ b → (b || list_any (has_octets octets key) fs) ≡ true → Found octets key
+      by_first more true is e =
+          let parts = and_parts (bytes_eq f.octets octets) (option_map_or (same_key key) f.key false) is in
+          record { flight = f; octets_are = same_bytes f.octets octets parts.0; key_is = key_same key f.key parts.1; says = All-head (FlightBacked ciphers h w) f fs all }
+      by_first more false is e = more e
+
+  -- what is opened of a flight is what its sender said
+  opened_said : (octets : List ℕ) (l : Line) (from counter : ℕ) (got : Accepted) (a : IsAdmitted l (arrived ciphers octets) from counter got) → Found octets a.key
+      → (code : ℕ) (body : List ℕ) (message : Message) → unit_in a.payload ≡ Some (units.Local code body) → (code == 1) ≡ true → message_in body ≡ Some message → SaidBy h w from message
+  opened_said octets l from counter got a x code body message unit first read = by_flight x.says
+    where
+      by_unit : (letter : Letter) (node : Node) → h x.flight.from ≡ Some from → node_at w x.flight.from ≡ Some node → LetterRead ciphers letter → (u : MeshUnit) → letter.unit ≡ u → u ≡ units.Local code body
+          → UnitBacked (At h x.flight.from) (stored node) u → SaidBy h w from message
+      by_unit letter node home there reads u is same (Says m b) =
+          let body_is : messages.spelling m ≡ body = cc in
+          let this : m ≡ message = same_Some _ _ (sym (reads.messages m is) ∙ ap message_in body_is ∙ read) in
+          record { number = x.flight.from; node = node; home = home; there = there; backed = subst (MessageBacked (At h x.flight.from) (stored node)) this b }
+      by_unit letter node home there reads u is same (IsWhole mesh os) = absurd (cc)
+      by_unit letter node home there reads u is same (IsPart mesh piece) = absurd (cc)
+      by_unit letter node home there reads u is same (IsCarried mesh bs) = absurd (cc)
+
+      by_flight : FlightBacked ciphers h w x.flight → SaidBy h w from message
+      by_flight (parts.IsPlain none) = absurd (none-some a.key (sym none ∙ x.key_is))
+      by_flight (IsLetter letter node octets_are key_is home there b reads) =
+          let key : letter.key ≡ a.key = same_Some _ _ (sym key_is ∙ x.key_is) in
+          let same : arrived ciphers (spelled ciphers (Sealed letter)).octets ≡ Some a.frame = ap (arrived ciphers) (sym octets_are ∙ x.octets_are) ∙ a.is in
+          let opens = reads.opens a.frame a.head.0 a.head.1 a.head.2 a.to from counter a.index a.payload same a.head.3 (ap a.frame.opened key ∙ a.opened) in
+          let this : letter.unit ≡ units.Local code body = same_Some _ _ (sym opens.1 ∙ unit) in
+          by_unit letter node (home ∙ ap Some (sym opens.0)) there reads letter.unit refl this b
+
+  not_false : (b : Bool) → not b ≡ false → b ≡ true
+  not_false true e = refl
+  not_false false e = absurd (cc)
+
+  -- a frame that was accepted, and is not forged
+  pub admitted_said : (octets : List ℕ) (l : Line) (from counter : ℕ) (got : Accepted) → IsAdmitted l (arrived ciphers octets) from counter got → forged_by w octets got.path ≡ false → SaidRight h w got
+  admitted_said octets l from counter got a honest = record {
+    run = λ by all key code body message path unit first read.
+        let path_is : paths.Sealed by all key ≡ paths.Sealed from (a.to == to_all) a.key = sym path ∙ ap (λ (x : Accepted). x.path) a.got_is in
+        let any : list_any (has_octets octets a.key) w.flights ≡ true = not_false _ (sym (ap (λ (x : Accepted). forged_by w octets x.path) a.got_is) ∙ honest) in
+        let said = opened_said octets l from counter got a (found octets a.key w.flights backed any) code body message (sym (ap (λ (x : Accepted). unit_in x.payload) a.got_is) ∙ unit) first read in
+        let by_is : from ≡ by = cc in
+        subst (λ (k : ℕ). SaidBy h w k message) by_is said;
+  }
+
+  plain_said : (got : Accepted) → IsPlain got.path → SaidRight h w got
+  plain_said got plain = record { run = λ by all key code body message path unit first read. absurd (subst IsPlain path plain) }
+
+  pub accepted_said : (octets : List ℕ) (l : Line) (p : Accepting) (got : Accepted) → Accepts l (arrived ciphers octets) p → p.answer ≡ Ok got → forged_by w octets got.path ≡ false → SaidRight h w got
+  unfolding resting marking
+  accepted_said octets l p got (Turned reason) e honest = absurd (cc)
+  accepted_said octets l p got (Plain x plain) e honest = let same : x ≡ got = cc in plain_said got (subst (λ (y : Accepted). IsPlain y.path) same plain)
+  accepted_said octets l p got (Marked from counter x a) e honest = let same : x ≡ got = cc in admitted_said octets l from counter got (subst (IsAdmitted l (arrived ciphers octets) from counter) same a) honest
+
+-- # What it offers
+
+-- the sender is the end of the way, or it keeps a rank that beats the one with the link's cost
+said_nearer : (h : Homes) (w : World) (by origin number c cost : ℕ) (message : Message) (s : SaidBy h w by message) → 1 ≤ cost
+    → ((At h s.number origin) × (c ≡ 0)) ⊎ IsAtLeast (routing.held (stored s.node) origin) (record { number = number; cost = c }) → IsNearer h w by origin (rank_over number c cost)
+said_nearer h w by origin number c cost message s far (inl own) = inl (same_Some _ _ (sym s.home ∙ own.0))
+said_nearer h w by origin number c cost message s far (inr k) =
+    inr (record { number = s.number; node = s.node; home = s.home; there = s.there; beats = beats_at_least _ _ _ k (beats_farther number c cost far) })
+
+-- another address than the own one
+not_own : (h : Homes) (i own origin : ℕ) → h i ≡ Some own → (origin == own) ≡ false → ¬ (Own h i origin)
+not_own h i own origin here apart (inl same) = eqb-false _ _ apart (same_Some _ _ (sym same ∙ here))
+not_own h i own origin here apart (inr none) = none-some own (sym none ∙ here)
+
+pub said_offers : (h : Homes) (w : World) (i : ℕ) (got : Accepted) (cost note now : ℕ) → RoutesFit got → SaidRight h w got → 1 ≤ cost → (address : Option ℕ) → IsAt (At h i) address → (by origin : ℕ) (rank : Rank)
+    → Offered (heard_given got cost note now) address by origin rank → OfferFits (Own h i) (IsNearer h w) by origin rank now
+said_offers h w i got cost note now fits right far address at by origin rank (ByRequest own number c o dest here apart few told) =
+    let same : got ≡ told.came.got = same_Some _ _ told.came.is in
+    let said = right.run by true told.came.key told.code told.body (Rreq number c o dest) (ap (λ (x : Accepted). x.path) same ∙ told.came.path) (ap (λ (x : Accepted). unit_in x.payload) same ∙ told.came.unit) told.first told.read in
+    record {
+      fits = heard_offers got cost note now fits address by origin rank (ByRequest own number c o dest here apart few told);
+      apart = not_own h i own origin (subst (IsAt (At h i)) here at) apart;
+      cause = said_nearer h w by origin number c cost _ said far said.backed;
+    }
+said_offers h w i got cost note now fits right far address at by origin rank (ByReply own number c o to here apart few told) =
+    let same : got ≡ told.came.got = same_Some _ _ told.came.is in
+    let said = right.run by false told.came.key told.code told.body (Rrep number c o to) (ap (λ (x : Accepted). x.path) same ∙ told.came.path) (ap (λ (x : Accepted). unit_in x.payload) same ∙ told.came.unit) told.first told.read in
+    record {
+      fits = heard_offers got cost note now fits address by origin rank (ByReply own number c o to here apart few told);
+      apart = not_own h i own origin (subst (IsAt (At h i)) here at) apart;
+      cause = said_nearer h w by origin number c cost _ said far said.backed;
+    }
+said_offers h w i got cost note now fits right far address at by origin rank (ByItself none) = absurd (no_some _ none)

@@ -1,0 +1,696 @@
+-- Every event keeps what holds of a line of nodes, and sends at most 24 frames.
+use Rattle.std.proofs.Common.{◌≡◌, ◌≢◌, ⊎_elim, ℕ, zero, suc, ◌+◌, ◌-◌, ◌≤◌, ◌<◌, ◌^◌, Bool, true, false, not, List, [], ◌∷◌, ◌++◌, length, map, Option, Some, None, Result, Ok, Err, refl, sym, ap, ◌∙◌, subst, arith}
+use Rattle.std.specs.Prelude.{if◌then◌else◌, All, IfSome, is_some, ◌==◌, ◌||◌, ◌&&◌, nat_lt, slice_get, slice_set, replicate, get_or}
+use Rattle.std.specs.List.{filter, list_any}
+use Rattle.std.specs.Option.{option_map, option_map_or, option_and_then}
+use Rattle.std.specs.Ordering.{nat_cmp}
+use Rattle.std.specs.FinMap.{empty, get-empty}
+use Rattle.std.proofs.lemmas.Bool.{cases_eq, eqb-false, ltb-true, ltb-false, or_parts, and_parts}
+use Rattle.std.proofs.lemmas.List.{length-append, length-set, length-map}
+use Rattle.std.proofs.lemmas.List.Elements.{All-nil, All-push, All-set, All-map, All-weaker, All-filter}
+use Rattle.std.proofs.lemmas.Option.{same_Some}
+use Rattle.plc_base.proofs.SlotTables.{slice_get-set_other, slice_get-map, slice_get-push_other}
+use Rattle.plc_base.specs.Keeper.{Records}
+use Rattle.plc_base.specs.SlotTables as slots
+use Rattle.plc_base.specs.declared.address.Eui.{Eui}
+use Rattle.plc_base.specs.declared.key.Key.{Key}
+use Rattle.plc_base.specs.declared.key.Rand.{Rand}
+use Rattle.plc_base.specs.Grant.{Granted}
+use Rattle.frame_counters.specs.SendCounter as counter
+use Rattle.frame_counters.specs.PeerMarks as marks
+use Rattle.group_keys.specs.KeyRing as ring
+use Rattle.group_keys.specs.KeyBook as book
+use Rattle.routing_set.specs.RoutingSet as routing
+use Rattle.routing_set.specs.OwnNumber as own_number
+use Rattle.fragment_buffers.specs.Taking as pieces
+use Rattle.fragment_buffers.specs.Reassembly.{Reassembly}
+use Rattle.std.proofs.lemmas.List.Filters.{length-filter_both, sum_by-filter_both}
+use Rattle.node_rules.specs.declared.event.Event.{Event}
+use Rattle.node_rules.specs.declared.event.Event.TheVariants as events
+use Rattle.node_rules.specs.declared.event.Answer.{Answer}
+use Rattle.node_rules.specs.declared.event.StepFault.{StepFault}
+use Rattle.node_rules.specs.declared.event.StepFault.TheVariants as faults
+use Rattle.node_rules.specs.declared.heard.Accepted.{Accepted}
+use Rattle.node_rules.specs.declared.refusal.CoordinatorRefusal.{CoordinatorRefusal}
+use Rattle.node_rules.specs.declared.refusal.CoordinatorRefusal.TheVariants as orders
+use Rattle.node_rules.specs.declared.refusal.Dropped.TheVariants as drops
+use Rattle.node_rules.specs.declared.refusal.FrameRefusal.{FrameRefusal}
+use Rattle.node_rules.specs.declared.refusal.FrameRefusal.TheVariants as frames
+use Rattle.node_rules.specs.declared.event.Answer.TheVariants as said
+use Rattle.node_rules.specs.declared.refusal.RandomFault.TheVariants as randoms
+use Rattle.node_rules.specs.declared.refusal.JoinRefusal.TheVariants as joins
+use Rattle.node_rules.specs.declared.refusal.LeaveRefusal.TheVariants as leaves
+use Rattle.node_rules.specs.declared.refusal.SendRefusal.TheVariants as sends
+use Rattle.node_rules.specs.Ciphers.{Ciphers}
+use Rattle.node_rules.specs.Frames.{arrived}
+use Rattle.node_rules.specs.Memory.{Line, Body, Memory, Role, Coordinator, Meter, CoordinatorSession, Node, address_of, node_address}
+use Rattle.node_rules.specs.Plans.{Plan, resting, within}
+use Rattle.node_rules.specs.Accepting.{accept}
+use Rattle.node_rules.specs.Calls as calls
+use Rattle.node_rules.specs.Meters as meters
+use Rattle.node_rules.specs.Coordinators as coordinator_rules
+use Rattle.node_rules.specs.Opening.{first_grant, blank_line, blank_routing, tag_in}
+use Rattle.node_rules.specs.Answers.{Reception, meter_reception, coordinator_reception, random_word, join_word, leave_word, sent_word, ordered_word, frame_word}
+use Rattle.group_keys.specs.declared.fault.RingFault.TheVariants.{Store as RingStore}
+use Rattle.node_rules.specs.Doings.{choose}
+use Rattle.node_rules.specs.Holding.{with_line}
+use Rattle.node_rules.specs.Laws.{IsShort}
+use Rattle.node_rules.specs.Events.{IsEvent}
+use Rattle.node_rules.specs.Worlds.{World, Flight, Deeds, node_at, flight_at, is_forged_tag}
+use Rattle.node_rules.specs.Steps.{Step, Did, acts, stays, answering, of_line, set_up, ran, told, flights_of, acted, once_begun, in_setup, has_begun, takes_setup, on_node, on_meter, made_node, blank_node, identity, hears, restarts, memory_by, ticked, rand, join, joins_by, leave, send, sends_by, sent_if, breaks, breaks_by, lose, tick, restart, cut, show, psk_of, deeds, happened, coordinator, coordinator_node, meter, is_known, depot, depot_by, provisioned, near, near_by, keeps_rank, ranks_full, offered_near, preset, allow, allowed, deliver, inject, arrives, accepted_by, received, by_coordinator, forged_by, note_by, rekey, challenge, activate, kick, step}
+use Rattle.line_laws.specs.Stores.{IsReadable, IsLineKept, BookKept, IsNamed, IsKept}
+use Rattle.line_laws.specs.Sizes.{IsLineSized, IsSized}
+use Rattle.line_laws.specs.Owed.{AreOctets, KeepsRanges}
+use Rattle.line_laws.proofs.Keeping.{Left, leads_beside}
+use Rattle.line_laws.proofs.StoreFold.{ended_kept, beside_kept}
+use Rattle.line_laws.proofs.SizeFold.{stays_sized}
+use Rattle.line_laws.proofs.Restarting.{Again, again}
+use Rattle.line_laws.specs.Laws.{IsSpelled}
+use Rattle.line_laws.proofs.Rising.{IsBelow, lost_pairs}
+use Rattle.line_laws.proofs.Nodes.{PlanFits, PlanOk, NodeOk, DidOk, acts_fits, acts_ok}
+use Rattle.line_laws.proofs.Frontiers.{next_of, frontier, same_low, numbered_lower, numbered_le}
+use Rattle.frame_counters.proofs.Limits.{stored_limit-kept}
+use Rattle.line_laws.proofs.NodeCalls.{RoutesFit, no_some, meter_hears_ok, random_ok, join_ok, leave_ok, send_ok, near_ok, counter_ok, number_ok, broke_ok, provision_ok}
+use Rattle.line_laws.proofs.CenterCalls.{coordinator_hears_ok, accept_ok, accept_failed, accepted_routes, allow_ok, depot_ok, depot_failed, rekey_ok, activate_self_ok, challenge_ok, activate_ok, kick_ok}
+use Rattle.line_laws.proofs.StoreMarks.{accept_is}
+use Rattle.line_laws.proofs.Quiet.{acts_quiet, counter_quiet, number_quiet, near_quiet, install_quiet, allow_quiet, depot_quiet, accept_quiet}
+use Rattle.line_laws.proofs.Answered.{acts_answered, depot_grants}
+use Rattle.line_laws.proofs.Worlds.{NodeFits, FlightFits, Rising, WorldOk, within as place_within, at_place, told_fits, told_ok, counts_ok}
+
+-- # What a node does by itself
+
+answering_ok : {A B : Type 0} (x : Node) (reads : A → B) (d : Did A) → DidOk x d → DidOk x (answering reads d)
+answering_ok x reads d h = record { node = h.node; role = h.role; eui = h.eui; few = h.few; rises = h.rises }
+
+stays_ok : {A : Type 0} (x : Node) (answer : A) → NodeOk x → DidOk x (stays x answer)
+stays_ok x answer ok = record { node = ok; role = refl; eui = refl; few = omega arith; rises = same_low (frontier x) }
+
+-- a plan of the coordinator, at node 0
+pub center_acts : {A : Type 0} (x : Node) (halted : A) (plan : Memory → Plan Memory A) → x.role ≡ Coordinator → NodeOk x → ((m : Memory) → IsSized m → PlanOk Coordinator m (plan m)) → DidOk x (acts x halted plan)
+center_acts x halted plan is ok f = acts_ok x halted plan ok (λ m there kept sized. subst (λ r. PlanOk r m (plan m)) (sym is) (f m sized))
+
+-- what a restart gives
+pub read_again : (role : Role) (r : Records) (o : Option Memory) → Left (IsKept role) r o → Again role r
+read_again role r None k = again role k.memory r k.kept
+read_again role r (Some m) k = again role m r k
+
+-- a restart goes on from the limit
+frontier_low : (role : Role) (r : Records) (o : Option Memory) → Left (IsKept role) r o → next_of o r ≤ counter.stored_limit r
+frontier_low role r None k = same_low (counter.stored_limit r)
+frontier_low role r (Some m) k = let e = stored_limit-kept m.line.counter r k.line.counter in let below = k.line.counter.below in omega arith
+
+pub restarts_ok : (x : Node) → NodeOk x → DidOk x (restarts x)
+restarts_ok x ok =
+    let a = read_again x.role x.store.records x.memory ok.kept in
+    let low = frontier_low x.role x.store.records x.memory ok.kept in
+    let next = a.next in
+    let rises : next_of x.memory x.store.records ≤ a.memory.line.counter.next = omega arith in
+    record {
+      node = record { kept = subst (λ o. Left (IsKept x.role) x.store.records (memory_by o)) (sym a.is) a.kept; sized = subst (λ o. IfSome (memory_by o) IsSized) (sym a.is) a.sized };
+      role = refl;
+      eui = refl;
+      few = omega arith;
+      rises = subst (λ o. next_of x.memory x.store.records ≤ next_of (memory_by o) x.store.records) (sym a.is) rises;
+    }
+
+-- time
+tick_line_kept : (now : ℕ) (l : Line) (r : Records) → IsLineKept l r → IsLineKept (calls.tick now l) r
+tick_line_kept now l r k = beside_kept _ _ r (ended_kept l r (routing.is_old now) k) refl refl refl refl refl refl
+
+tick_line_sized : (now : ℕ) (l : Line) → IsLineSized l → IsLineSized (calls.tick now l)
+unfolding pieces.unexpired
+tick_line_sized now l h =
+    let young : Reassembly → Bool = λ r. nat_lt now (r.since + 60) in
+    let count : length (filter young l.reassemblies) + length (filter (λ r. not (young r)) l.reassemblies) ≡ length l.reassemblies = length-filter_both young (λ r. not (young r)) (λ r. refl) l.reassemblies in
+    let sum : pieces.blocks_held (filter young l.reassemblies) + pieces.blocks_held (filter (λ r. not (young r)) l.reassemblies) ≡ pieces.blocks_held l.reassemblies
+    = sum_by-filter_both young (λ r. not (young r)) (λ r. refl) (λ (r : Reassembly). pieces.blocks r.size) l.reassemblies in
+    let few = h.reassemblies.0 in
+    let low = h.reassemblies.1 in
+    let w = stays_sized l (λ (b : Body). calls.is_within 30 now b.since) h in
+    record { reassemblies = (omega arith, omega arith); waiting = w.waiting; short = w.short }
+
+tick_meter : (now : ℕ) (psk : Key) (m : Memory) (r : Records) → IsKept (Meter psk) m r → IsSized m → IsKept (Meter psk) (meters.tick now m) r × IsSized (meters.tick now m)
+tick_meter now psk m r k h = (
+  record { line = tick_line_kept now m.line r k.line; book = k.book; sessions = k.sessions },
+  record { line = tick_line_sized now m.line h.line; sessions = h.sessions; randoms = h.randoms },
+)
+
+tick_center : (now : ℕ) (m : Memory) (r : Records) → IsKept Coordinator m r → IsSized m → IsKept Coordinator (coordinator_rules.tick now m) r × IsSized (coordinator_rules.tick now m)
+tick_center now m r k h =
+    let young : CoordinatorSession → Bool = λ s. calls.is_within 120 now s.since in
+    let count : length (filter young m.sessions) + length (filter (λ s. not (young s)) m.sessions) ≡ length m.sessions = length-filter_both young (λ s. not (young s)) (λ s. refl) m.sessions in
+    let few = h.sessions in (
+      record { line = tick_line_kept now m.line r k.line; book = k.book; sessions = All-filter (λ (s : CoordinatorSession). calls.is_within 120 now s.since) IsNamed m.sessions k.sessions },
+      record { line = tick_line_sized now m.line h.line; sessions = omega arith; randoms = h.randoms },
+    )
+
+pub ticked_ok : (now : ℕ) (x : Node) → NodeOk x → NodeOk (ticked now x)
+ticked_ok now x ok = by_role x.role x.memory ok.kept ok.sized
+  where
+    by_role : (role : Role) (o : Option Memory) → Left (IsKept role) x.store.records o → IfSome o IsSized → NodeOk (ticked now (record { role = role; eui = x.eui; store = x.store; memory = o }))
+    by_role Coordinator None k h = record { kept = k; sized = tt }
+    by_role (Meter psk) None k h = record { kept = k; sized = tt }
+    by_role Coordinator (Some m) k h = let t = tick_center now m x.store.records k h in record { kept = t.0; sized = t.1 }
+    by_role (Meter psk) (Some m) k h = let t = tick_meter now psk m x.store.records k h in record { kept = t.0; sized = t.1 }
+
+pub resting_ok : {A : Type 0} (role : Role) (m : Memory) → IsSized m → (answer failed : A) → PlanOk role m (resting m answer failed)
+unfolding resting
+resting_ok role m h answer failed = record { leads = leads_beside (IsKept role) m m (λ r k. k); sized = h; few = omega arith; rises = λ fits. record { high = tt; numbered = omega arith } }
+
+-- # A new node
+
+none_table : {A : Type 0} (layout : slots.Layout A) → slots.IsTable layout []
+none_table layout = record { distinct = λ i j d lt inside. absurd (omega arith); short = omega arith }
+
+none_stored : {A : Type 0} (layout : slots.Layout A) → slots.IsStored layout [] empty
+none_stored layout = record { each = λ place within. ap (option_map (layout.read place)) (get-empty nat_cmp (slots.slot_of layout place)) }
+
+zeros_low : (n k : ℕ) → get_or (replicate n 0) k 0 < 2 ^ 16
+zeros_low zero k = omega arith
+zeros_low (suc n) zero = omega arith
+zeros_low (suc n) (suc k) = zeros_low n k
+
+zero_floors : (class : ℕ) → get_or blank_routing.floors class 0 < 2 ^ 16
+zero_floors class = zeros_low 16 class
+
+blank_kept : IsLineKept blank_line empty
+unfolding routing.floors_in
+blank_kept = record {
+  range = record {
+    ring = tt;
+    counter = omega arith;
+    number = (omega arith, omega arith);
+    tag = omega arith;
+    routing = record { entries = none_table routing.ranks; sixteen = refl };
+    floors = zero_floors;
+    ranks = All-nil _;
+    marks = none_table marks.peers;
+  };
+  ring = record { stored = ap ring.ring_at (get-empty nat_cmp 1) };
+  counter = record { limit = ap counter.limit_in (get-empty nat_cmp 2); below = omega arith };
+  number = record { limit = ap own_number.limit_in (get-empty nat_cmp 3); below = omega arith };
+  tag = ap tag_in (get-empty nat_cmp 4);
+  routing = record { floors = ap routing.floors_in (get-empty nat_cmp 5); ranks = none_stored routing.ranks };
+  marks = none_stored marks.peers;
+}
+
+pub blank_ok : (role : Role) (eui : Eui) → NodeOk (blank_node role eui)
+blank_ok role eui = record {
+  kept = record { line = blank_kept; book = by_role role; sessions = All-nil IsNamed };
+  sized = record {
+    line = record { reassemblies = (omega arith, omega arith); waiting = (omega arith, omega arith); short = All-nil (λ (b : Body). IsShort b.load) };
+    sessions = omega arith;
+    randoms = omega arith;
+  };
+}
+  where
+    by_role : (role : Role) → BookKept role [] empty
+    by_role Coordinator = record { table = none_table book.entries; each = All-nil _; stored = none_stored book.entries }
+    by_role (Meter psk) = refl
+
+ticked_frontier : (now : ℕ) (x : Node) → frontier (ticked now x) ≡ frontier x
+ticked_frontier now x = by_role x.role x.memory
+  where
+    by_role : (role : Role) (o : Option Memory) → frontier (ticked now (record { role = role; eui = x.eui; store = x.store; memory = o })) ≡ next_of o x.store.records
+    by_role Coordinator None = refl
+    by_role (Meter psk) None = refl
+    by_role Coordinator (Some m) = refl
+    by_role (Meter psk) (Some m) = refl
+
+true_false : true ≡ false → ⊥
+true_false e = cc
+
+-- # Steps
+
+-- the flights that an event says are those that it adds
+abbrev pub IsTold : World → World × Deeds → Type 0
+IsTold w r = length r.0.flights ≡ length w.flights + r.1.happened.flights
+
+pub data StepGood (w : World) : Step → Type 0 where
+  Fails : (fault : StepFault) → StepGood w (Err fault)
+  Taken : (r : World × Deeds) → WorldOk r.0 → r.1.happened.flights ≤ 24 → IsTold w r → StepGood w (Ok r)
+
+-- a node's frames are flights more
+told_more : {A : Type 0} (ciphers : Ciphers) (w : World) (number : ℕ) (d : Did A) → length (told ciphers w number d).flights ≡ length w.flights + length d.frames
+unfolding told
+told_more ciphers w number d = let both = length-append w.flights (flights_of ciphers number d) in let same : length (flights_of ciphers number d) ≡ length d.frames = length-map d.frames _ in omega arith
+
+told_none : {A : Type 0} (ciphers : Ciphers) (w : World) (number : ℕ) (d : Did A) → d.frames ≡ [] → length (told ciphers w number d).flights ≡ length w.flights + 0
+told_none ciphers w number d none = told_more ciphers w number d ∙ ap (λ fs. length w.flights + length fs) none
+
+none_more : (w v : World) → v.flights ≡ w.flights → length v.flights ≡ length w.flights + 0
+none_more w v e = let same : length v.flights ≡ length w.flights = ap length e in omega arith
+
+module _ (ciphers : Ciphers) (fits : KeepsRanges ciphers) (w : World) (ok : WorldOk w) (flown : All FlightFits w.flights) where
+  branch : (b : Bool) (p q : Step) → (b ≡ true → StepGood w p) → (b ≡ false → StepGood w q) → StepGood w (if b then p else q)
+  branch true p q s t = s refl
+  branch false p q s t = t refl
+
+  by_option : {X : Type 0} (f : X → Step) (x : Option X) (p : Step) → ((y : X) → x ≡ Some y → StepGood w (f y)) → StepGood w p → StepGood w (option_map_or f x p)
+  by_option f None p s t = t
+  by_option f (Some y) p s t = s y refl
+
+  once : (s : Step) → StepGood w s → StepGood w (once_begun w s)
+  once s h = branch (has_begun w) s (Err faults.Setup) (λ _. h) (λ _. Fails faults.Setup)
+
+  setup : (s : Step) → StepGood w s → StepGood w (in_setup w s)
+  setup s h = branch (takes_setup w) s (Err faults.Setup) (λ _. h) (λ _. Fails faults.Setup)
+
+  setup_with : (s : Step) → (takes_setup w ≡ true → StepGood w s) → StepGood w (in_setup w s)
+  setup_with s h = branch (takes_setup w) s (Err faults.Setup) h (λ _. Fails faults.Setup)
+
+  -- setup is not over
+  still : takes_setup w ≡ true → w.running ≡ false
+  still e = by_running w.running (and_parts _ _ e).1
+    where
+      by_running : (b : Bool) → not b ≡ true → b ≡ false
+      by_running true e = cc
+      by_running false e = refl
+
+  at_node : (number : ℕ) (f : Node → Step) → ((x : Node) → node_at w number ≡ Some x → StepGood w (f x)) → StepGood w (on_node w number f)
+  at_node number f h = by_option f (node_at w number) (Err faults.Node) h (Fails faults.Node)
+
+  at_meter : (number : ℕ) (f : Node → Step) → ((x : Node) → node_at w number ≡ Some x → StepGood w (f x)) → StepGood w (on_meter w number f)
+  at_meter number f h = branch (number == 0) (Err faults.Node) (on_node w number f) (λ _. Fails faults.Node) (λ _. at_node number f h)
+
+  node_ok : (number : ℕ) (x : Node) → node_at w number ≡ Some x → NodeOk x
+  node_ok number x e = at_place NodeOk w.nodes number x e ok.nodes
+
+  node_fits : (number : ℕ) (x : Node) → node_at w number ≡ Some x → NodeFits x
+  node_fits number x e = at_place NodeFits w.nodes number x e ok.fits
+
+  set_up_ok : WorldOk (set_up w)
+  set_up_ok = counts_ok w (set_up w) ok refl refl (λ e. e)
+
+  ran_ok : WorldOk (ran w)
+  ran_ok = counts_ok w (ran w) ok refl refl (λ e. absurd (true_false e))
+
+  -- the octets of a flight
+  flight_octets : (number : ℕ) (f : Flight) → flight_at w number ≡ Some f → FlightFits f
+  flight_octets number f = by_number (number == 0)
+    where
+      by_number : (b : Bool) → (if b then None else slice_get w.flights (number - 1)) ≡ Some f → FlightFits f
+      by_number true e = absurd (no_some f e)
+      by_number false e = at_place FlightFits w.flights (number - 1) f e flown
+
+  -- what a node did is told to the world and to the report
+  acted_good : (number : ℕ) (x : Node) (d : Did Answer) → node_at w number ≡ Some x → DidOk x d → StepGood w (Ok (acted ciphers w number d))
+  acted_good number x d there did = Taken _ (told_ok ciphers fits (ran w) number x d ran_ok there did (λ e. absurd (true_false e))) did.few (told_more ciphers (ran w) number d)
+
+  -- # coordinator, meter
+
+  made_ok : (x : Node) → NodeOk x → NodeFits x → length w.nodes ≤ 999 → ((c : Node) → node_at (made_node w x).0 0 ≡ Some c → c.role ≡ Coordinator) → WorldOk (made_node w x).0
+  made_ok x good given room first = record {
+    nodes = All-push NodeOk w.nodes x ok.nodes good;
+    fits = All-push NodeFits w.nodes x ok.fits given;
+    first = first;
+    count = let longer = length-append w.nodes (x ∷ []) in omega arith;
+    rising = record { below = made_below; pairs = ok.rising.pairs; homes = λ k e lt. let h = ok.rising.homes k e lt in let longer = length-append w.nodes (x ∷ []) in omega arith; heads = ok.rising.heads };
+    quiet = ok.quiet;
+  }
+    where
+      new_below : (y : Node) → All (IsBelow (length w.nodes) (frontier y)) w.flights
+      new_below y k e lt home = absurd (let h : (get_or w.flights k e).from < length w.nodes = ok.rising.homes k e lt in omega arith)
+
+      made_below : (number : ℕ) (y : Node) → slice_get (w.nodes ++ x ∷ []) number ≡ Some y → All (IsBelow number (frontier y)) w.flights
+      made_below number y is = ⊎_elim (λ (e : number ≡ length w.nodes). subst (λ n. All (IsBelow n (frontier y)) w.flights) (sym e) (new_below y))
+          (λ (e : number ≢ length w.nodes). ok.rising.below number y (sym (slice_get-push_other w.nodes number x e) ∙ is)) (cases_eq number (length w.nodes))
+
+  -- # allow, rand, join, leave and the other calls of one node
+
+  rand_good : (number : ℕ) (value : Rand) → StepGood w (rand ciphers w number value)
+  unfolding rand
+  rand_good number value = once _ (at_node number _ (λ x there.
+      acted_good number x _ there (answering_ok x random_word _ (acts_ok x (Err randoms.Halted) _ (node_ok number x there) (λ m here kept sized. random_ok x.role m sized value)))))
+
+  joins_good : (number agent : ℕ) (x : Node) (address : Option ℕ) (psk : Option Key) → node_at w number ≡ Some x → StepGood w (Ok (joins_by ciphers w number x address psk))
+  joins_good number agent x None psk there = Taken _ ran_ok (omega arith) (none_more w (ran w) refl)
+  joins_good number agent x (Some a) None there = Taken _ ran_ok (omega arith) (none_more w (ran w) refl)
+  joins_good number agent x (Some a) (Some psk) there = acted_good number x _ there (answering_ok x join_word _ (acts_ok x (Err joins.Halted) _ (node_ok number x there)
+      (λ m here kept sized. join_ok x.role m sized ciphers fits (identity ciphers x psk) refl a w.clock)))
+
+  join_good : (number agent : ℕ) → StepGood w (join ciphers w number agent)
+  unfolding join
+  join_good number agent = once _ (at_meter number _ (λ x there. at_node agent _ (λ y other. joins_good number agent x (node_address y) (psk_of x) there)))
+
+  leave_good : (number : ℕ) → StepGood w (leave ciphers w number)
+  unfolding leave
+  leave_good number = once _ (at_meter number _ (λ x there.
+      acted_good number x _ there (answering_ok x leave_word _ (acts_ok x (Err leaves.Halted) meters.leave (node_ok number x there)
+      (λ m here kept sized. leave_ok x.role m sized ciphers fits (identity ciphers x (record { 0 = [] })) refl)))))
+
+  sent_good : (from to : ℕ) (datagram : List ℕ) (tag : ℕ) (b : Bool) (r : World × Deeds) → WorldOk r.0 → r.1.happened.flights ≤ 24 → IsTold w r → StepGood w (Ok (sent_if w from to datagram tag b r))
+  sent_good from to datagram tag false r g few is = Taken _ g few is
+  sent_good from to datagram tag true r g few is = Taken _ (counts_ok r.0 (record r.0 { sends = r.0.sends + 1 }) g refl refl (λ e. e)) few is
+
+  sends_good : (from to : ℕ) (datagram : List ℕ) (x : Node) (address : Option ℕ) → node_at w from ≡ Some x → StepGood w (Ok (sends_by ciphers w from to datagram x address))
+  sends_good from to datagram x None there = Taken _ ran_ok (omega arith) (none_more w (ran w) refl)
+  sends_good from to datagram x (Some a) there =
+      let did = answering_ok x sent_word _ (acts_ok x (Err sends.Halted) (λ m. of_line m (calls.send m.line a datagram (w.sends + 1) w.clock)) (node_ok from x there) (λ m here kept sized. send_ok x.role m sized a datagram (w.sends + 1) w.clock)) in
+      sent_good from to datagram _ _ _ (told_ok ciphers fits (ran w) from x _ ran_ok there did (λ e. absurd (true_false e))) did.few (told_more ciphers (ran w) from _)
+
+  send_good : (from to : ℕ) (datagram : List ℕ) → StepGood w (send ciphers w from to datagram)
+  unfolding send
+  send_good from to datagram = once _ (at_node from _ (λ x there. at_node to _ (λ y other. sends_good from to datagram x (node_address y) there)))
+
+  breaks_good : (number : ℕ) (x : Node) (next : Option ℕ) → node_at w number ≡ Some x → StepGood w (Ok (breaks_by ciphers w number x next))
+  breaks_good number x None there = Taken _ ran_ok (omega arith) (none_more w (ran w) refl)
+  breaks_good number x (Some next) there = acted_good number x _ there (acts_ok x said.Halted _ (node_ok number x there) (λ m here kept sized. broke_ok x.role m sized next said.Broken))
+
+  break_good : (number next : ℕ) → StepGood w (breaks ciphers w number next)
+  unfolding breaks
+  break_good number next = once _ (at_node number _ (λ x there. at_node next _ (λ y other. breaks_good number x (node_address y) there)))
+
+  flight_is : (number : ℕ) (f : Flight) → flight_at w number ≡ Some f → slice_get w.flights (number - 1) ≡ Some f
+  flight_is number f = by_number (number == 0)
+    where
+      by_number : (b : Bool) → (if b then None else slice_get w.flights (number - 1)) ≡ Some f → slice_get w.flights (number - 1) ≡ Some f
+      by_number true e = absurd (no_some f e)
+      by_number false e = e
+
+  lost_spelled : (f : Flight) → IsSpelled f → IsSpelled (record f { lost = true })
+  lost_spelled f h = record { sealed = h.sealed; plain = h.plain }
+
+  lost_rising : (number : ℕ) (f : Flight) → flight_at w number ≡ Some f → Rising (record (ran w) { flights = slice_set w.flights (number - 1) (record f { lost = true }) })
+  lost_rising number f there =
+      let is = flight_is number f there in
+      record {
+        below = λ n x here. All-set (IsBelow n (frontier x)) w.flights (number - 1) (record f { lost = true }) (at_place (IsBelow n (frontier x)) w.flights (number - 1) f is (ok.rising.below n x here)) (ok.rising.below n x here);
+        pairs = lost_pairs w.flights (number - 1) f is (place_within w.flights (number - 1) f is) ok.rising.pairs;
+        homes = All-set (λ (g : Flight). g.from < length w.nodes) w.flights (number - 1) (record f { lost = true }) (at_place (λ (g : Flight). g.from < length w.nodes) w.flights (number - 1) f is ok.rising.homes) ok.rising.homes;
+        heads = All-set IsSpelled w.flights (number - 1) (record f { lost = true }) (lost_spelled f (at_place IsSpelled w.flights (number - 1) f is ok.rising.heads)) ok.rising.heads;
+      }
+
+  lose_good : (number : ℕ) → StepGood w (lose w number)
+  unfolding lose
+  lose_good number = once _ (by_flight (flight_at w number) refl)
+    where
+      by_lost : (f : Flight) (b : Bool) → flight_at w number ≡ Some f → StepGood w (if b then Err faults.Flight else Ok (record (ran w) { flights = slice_set w.flights (number - 1) (record f { lost = true }) }, deeds (happened w said.Lost)))
+      by_lost f true there = Fails faults.Flight
+      by_lost f false there = Taken _ (record { nodes = ok.nodes; fits = ok.fits; first = ok.first; count = ok.count; rising = lost_rising number f there; quiet = λ e. absurd (true_false e) }) (omega arith) (let same = length-set w.flights (number - 1) (record f { lost = true }) in omega arith)
+
+      by_flight : (o : Option Flight) → flight_at w number ≡ o → StepGood w (option_map_or (λ f. if f.lost then Err faults.Flight else Ok (record (ran w) { flights = slice_set w.flights (number - 1) (record f { lost = true }) }, deeds (happened w said.Lost))) o (Err faults.Flight))
+      by_flight None there = Fails faults.Flight
+      by_flight (Some f) there = by_lost f f.lost there
+
+  tick_good : (seconds : ℕ) → StepGood w (tick w seconds)
+  unfolding tick
+  tick_good seconds = once _ (Taken _ (record {
+    nodes = All-map NodeOk (ticked (w.clock + seconds)) w.nodes (All-weaker NodeOk (λ x. NodeOk (ticked (w.clock + seconds) x)) (ticked_ok (w.clock + seconds)) w.nodes ok.nodes);
+    fits = All-map NodeFits (ticked (w.clock + seconds)) w.nodes (All-weaker NodeFits (λ x. NodeFits (ticked (w.clock + seconds) x)) (λ x h. record { eui = h.eui; psk = h.psk }) w.nodes ok.fits);
+    first = λ c is. ticked_first c (sym (slice_get-map (ticked (w.clock + seconds)) w.nodes 0) ∙ is);
+    count = let same : length (map (ticked (w.clock + seconds)) w.nodes) ≡ length w.nodes = length-map w.nodes _ in let few = ok.count in omega arith;
+    rising = record {
+      below = λ n y is. ticked_below n y (slice_get w.nodes n) refl (sym (slice_get-map (ticked (w.clock + seconds)) w.nodes n) ∙ is);
+      pairs = ok.rising.pairs;
+      homes = λ k e lt. let h = ok.rising.homes k e lt in let same : length (map (ticked (w.clock + seconds)) w.nodes) ≡ length w.nodes = length-map w.nodes _ in omega arith;
+      heads = ok.rising.heads;
+    };
+    quiet = λ e. absurd (true_false e);
+  }) (omega arith) (none_more w (ran w) refl))
+    where
+      ticked_below : (n : ℕ) (y : Node) (o : Option Node) → slice_get w.nodes n ≡ o → option_map (ticked (w.clock + seconds)) o ≡ Some y → All (IsBelow n (frontier y)) w.flights
+      ticked_below n y None there is = absurd (no_some _ is)
+      ticked_below n y (Some x) there is =
+          let this : ticked (w.clock + seconds) x ≡ y = same_Some _ _ is in
+          subst (λ (z : Node). All (IsBelow n (frontier z)) w.flights) this (subst (λ k. All (IsBelow n k) w.flights) (sym (ticked_frontier (w.clock + seconds) x)) (ok.rising.below n x there))
+
+      ticked_first : (c : Node) → option_map (ticked (w.clock + seconds)) (slice_get w.nodes 0) ≡ Some c → c.role ≡ Coordinator
+      ticked_first c = by_first (slice_get w.nodes 0) refl
+        where
+          by_first : (o : Option Node) → slice_get w.nodes 0 ≡ o → option_map (ticked (w.clock + seconds)) o ≡ Some c → c.role ≡ Coordinator
+          by_first None there is = absurd (no_some _ is)
+          by_first (Some x) there is = let this : ticked (w.clock + seconds) x ≡ c = same_Some _ _ is in ap (λ (y : Node). y.role) (sym this) ∙ ok.first x there
+
+  restart_good : (number : ℕ) → StepGood w (restart ciphers w number)
+  unfolding restart
+  restart_good number = once _ (at_node number _ (λ x there. acted_good number x (restarts x) there (restarts_ok x (node_ok number x there))))
+
+  cut_good : (number nth : ℕ) (keeps_new : Bool) → StepGood w (cut ciphers w number nth keeps_new)
+  unfolding cut
+  cut_good number nth keeps_new = once _ (at_node number _ (λ x there.
+      let h = node_ok number x there in acted_good number x _ there (record { node = record { kept = h.kept; sized = h.sized }; role = refl; eui = refl; few = omega arith; rises = same_low (frontier x) })))
+
+  show_good : (number : ℕ) → StepGood w (show w number)
+  unfolding show
+  show_good number = once _ (at_node number _ (λ x there. Taken _ ran_ok (omega arith) (none_more w (ran w) refl)))
+
+  -- another node is there still
+  other_there : {A : Type 0} (a b : ℕ) (d : Did A) (y : Node) → b ≢ a → node_at w b ≡ Some y → node_at (told ciphers (set_up w) a d) b ≡ Some y
+  unfolding told
+  other_there a b d y apart there = slice_get-set_other w.nodes a b d.node apart ∙ there
+
+  -- # deliver, inject
+
+  hears_ok : (x : Node) (got : Accepted) (cost note now : ℕ) → NodeOk x → RoutesFit got → DidOk x (hears ciphers x got cost note now)
+  hears_ok x got cost note now h routes = by_role x.role refl
+    where
+      hears_as : Role → Did Reception
+      hears_as Coordinator = answering coordinator_reception (acts x (Err drops.Store) (λ m. coordinator_rules.hear_coordinator (record { eui = x.eui; ciphers = ciphers }) m got cost note now))
+      hears_as (Meter psk) = answering meter_reception (acts x (Err drops.Store) (λ m. meters.hear_meter (identity ciphers x psk) m got cost note now))
+
+      by_role : (role : Role) → x.role ≡ role → DidOk x (hears_as role)
+      by_role Coordinator is = answering_ok x coordinator_reception _ (center_acts x (Err drops.Store) _ is h (λ m sized. coordinator_hears_ok ciphers fits (record { eui = x.eui; ciphers = ciphers }) m sized got cost note now routes))
+      by_role (Meter psk) is = answering_ok x meter_reception _ (acts_ok x (Err drops.Store) _ h (λ m there kept sized. meter_hears_ok x.role m sized ciphers fits (identity ciphers x psk) refl got cost note now routes))
+
+  received_good : (number : ℕ) (x : Node) (forged : Bool) (d : Did Reception) → node_at w number ≡ Some x → DidOk x d → StepGood w (Ok (received ciphers w number forged d))
+  received_good number x forged d there did = Taken _ (counts_ok (told ciphers (ran w) number d) _ (told_ok ciphers fits (ran w) number x d ran_ok there did (λ e. absurd (true_false e))) refl refl (λ e. e)) did.few (told_more ciphers (ran w) number d)
+
+  arrives_good : (number : ℕ) (x : Node) (octets : List ℕ) (cost : ℕ) → node_at w number ≡ Some x → AreOctets octets → StepGood w (Ok (arrives ciphers w number x octets cost))
+  unfolding arrives
+  arrives_good number x octets cost there are = by_answer (acts x (Err frames.Halted) plan).answer refl
+    where
+      plan : Memory → Plan Memory (Result Accepted FrameRefusal)
+      plan m = of_line m (accept m.line x.eui (arrived ciphers octets))
+
+      did : DidOk x (acts x (Err frames.Halted) plan)
+      did = acts_ok x (Err frames.Halted) plan (node_ok number x there) (λ m here kept sized. accept_ok ciphers fits octets are x.role m x.eui sized)
+
+      routes : (got : Accepted) → (acts x (Err frames.Halted) plan).answer ≡ Ok got → RoutesFit got
+      routes got e =
+          let a = acts_answered x frames.Halted frames.Store plan (λ m. accept_failed ciphers fits octets are m.line _ (accept_is m.line x.eui (arrived ciphers octets))) got e in
+          accepted_routes ciphers fits octets are a.memory.line _ got (accept_is a.memory.line x.eui (arrived ciphers octets)) a.is
+
+      by_answer : (r : Result Accepted FrameRefusal) → (acts x (Err frames.Halted) plan).answer ≡ r → StepGood w (Ok (accepted_by ciphers w number octets cost (acts x (Err frames.Halted) plan)))
+      by_answer (Err reason) e =
+          let k : Did (Result Accepted FrameRefusal) = record (acts x (Err frames.Halted) plan) { answer = Err reason } in
+          rw e (Taken (told ciphers (ran w) number k, deeds (happened w (frame_word reason))) (told_ok ciphers fits (ran w) number x k ran_ok there (record { node = did.node; role = did.role; eui = did.eui; few = did.few; rises = did.rises }) (λ e. absurd (true_false e))) (omega arith)
+          (told_none ciphers (ran w) number k (acts_quiet x (Err frames.Halted) plan (λ m. accept_quiet m.line _ _ (accept_is m.line x.eui (arrived ciphers octets))))))
+      by_answer (Ok got) e =
+          let y = (acts x (Err frames.Halted) plan).node in
+          let d = hears ciphers y got cost (note_by w octets got.path) w.clock in
+          let heard = hears_ok y got cost (note_by w octets got.path) w.clock did.node (routes got e) in
+          rw e (received_good number x (forged_by w octets got.path || list_any (is_forged_tag w.made) d.opened) d there (record { node = heard.node; role = heard.role ∙ did.role; eui = heard.eui ∙ did.eui; few = heard.few; rises = numbered_lower (frontier x) (frontier y) (frontier d.node) d.frames (numbered_le (frontier x) (frontier y) (acts x (Err frames.Halted) plan).frames did.rises) heard.rises }))
+
+  deliver_good : (flight number cost : ℕ) → StepGood w (deliver ciphers w flight number cost)
+  unfolding deliver
+  deliver_good flight number cost = once _ (at_node number _ (λ x there. by_flight x there (flight_at w flight) refl))
+    where
+      by_lost : (x : Node) → node_at w number ≡ Some x → (f : Flight) (b : Bool) → flight_at w flight ≡ Some f → StepGood w (if b then Err faults.Flight else Ok (arrives ciphers w number x f.octets cost))
+      by_lost x there f true is = Fails faults.Flight
+      by_lost x there f false is = arrives_good number x f.octets cost there (flight_octets flight f is)
+
+      by_flight : (x : Node) → node_at w number ≡ Some x → (o : Option Flight) → flight_at w flight ≡ o → StepGood w (option_map_or (λ f. if f.lost then Err faults.Flight else Ok (arrives ciphers w number x f.octets cost)) o (Err faults.Flight))
+      by_flight x there None is = Fails faults.Flight
+      by_flight x there (Some f) is = by_lost x there f f.lost is
+
+  inject_good : (number cost : ℕ) (octets : List ℕ) → AreOctets octets → StepGood w (inject ciphers w number cost octets)
+  unfolding inject
+  inject_good number cost octets are = once _ (at_node number _ (λ x there. arrives_good number x octets cost there are))
+
+  -- # Orders of the coordinator
+
+  abbrev own_of : Node → coordinator_rules.CoordinatorIdentity
+  own_of c = record { eui = c.eui; ciphers = ciphers }
+
+  order_good : {A : Type 0} (c : Node) (answer : Answer) (order : Memory → Plan Memory (Result A CoordinatorRefusal)) → node_at w 0 ≡ Some c → ((m : Memory) → IsSized m → PlanOk Coordinator m (order m))
+      → StepGood w (Ok (by_coordinator ciphers w c answer order))
+  order_good c answer order there f = acted_good 0 c _ there (answering_ok c (ordered_word answer) _ (center_acts c (Err orders.Halted) order (ok.first c there) (node_ok 0 c there) f))
+
+  rekey_good : (index : ℕ) (key : Key) → length key.0 ≡ 16 → StepGood w (rekey ciphers w index key)
+  unfolding rekey
+  rekey_good index key long = once _ (at_node 0 _ (λ c there. order_good c said.Drawn _ there (λ m sized. rekey_ok ciphers fits (own_of c) m sized index key (omega (arith, long)))))
+
+  challenge_good : (number : ℕ) → StepGood w (challenge ciphers w number)
+  unfolding challenge
+  challenge_good number = once _ (at_meter number _ (λ x is. at_node 0 _ (λ c there. order_good c said.Challenged _ there (λ m sized. challenge_ok ciphers fits (own_of c) m sized x.eui w.clock (node_fits number x is).eui))))
+
+  activate_good : (number index : ℕ) → index ≤ 1 → StepGood w (activate ciphers w number index)
+  unfolding activate
+  activate_good number index low = once _ (at_node number _ (λ x is. at_node 0 _ (λ c there. by_number (number == 0) x c there)))
+    where
+      by_number : (b : Bool) (x c : Node) → node_at w 0 ≡ Some c → StepGood w (Ok (if b then by_coordinator ciphers w c said.Activated (λ m. coordinator_rules.activate_self m index) else by_coordinator ciphers w c said.Ordered (λ m. coordinator_rules.activate m x.eui index w.clock)))
+      by_number true x c there = order_good c said.Activated _ there (λ m sized. activate_self_ok ciphers fits (own_of c) m sized index low)
+      by_number false x c there = order_good c said.Ordered _ there (λ m sized. activate_ok ciphers fits (own_of c) m sized x.eui index w.clock)
+
+  kick_good : (number : ℕ) → StepGood w (kick ciphers w number)
+  unfolding kick
+  kick_good number = once _ (at_meter number _ (λ x is. at_node 0 _ (λ c there. order_good c said.Kicked _ there (λ m sized. kick_ok ciphers fits (own_of c) m sized x.eui (node_fits number x is).eui))))
+
+  -- the pair key of a meter
+  psk_is : (x : Node) (psk : Key) → psk_of x ≡ Some psk → x.role ≡ Meter psk
+  psk_is x psk = by_role x.role
+    where
+      by_role : (role : Role) → psk_of (record x { role = role }) ≡ Some psk → role ≡ Meter psk
+      by_role Coordinator e = absurd (no_some _ e)
+      by_role (Meter k) e = ap Meter (same_Some _ _ e)
+
+  allow_good : (number : ℕ) → StepGood w (allow ciphers w number)
+  unfolding allow
+  allow_good number = once _ (at_meter number _ (λ x is. at_node 0 _ (λ c there.
+      by_option (λ psk. Ok (allowed ciphers w number (acts c (Err orders.Halted) (λ m. coordinator_rules.allow m x.eui psk)))) (psk_of x) (Err faults.Node)
+      (λ psk pair. Taken _ (told_ok ciphers fits (ran w) 0 c _ ran_ok there (center_acts c (Err orders.Halted) _ (ok.first c there) (node_ok 0 c there)
+      (λ m sized. allow_ok ciphers fits (own_of c) m sized x.eui psk (node_fits number x is).eui ((node_fits number x is).psk psk (psk_is x psk pair)))) (λ e. absurd (true_false e))) (omega arith) (told_none ciphers (ran w) 0 _ (acts_quiet c (Err orders.Halted) _ (λ m. allow_quiet m x.eui psk)))) (Fails faults.Node))))
+
+  -- # Setup
+
+  pub begin_ok : (key : Key) → length key.0 ≡ 16 → (m : Memory) → IsSized m → PlanOk Coordinator m (coordinator_rules.begin m (first_grant key))
+  unfolding choose
+  begin_ok key long m sized = by_ring (is_some m.line.ring)
+    where
+      readable : IsReadable (first_grant key)
+      readable = record { grant = record { index = omega arith; held = refl }; address = omega arith; key0 = omega (arith, long); key1 = refl }
+
+      by_ring : (b : Bool) → PlanOk Coordinator m (if b then resting m (Ok tt) (Err RingStore) else within (λ l. with_line l m) (λ r. r) (calls.install m.line (first_grant key)))
+      by_ring true = resting_ok Coordinator m sized (Ok tt) (Err RingStore)
+      by_ring false = provision_ok Coordinator m sized (first_grant key) readable
+
+  coordinator_good : (eui : Eui) (key : Key) → length eui.0 ≡ 8 → length key.0 ≡ 16 → StepGood w (coordinator w eui key)
+  unfolding coordinator
+  coordinator_good eui key known long = branch (has_begun w) _ _ (λ _. Fails faults.Setup) (λ none.
+      let did = acts_ok (blank_node Coordinator eui) (Ok tt) (λ m. coordinator_rules.begin m (first_grant key)) (blank_ok Coordinator eui) (λ m there kept sized. begin_ok key long m sized) in
+      let few : length w.nodes ≤ 0 = ltb-false _ _ none in
+      Taken _ (made_ok (coordinator_node eui key) did.node (record { eui = ap (λ (e : Eui). length e.0) did.eui ∙ known; psk = λ psk e. absurd (not_meter psk (sym did.role ∙ e)) }) (omega arith)
+      (λ c is. first_made w.nodes few (coordinator_node eui key) did.role c is)) (omega arith) (none_more w (set_up w) refl))
+    where
+      not_meter : (psk : Key) → Coordinator ≡ Meter psk → ⊥
+      not_meter psk e = cc
+
+      first_made : (xs : List Node) → length xs ≤ 0 → (x : Node) → x.role ≡ Coordinator → (c : Node) → slice_get (xs ++ x ∷ []) 0 ≡ Some c → c.role ≡ Coordinator
+      first_made [] few x is c e = let this : x ≡ c = same_Some _ _ e in ap (λ (y : Node). y.role) (sym this) ∙ is
+      first_made (y ∷ xs) few x is c e = absurd (omega arith)
+
+  meter_good : (eui : Eui) (psk : Key) → length eui.0 ≡ 8 → length psk.0 ≡ 16 → StepGood w (meter w eui psk)
+  unfolding meter
+  meter_good eui psk known long = branch (not (takes_setup w) || (nat_lt 999 (length w.nodes) || is_known w eui)) _ _ (λ _. Fails faults.Setup) (λ may.
+      let parts = or_parts _ _ may in
+      let room = or_parts _ _ parts.1 in
+      let few : length w.nodes ≤ 999 = ltb-false _ _ room.0 in
+      let some : 0 < length w.nodes = begun_some (has_begun w) (not w.running) refl parts.0 in
+      Taken _ (made_ok (blank_node (Meter psk) eui) (blank_ok (Meter psk) eui) (record { eui = known; psk = λ k e. ap (λ (x : Key). length x.0) (sym (same_psk psk k e)) ∙ long }) few
+      (λ c is. ok.first c (sym (first_same w.nodes some (blank_node (Meter psk) eui)) ∙ is))) (omega arith) (none_more w (set_up w) refl))
+    where
+      same_psk : (a b : Key) → Meter a ≡ Meter b → a ≡ b
+      same_psk a b e = cc
+
+      begun_some : (a b : Bool) → nat_lt 0 (length w.nodes) ≡ a → not (a && b) ≡ false → 0 < length w.nodes
+      begun_some true b e h = ltb-true _ _ e
+      begun_some false b e h = absurd (cc)
+
+      first_same : (xs : List Node) → 0 < length xs → (x : Node) → slice_get (xs ++ x ∷ []) 0 ≡ slice_get xs 0
+      first_same [] some x = absurd (omega arith)
+      first_same (y ∷ xs) some x = refl
+
+  preset_good : (number : ℕ) (plan : Line → calls.Presetting) → ((role : Role) (m : Memory) → IsSized m → PlanFits role m (of_line m (plan m.line))) → ((l : Line) → (plan l).frames ≡ []) → StepGood w (preset ciphers w number plan)
+  preset_good number plan f quiet = setup_with _ (λ began. at_node number _ (λ x there.
+      Taken _ (told_fits ciphers (set_up w) number x _ set_up_ok there (acts_fits x (Ok tt) _ (node_ok number x there) (λ m here kept sized. f x.role m sized)) (set_up_ok.quiet (still began)) (acts_quiet x (Ok tt) _ (λ m. quiet m.line))) (omega arith) (told_none ciphers (set_up w) number _ (acts_quiet x (Ok tt) _ (λ m. quiet m.line)))))
+
+  -- an address of a node is below FFFE
+  address_low : (x : Node) (address : ℕ) → NodeOk x → node_address x ≡ Some address → address < 0xFFFE
+  address_low x address h = by_memory x.memory h.kept
+    where
+      by_ring : (r : ring.Ring) → IfSome r IsReadable → option_map (λ (g : Granted). g.address) r ≡ Some address → address < 0xFFFE
+      by_ring None k e = absurd (no_some _ e)
+      by_ring (Some g) k e = let this : g.address ≡ address = same_Some _ _ e in let low = k.address in omega arith
+
+      by_memory : (o : Option Memory) → Left (IsKept x.role) x.store.records o → option_and_then (λ (m : Memory). address_of m.line) o ≡ Some address → address < 0xFFFE
+      by_memory None k e = absurd (no_some _ e)
+      by_memory (Some m) k e = by_ring m.line.ring k.line.range.ring e
+
+  near_by_good : (a b cost : ℕ) (x y : Node) (p q : Option ℕ) → cost ≤ 255 → node_at w a ≡ Some x → node_at w b ≡ Some y → node_address x ≡ p → node_address y ≡ q → StepGood w (near_by ciphers w a b cost x y p q)
+  near_by_good a b cost x y None q low hx hy ep eq = Fails faults.Setup
+  near_by_good a b cost x y (Some p) None low hx hy ep eq = Fails faults.Setup
+  near_by_good a b cost x y (Some p) (Some q) low hx hy ep eq = branch ((a == b) || (keeps_rank x q || (ranks_full x || ranks_full y))) _ _ (λ _. Fails faults.Setup) (λ may.
+      let parts = or_parts _ _ may in
+      let apart : b ≢ a = λ same. eqb-false _ _ parts.0 (sym same) in
+      let first = offered x q (node_ok a x hx) (address_low y q (node_ok b y hy) eq) in
+      let second = offered y p (node_ok b y hy) (address_low x p (node_ok a x hx) ep) in
+      Taken _ (told_ok ciphers fits (told ciphers (set_up w) a (offered_near x q cost w.clock)) b y _ (told_ok ciphers fits (set_up w) a x _ set_up_ok hx first (λ e. offered_quiet x q)) (other_there a b (offered_near x q cost w.clock) y apart hy) second (λ e. offered_quiet y p)) (omega arith)
+      (let one = told_none ciphers (set_up w) a (offered_near x q cost w.clock) (offered_quiet x q) in let two = told_none ciphers (told ciphers (set_up w) a (offered_near x q cost w.clock)) b (offered_near y p cost w.clock) (offered_quiet y p) in omega arith))
+    where
+      offered_quiet : (z : Node) (to : ℕ) → (offered_near z to cost w.clock).frames ≡ []
+      offered_quiet z to = acts_quiet z (Ok tt) (λ m. of_line m (calls.preset_near m.line to cost w.clock)) (λ m. near_quiet m.line to cost w.clock)
+
+      offered : (z : Node) (to : ℕ) → NodeOk z → to < 0xFFFE → DidOk z (offered_near z to cost w.clock)
+      offered z to h short = answering_ok z (λ _. tt) _ (acts_ok z (Ok tt) _ h (λ m here kept sized. near_ok z.role m sized to cost w.clock short (omega arith)))
+
+  near_good : (a b cost : ℕ) → cost ≤ 255 → StepGood w (near ciphers w a b cost)
+  unfolding near
+  near_good a b cost low = setup _ (at_node a _ (λ x hx. at_node b _ (λ y hy. near_by_good a b cost x y (node_address x) (node_address y) low hx hy refl refl)))
+
+  depot_by_good : (number : ℕ) (x c : Node) (d : Did (Result Granted CoordinatorRefusal)) → 0 ≢ number → node_at w number ≡ Some x → node_at w 0 ≡ Some c → DidOk c d → ((g : Granted) → d.answer ≡ Ok g → IsReadable g) → d.frames ≡ []
+      → StepGood w (depot_by ciphers w number x d)
+  depot_by_good number x c d apart hx hc did readable quiet = by_answer d.answer refl
+    where
+      by_answer : (r : Result Granted CoordinatorRefusal) → d.answer ≡ r → StepGood w (depot_by ciphers w number x d)
+      by_answer (Err reason) e = rw e (Fails faults.Setup)
+      by_answer (Ok g) e =
+          let k : Did (Result Granted CoordinatorRefusal) = record d { answer = Ok g } in
+          let first = told_ok ciphers fits (set_up w) 0 c k set_up_ok hc (record { node = did.node; role = did.role; eui = did.eui; few = did.few; rises = did.rises }) (λ e. quiet) in
+          let second = acts_ok x (Ok tt) (λ m. meters.provision m g) (node_ok number x hx) (λ m here kept sized. provision_ok x.role m sized g (readable g e)) in
+          rw e (Taken (provisioned ciphers (told ciphers (set_up w) 0 k) number x g) (told_ok ciphers fits (told ciphers (set_up w) 0 k) number x _ first (other_there 0 number k x (λ same. apart (sym same)) hx) second (λ e. acts_quiet x (Ok tt) (λ m. meters.provision m g) (λ m. install_quiet m.line g))) (omega arith)
+          (let one = told_none ciphers (set_up w) 0 k quiet in let two = told_none ciphers (told ciphers (set_up w) 0 k) number (acts x (Ok tt) (λ m. meters.provision m g)) (acts_quiet x (Ok tt) (λ m. meters.provision m g) (λ m. install_quiet m.line g)) in omega arith))
+
+  depot_good : (number : ℕ) → StepGood w (depot ciphers w number)
+  unfolding depot
+  depot_good number = setup _ (at_node number _ (λ x hx. at_node 0 _ (λ c hc. branch ((number == 0) || is_some (node_address x)) _ _ (λ _. Fails faults.Setup) (λ may.
+      by_option (λ psk. depot_by ciphers w number x (acts c (Err orders.Halted) (λ m. coordinator_rules.depot m x.eui psk))) (psk_of x) (Err faults.Setup)
+      (λ psk pair.
+      let known = (node_fits number x hx).eui in
+      let long = (node_fits number x hx).psk psk (psk_is x psk pair) in
+      let apart : 0 ≢ number = λ same. eqb-false _ _ (or_parts _ _ may).0 (sym same) in
+      depot_by_good number x c _ apart hx hc (center_acts c (Err orders.Halted) _ (ok.first c hc) (node_ok 0 c hc) (λ m sized. depot_ok ciphers fits (own_of c) m sized x.eui psk known long)) (λ g e. granted c x.eui psk g (ok.first c hc) (node_ok 0 c hc) known long e) (acts_quiet c (Err orders.Halted) _ (λ m. depot_quiet m x.eui psk)))
+      (Fails faults.Setup)))))
+    where
+      of_role : (role : Role) (m : Memory) (r : Records) → role ≡ Coordinator → IsKept role m r → length m.book ≤ 999
+      of_role Coordinator m r e k = k.book.table.short
+      of_role (Meter psk) m r e k = absurd (cc)
+
+      kept_at : (c : Node) (m : Memory) → NodeOk c → c.memory ≡ Some m → IsKept c.role m c.store.records × IsSized m
+      kept_at c m h e = (subst (λ o. Left (IsKept c.role) c.store.records o) e h.kept, subst (λ o. IfSome o IsSized) e h.sized)
+
+      granted : (c : Node) (eui : Eui) (psk : Key) (g : Granted) → c.role ≡ Coordinator → NodeOk c → length eui.0 ≡ 8 → length psk.0 ≡ 16 → (acts c (Err orders.Halted) (λ m. coordinator_rules.depot m eui psk)).answer ≡ Ok g → IsReadable g
+      granted c eui psk g is h known long e =
+          let a = acts_answered c orders.Halted orders.Store (λ m. coordinator_rules.depot m eui psk) (λ m. coordinator_failed m eui psk known long) g e in
+          let k = kept_at c a.memory h a.there in
+          depot_grants a.memory eui psk g k.0.line.range.ring (of_role c.role a.memory c.store.records is k.0) a.is
+        where
+          coordinator_failed : (m : Memory) (eui : Eui) (psk : Key) → length eui.0 ≡ 8 → length psk.0 ≡ 16 → (coordinator_rules.depot m eui psk).failed ≡ Err orders.Store
+          coordinator_failed m eui psk known long = depot_failed ciphers fits (own_of c) m eui psk known long
+
+  -- # All kinds
+
+  pub step_good : (event : Event) → IsEvent event → StepGood w (step ciphers w event)
+  step_good (events.Coordinator eui key) e = coordinator_good eui key e.0.0 e.1.0
+  step_good (events.Meter eui psk) e = meter_good eui psk e.0.0 e.1.0
+  step_good (events.Depot node) e = depot_good node
+  step_good (events.Near a b cost) e = near_good a b cost e.2.1
+  step_good (events.Counter node value) e = preset_good node _ (λ role m sized. counter_ok role m sized value e.1) (λ l. counter_quiet l value)
+  step_good (events.Number node value) e = preset_good node _ (λ role m sized. number_ok role m sized value e.1 e.2) (λ l. number_quiet l value)
+  step_good (events.Allow node) e = allow_good node
+  step_good (events.Rand node value) e = rand_good node value
+  step_good (events.Join node agent) e = join_good node agent
+  step_good (events.Leave node) e = leave_good node
+  step_good (events.Send from to datagram) e = send_good from to datagram
+  step_good (events.Deliver flight node cost) e = deliver_good flight node cost
+  step_good (events.Inject node cost octets) e = inject_good node cost octets e.2.2
+  step_good (events.Lose flight) e = lose_good flight
+  step_good (events.Break node next) e = break_good node next
+  step_good (events.Tick seconds) e = tick_good seconds
+  step_good (events.Restart node) e = restart_good node
+  step_good (events.Cut node nth keeps_new) e = cut_good node nth keeps_new
+  step_good (events.Rekey index key) e = rekey_good index key e.1.0
+  step_good (events.Challenge node) e = challenge_good node
+  step_good (events.Activate node index) e = activate_good node index e.1
+  step_good (events.Kick node) e = kick_good node
+  step_good (events.Show node) e = show_good node

@@ -1,0 +1,6 @@
+-- The law, by the traversal of runs.
+use Rattle.line_laws.proofs.AgreeRuns.{every_joining}
+use Rattle.line_laws.proofs.laws.every_joining_agrees.Goals as goal
+
+pub returns : goal.returns
+returns c = every_joining

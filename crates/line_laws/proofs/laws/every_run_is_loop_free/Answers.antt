@@ -1,0 +1,6 @@
+-- The law, by what every event keeps.
+use Rattle.line_laws.proofs.LoopRuns.{every_run}
+use Rattle.line_laws.proofs.laws.every_run_is_loop_free.Goals as goal
+
+pub returns : goal.returns
+returns c = λ ciphers fits entries says octets run homed. every_run ciphers fits entries says octets run homed

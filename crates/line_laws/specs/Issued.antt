@@ -1,0 +1,28 @@
+-- A joined meter holds only keys that were issued to it.
+use Rattle.std.specs.Prelude.{◌≡◌, All, false, List, [], ◌∷◌, ◌++◌}
+use Rattle.node_rules.specs.Ciphers.{Ciphers}
+use Rattle.node_rules.specs.Events.{IsEui}
+use Rattle.node_rules.specs.Worlds.{Issued, start}
+use Rattle.node_rules.specs.Runs.{Entry, IsRun, issued, HasOnlyIssuedKeys, Agrees}
+use Rattle.line_laws.specs.Owed.{KeepsRanges}
+use Rattle.line_laws.specs.Laws.{AreSaid, FlightsAreOctets}
+
+-- every meter to which keys are issued is named by 8 octets
+abbrev pub IssuedAreNamed : List Entry → Type 0
+IssuedAreNamed entries = All (λ (x : Entry). All (λ (i : Issued). IsEui i.eui) x.deeds.issued) entries
+
+-- after each event up to the first forged one, each meter holds only keys that were issued to it up to then
+abbrev pub IsIssuedAfter : List Entry → List Entry → Type 0
+IsIssuedAfter before [] = Unit {0}
+IsIssuedAfter before (x ∷ xs) = x.deeds.happened.forged ≡ false → HasOnlyIssuedKeys (issued (before ++ x ∷ [])) x.after × IsIssuedAfter (before ++ x ∷ []) xs
+
+-- so it is from the beginning of a run on
+abbrev pub OnlyIssuedKeys : Type 0
+OnlyIssuedKeys =
+    (ciphers : Ciphers) → KeepsRanges ciphers → (entries : List Entry) → AreSaid entries → FlightsAreOctets entries → IssuedAreNamed entries → IsRun ciphers start entries
+    → IsIssuedAfter [] entries
+
+-- a joining that is done in a run was taken before it, with the same random values
+abbrev pub EveryJoiningAgrees : Type 0
+EveryJoiningAgrees =
+    (ciphers : Ciphers) → KeepsRanges ciphers → (entries : List Entry) → AreSaid entries → FlightsAreOctets entries → IsRun ciphers start entries → Agrees entries

@@ -1,0 +1,64 @@
+-- What flights are: each sealed one is the spelling of a letter in its ranges, each other one a plain frame.
+use Rattle.std.specs.Prelude.{◌≡◌, ℕ, ◌+◌, ◌<◌, ◌≤◌, ◌^◌, All, List, length, Some, None, ⊤}
+use Rattle.octet_fields.specs.Addresses.{IsAddress}
+use Rattle.plc_base.specs.declared.key.Key.{Key}
+use Rattle.mac_frames.specs.declared.head.MacHead.{MacHead}
+use Rattle.mac_frames.specs.Grammar.{IsTarget, header}
+use Rattle.mesh_header.specs.declared.unit.Unit.{Unit}
+use Rattle.mesh_header.specs.declared.unit.Unit.TheVariants as units
+use Rattle.mesh_header.specs.Grammar.{IsUnit, spelling}
+use Rattle.loadng_messages.specs.declared.message.Message.{Message}
+use Rattle.loadng_messages.specs.Grammar.{IsMessage}
+use Rattle.loadng_messages.specs.Grammar as messages
+use Rattle.joining_messages.specs.declared.message.JoinMessage.{JoinMessage}
+use Rattle.node_rules.specs.Ciphers.{Ciphers}
+use Rattle.node_rules.specs.Frames.{Letter, Sealed, Up, Down, spelled}
+use Rattle.node_rules.specs.Worlds.{Flight}
+
+-- What a key sealed, the same key opens: with the same head, behind the octets of that head. A tag has four octets.
+pub record OpensWhatItSeals (ciphers : Ciphers) : Type 0 where
+  pub opens : (key : Key) (head : MacHead) (payload : List ℕ) → ciphers.opens key head (header head) (ciphers.seals key head payload) ≡ Some payload
+  pub tag : (key : Key) (head : MacHead) (payload : List ℕ) → length (ciphers.seals key head payload) ≡ length payload + 4
+
+-- A unit that a sealed frame has room for.
+pub record IsFit (unit : Unit) : Type 0 where
+  pub fields : IsUnit unit
+  pub size : length (spelling unit) ≤ 381
+
+-- a unit without a mesh header is a route message
+abbrev pub IsRoute : Unit → Type 0
+IsRoute (units.Local code body) = (code ≡ 1) × ((message : Message) × IsMessage message × (body ≡ messages.spelling message))
+IsRoute (units.Whole mesh octets) = ⊤
+IsRoute (units.Part mesh piece) = ⊤
+IsRoute (units.Carried mesh body) = ⊤
+
+-- A letter in its ranges.
+pub record IsLetter (l : Letter) : Type 0 where
+  pub to : IsTarget l.to
+  pub from : IsAddress l.from
+  pub counter : l.counter < 2 ^ 32
+  pub index : l.index ≤ 1
+  pub unit : IsFit l.unit
+  pub route : IsRoute l.unit
+
+-- A flight under a key is the spelling of a letter that this key sealed, under the letter's note.
+pub record IsSpelled (ciphers : Ciphers) (f : Flight) (key : Key) : Type 0 where
+  pub letter : Letter
+  pub fits : IsLetter letter
+  pub key_is : letter.key ≡ key
+  pub octets : f.octets ≡ (spelled ciphers (Sealed letter)).octets
+  pub note : f.note ≡ letter.note
+
+-- A frame without a key: up to an agent, or down to the node of its message.
+pub data IsPlain (ciphers : Ciphers) (octets : List ℕ) : Type 0 where
+  GoesUp : (agent : ℕ) → (from : _) → (message : JoinMessage) → octets ≡ (spelled ciphers (Up agent from message)).octets → IsPlain ciphers octets
+  GoesDown : (from : ℕ) → (message : JoinMessage) → octets ≡ (spelled ciphers (Down from message)).octets → IsPlain ciphers octets
+
+-- A flight is what its key says.
+pub record IsFlight (ciphers : Ciphers) (f : Flight) : Type 0 where
+  pub sealed : (key : Key) → f.key ≡ Some key → IsSpelled ciphers f key
+  pub plain : f.key ≡ None → IsPlain ciphers f.octets × (f.note ≡ 0)
+
+-- all the flights are
+abbrev pub AreFlights : Ciphers → List Flight → Type 0
+AreFlights ciphers flights = All (IsFlight ciphers) flights

@@ -1,0 +1,11 @@
+pub mod Stores
+pub mod Sizes
+pub mod Owed
+pub mod Letters
+pub mod Ranges
+pub mod Custody
+pub mod Sends
+pub mod Places
+pub mod Laws
+pub mod Loops
+pub mod Issued

@@ -1,0 +1,43 @@
+-- What a node sends is in the ranges of what it spells.
+use Rattle.std.specs.Prelude.{◌<◌, ◌≤◌, ◌^◌, All, length, IfSome}
+use Rattle.octet_fields.specs.Addresses.{IsAddress}
+use Rattle.mac_frames.specs.Grammar.{IsTarget}
+use Rattle.routing_set.specs.declared.entry.RoutingEntry.{RoutingEntry}
+use Rattle.routing_set.specs.declared.entry.Route.{Route}
+use Rattle.node_rules.specs.Memory.{Line, Body, Load, Datagram, Command}
+use Rattle.node_rules.specs.Doings.{Doing, Outgoing}
+use Rattle.line_laws.specs.Stores.{IsReadable}
+use Rattle.line_laws.specs.Letters.{IsFit, IsRoute}
+
+-- a datagram that was taken, with a tag; a command, with its code in front
+abbrev pub IsLoad : Load → Type 0
+IsLoad (Datagram octets tag) = (0 < length octets) × (length octets ≤ 1280) × (tag < 2 ^ 16)
+IsLoad (Command octets) = length octets ≤ 375
+
+-- A body that waits for one node.
+pub record IsBody (b : Body) : Type 0 where
+  pub to : IsAddress b.to
+  pub load : IsLoad b.load
+
+-- the next hop of an entry is one node
+abbrev pub HasHop : RoutingEntry → Type 0
+HasHop e = IfSome e.route (λ (t : Route). IsAddress t.next)
+
+-- What a node spells of is in its ranges.
+pub record IsLineRanged (l : Line) : Type 0 where
+  pub ring : IfSome l.ring IsReadable
+  pub tag : l.next_tag < 2 ^ 16
+  pub hops : All HasHop l.routing.entries
+  pub bodies : All IsBody l.waiting
+  pub number : l.own_number.last ≤ 65535
+
+-- A unit that can be sealed and sent.
+pub record IsOut (o : Outgoing) : Type 0 where
+  pub to : IsTarget o.to
+  pub unit : IsFit o.unit
+  pub route : IsRoute o.unit
+
+-- What is being done is in its ranges.
+pub record IsRanged (d : Doing Line) : Type 0 where
+  pub line : IsLineRanged d.memory
+  pub units : All IsOut d.units
