@@ -1,7 +1,7 @@
 -- The front of octets, by its length.
 use Rattle.std.proofs.Common.{◌≡◌, ℕ, List, ◌++◌, length, take, sym, ap, ◌∙◌}
 use Rattle.std.proofs.Math.Seq.{take-append_seam}
-use Rattle.octet_fields.specs.Fields.{after, part}
+use Rattle.plc_base.specs.Fields.{after, part}
 
 pub part_front : (n : ℕ) (packet front : List ℕ) → packet ≡ front ++ after n packet → length front ≡ n → part 0 n packet ≡ front
 unfolding part

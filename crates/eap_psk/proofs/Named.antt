@@ -1,7 +1,7 @@
 -- What messages and tags name.
 use Rattle.std.proofs.Common.{◌≡◌, ℕ, List, ◌++◌, length, refl, sym, ap, ◌∙◌, arith}
-use Rattle.octet_fields.specs.Fields.{after}
-use Rattle.octet_fields.proofs.Places.{fronts_same}
+use Rattle.plc_base.specs.Fields.{after}
+use Rattle.plc_base.proofs.Places.{fronts_same}
 use Rattle.plc_base.specs.Grant.{Granted}
 use Rattle.plc_base.specs.declared.address.Eui.{Eui}
 use Rattle.plc_base.specs.declared.key.Rand.{Rand}

@@ -4,8 +4,8 @@ use Rattle.std.proofs.Math.Seq.{drop-append_seam, drop-append-add, take-append_s
 use Rattle.std.proofs.lemmas.List.{take_all}
 use Rattle.std.proofs.lemmas.Grind.{common_steps}
 use Rattle.byteorder.specs.Endian.{big_bytes}
-use Rattle.octet_fields.specs.Fields.{after, octet, two, four, part}
-use Rattle.octet_fields.proofs.Places.{four_behind, two_behind}
+use Rattle.plc_base.specs.Fields.{after, octet, two, four, part}
+use Rattle.plc_base.proofs.Places.{four_behind, two_behind}
 use Rattle.plc_base.specs.Grant.{Granted}
 use Rattle.plc_base.specs.declared.key.Key.{Key}
 use Rattle.joining_messages.specs.Grants.{IsGranted, IsPlace, grant_spelling, is_parameter_list, key_then}

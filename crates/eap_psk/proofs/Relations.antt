@@ -3,7 +3,7 @@ use Rattle.std.proofs.Common.{◌≡◌, ◌≤◌, ℕ, ◌+◌, ◌-◌, List,
 use Rattle.std.specs.Prelude.{slice_index}
 use Rattle.std.proofs.lemmas.List.{length-drop}
 use Rattle.byteorder.specs.Endian.{big_bytes}
-use Rattle.octet_fields.specs.Fields.{after}
+use Rattle.plc_base.specs.Fields.{after}
 use Rattle.joining_messages.proofs.Rests.{one_is}
 use Rattle.aes_modes.proofs.Texts.{eax_text-twice, length-eax_text}
 use Rattle.eap_psk.specs.Keys.{nonce_block, channel, channel_tag, channel_text, mac_s}

@@ -1,8 +1,8 @@
 -- Which fault of a packet is the first, at each end. All tests are of octets.
 use Rattle.std.specs.Prelude.{ℕ, ◌*◌, Bool, List, length, Option, Some, nat_lt, ◌==◌, ◌&&◌, if◌then◌else◌}
 use Rattle.std.specs.Str.{bytes_eq}
-use Rattle.octet_fields.specs.Fields.{after, octet, two, four, part}
-use Rattle.octet_fields.specs.Faults.{◌then◌, ◌unless◌}
+use Rattle.plc_base.specs.Fields.{after, octet, two, four, part}
+use Rattle.plc_base.specs.Faults.{◌then◌, ◌unless◌}
 use Rattle.joining_messages.specs.Grants.{is_parameter_list}
 use Rattle.eap_psk.specs.Keys.{PairKeys, mac_p, mac_s, transient_key, channel_text, channel_tag}
 use Rattle.eap_psk.specs.declared.fault.EapFault.{EapFault}

@@ -1,7 +1,7 @@
 //! Why a packet is refused.
 ghost use Rattle.std.specs.Prelude.{◌≡◌};
 
-use octet_fields::Ended;
+use plc_base::Ended;
 use thiserror::Error;
 
 /// Why a packet is refused. Where several hold, the first of this list is told.

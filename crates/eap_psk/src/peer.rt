@@ -1,6 +1,6 @@
 //! The joining node's end.
 ghost use Rattle.std.specs.Prelude.{◌≡◌, ◌≤◌, ◌+◌, ◌∷◌, [], length, Some, None, IfOk, OnErr, MatchResult};
-ghost use Rattle.octet_fields.specs.Fields.{after, octet, part};
+ghost use Rattle.plc_base.specs.Fields.{after, octet, part};
 ghost use Rattle.eap_psk.specs.Keys.{transient_key};
 ghost use Rattle.eap_psk.specs.Messages.{First, Second, Third, Fourth, granting_text};
 ghost use Rattle.eap_psk.specs.Faults.{first_fault, third_fault};
@@ -13,8 +13,7 @@ use crate::reading::{check_same, first_of, granting_of, third_of};
 use crate::server::Agreed;
 use crate::writing::{fourth_header, granting_text, mac_p_input, mac_s_input, write_head};
 use aes_modes::cmac;
-use octet_fields::rest_at;
-use plc_base::{EapBuf, Eui, Grant, PairTag, Rand, TagList, TagText};
+use plc_base::{EapBuf, Eui, Grant, PairTag, Rand, TagList, TagText, rest_at};
 
 /// A session at the peer, which awaits the third message: the joining node's end of one EAP-PSK exchange.
 #[derive(Clone, Copy, Debug, PartialEq, Eq)]

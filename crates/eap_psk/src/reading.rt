@@ -1,14 +1,13 @@
 //! Reads the fields of the four messages.
 ghost use Rattle.std.specs.Prelude.{◌≡◌, ◌<◌, ◌≤◌, ◌+◌, ◌*◌, ◌++◌, ℕ, Bool, length, true, false, IsTrue, MatchResult, Ok, Err, Some, None};
 ghost use Rattle.byteorder.specs.Endian.{big_bytes};
-ghost use Rattle.octet_fields.specs.Fields.{after, octet, part};
+ghost use Rattle.plc_base.specs.Fields.{after, octet, part};
 ghost use Rattle.eap_psk.specs.Messages.{First, granting_text, head};
 ghost use Rattle.eap_psk.specs.Faults.{same, is_granting, head_stands, is_first, is_second, is_third, is_fourth, first_fault};
 
 use crate::fault::EapFault;
 use joining_messages::read_grant;
-use octet_fields::{four_at, octet_at, octets_at, rest_at, two_at};
-use plc_base::{Eui, Grant, Rand};
+use plc_base::{Eui, Grant, Rand, four_at, octet_at, octets_at, rest_at, two_at};
 
 // Whether two octet strings are the same.
 #[tactic(auto, unfolding(crate::specs::Faults::same))]
@@ -45,7 +44,7 @@ pub(crate) struct Head {
 }
 
 // The fields that differ, of the head of the message of this code and number.
-#[tactic(auto, unfolding(crate::specs::Faults::head_stands), using(octet_fields::proofs::Places::after_none))]
+#[tactic(auto, unfolding(crate::specs::Faults::head_stands), using(plc_base::proofs::Places::after_none))]
 fn fields_of(packet: &[u8], code: u8, number: u8) -> Result<Fields, EapFault>
     requires number { number ≤ 3 }
     requires long { 22 ≤ length packet.now }
@@ -92,7 +91,7 @@ pub(crate) struct FirstMessage {
     pub(crate) id_s: Eui,
 }
 
-#[tactic(auto, unfolding(crate::specs::Faults::is_first), using(octet_fields::proofs::Places::after_all))]
+#[tactic(auto, unfolding(crate::specs::Faults::is_first), using(plc_base::proofs::Places::after_all))]
 pub(crate) fn first_of(packet: &[u8]) -> Result<FirstMessage, EapFault>
     ensures { MatchResult result
         (λ x. (is_first packet.now ≡ true) × (x.head.identifier ≡ octet 1 packet.now) × (length x.head.rand_s.0 ≡ 16) × (length x.id_s.0 ≡ 8) × First x.head.identifier x.head.rand_s.0 x.id_s.0 packet.now)
@@ -115,7 +114,7 @@ pub(crate) struct SecondMessage {
     pub(crate) id_p: Eui,
 }
 
-#[tactic(auto, unfolding(crate::specs::Faults::is_second), using(octet_fields::proofs::Places::after_all))]
+#[tactic(auto, unfolding(crate::specs::Faults::is_second), using(plc_base::proofs::Places::after_all))]
 pub(crate) fn second_of(packet: &[u8]) -> Result<SecondMessage, EapFault>
     ensures { MatchResult result
         (λ x. (is_second packet.now ≡ true) × (x.rand_s.0 ≡ part 6 16 packet.now) × (x.rand_p.0 ≡ part 22 16 packet.now) × (x.mac_p ≡ part 38 16 packet.now) × (x.id_p.0 ≡ part 54 8 packet.now)
@@ -194,7 +193,7 @@ pub(crate) fn fourth_of(packet: &[u8]) -> Result<FourthMessage, EapFault>
 }
 
 // The grant in the plain text of a third message.
-#[tactic(auto, unfolding(crate::specs::Faults::is_granting), using(octet_fields::proofs::Places::after_none))]
+#[tactic(auto, unfolding(crate::specs::Faults::is_granting), using(plc_base::proofs::Places::after_none))]
 pub(crate) fn granting_of(text: &[u8]) -> Result<Grant, EapFault>
     ensures { MatchResult result
         (λ grant. (is_granting text.now ≡ true) × (text.now ≡ granting_text grant))

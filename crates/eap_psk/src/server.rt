@@ -1,6 +1,6 @@
 //! The coordinator's end.
 ghost use Rattle.std.specs.Prelude.{◌≡◌, ◌≤◌, ◌↔◌, ◌+◌, ◌∷◌, [], length, Some, None, IsSome, IfOk, IfSome, OnOk, OnErr, MatchResult};
-ghost use Rattle.octet_fields.specs.Fields.{after, octet, part};
+ghost use Rattle.plc_base.specs.Fields.{after, octet, part};
 ghost use Rattle.eap_psk.specs.Keys.{transient_key, mac_p};
 ghost use Rattle.eap_psk.specs.Messages.{First, Second, Third, Fourth, granting_text};
 ghost use Rattle.eap_psk.specs.Faults.{rand_p_of, second_fault, fourth_fault};
@@ -14,8 +14,7 @@ use crate::writing::{
     fourth_header, granting_text, mac_p_input, mac_s_input, third_header, write_head,
 };
 use aes_modes::cmac;
-use octet_fields::rest_at;
-use plc_base::{EapBuf, Eui, Grant, PairTag, Rand, TagList, TagText};
+use plc_base::{EapBuf, Eui, Grant, PairTag, Rand, TagList, TagText, rest_at};
 
 /// The random values of a session that both ends have shown to share.
 #[derive(Clone, Copy, Debug, PartialEq, Eq)]
@@ -158,7 +157,7 @@ impl Server {
     }
 
     // The same with RAND_P.
-    #[tactic(auto, unfolding(octet_fields::specs::Fields::octet))]
+    #[tactic(auto, unfolding(plc_base::specs::Fields::octet))]
     fn take_fourth_with(
         &self,
         rand_p: Rand,

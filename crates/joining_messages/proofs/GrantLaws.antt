@@ -3,9 +3,9 @@ use Rattle.std.proofs.Common.{◌≡◌, ℕ, ◌+◌, ◌<◌, ◌≤◌, true,
 use Rattle.std.specs.Prelude.{IfSome, MatchOption}
 use Rattle.std.proofs.lemmas.Grind.{common_steps}
 use Rattle.byteorder.specs.Endian.{big_bytes}
-use Rattle.octet_fields.specs.Fields.{octet, two}
-use Rattle.octet_fields.specs.Addresses.{IsAddress}
-use Rattle.octet_fields.proofs.Places.{fronts_same, octet_past, two_behind, two_same}
+use Rattle.plc_base.specs.Fields.{octet, two}
+use Rattle.plc_base.specs.Addresses.{IsAddress}
+use Rattle.plc_base.proofs.Places.{fronts_same, octet_past, two_behind, two_same}
 use Rattle.plc_base.specs.Grant.{Granted, IsGrant}
 use Rattle.plc_base.specs.declared.key.Key.{Key}
 use Rattle.joining_messages.specs.Grants.{IsGranted, IsPlace, SpellsGrant, grant_spelling, key_then, stands, address_stands, index_stands, sixteen_stand, head_stands, key_stands, keys_stand, is_parameter_list}

@@ -2,9 +2,9 @@
 use Rattle.std.proofs.Common.{◌≡◌, ℕ, ◌+◌, ◌<◌, ◌≤◌, List, [], ◌∷◌, ◌++◌, length, Some, None, Result, Ok, Err, refl, sym, ap, ◌∙◌, arith, length-append}
 use Rattle.std.specs.Prelude.{IfOk, MatchResult}
 use Rattle.std.proofs.lemmas.Grind.{common_steps}
-use Rattle.octet_fields.specs.Fields.{after, octet}
-use Rattle.octet_fields.specs.Faults.{cut_off}
-use Rattle.octet_fields.proofs.Places.{after_behind, fronts_same, octet_behind}
+use Rattle.plc_base.specs.Fields.{after, octet}
+use Rattle.plc_base.specs.Faults.{cut_off}
+use Rattle.plc_base.proofs.Places.{after_behind, fronts_same, octet_behind}
 use Rattle.joining_messages.specs.declared.fault.JoinFault.{JoinFault}
 use Rattle.joining_messages.specs.declared.message.JoinMessage.{JoinMessage}
 use Rattle.joining_messages.specs.declared.message.JoinBody.{JoinBody}

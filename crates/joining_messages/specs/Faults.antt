@@ -1,7 +1,7 @@
 -- The first fault of octets that are no joining message.
 use Rattle.std.specs.Prelude.{ℕ, Bool, List, length, Option, Some, None, nat_lt, slice_index, ◌==◌, ◌&&◌, ◌||◌, if◌then◌else◌}
-use Rattle.octet_fields.specs.Fields.{after, octet}
-use Rattle.octet_fields.specs.Faults.{◌then◌, ◌when◌, cut_off}
+use Rattle.plc_base.specs.Fields.{after, octet}
+use Rattle.plc_base.specs.Faults.{◌then◌, ◌when◌, cut_off}
 use Rattle.joining_messages.specs.declared.fault.JoinFault.{JoinFault}
 use Rattle.joining_messages.specs.declared.fault.JoinFaultKind.{JoinFaultKind}
 use Rattle.joining_messages.specs.declared.fault.JoinFaultKind.TheVariants.{Short, Code, Body}

@@ -1,8 +1,8 @@
 -- The parameter list of a grant, and the one spelling of each.
 use Rattle.std.specs.Prelude.{◌≡◌, ◌+◌, ℕ, Bool, false, List, [], ◌∷◌, ◌++◌, length, Option, Some, None, nat_lt, ◌==◌, ◌&&◌, if◌then◌else◌, ⊤}
 use Rattle.byteorder.specs.Endian.{big_bytes}
-use Rattle.octet_fields.specs.Addresses.{IsAddress}
-use Rattle.octet_fields.specs.Fields.{octet, two}
+use Rattle.plc_base.specs.Addresses.{IsAddress}
+use Rattle.plc_base.specs.Fields.{octet, two}
 use Rattle.plc_base.specs.Grant.{Granted, IsGrant}
 use Rattle.plc_base.specs.declared.key.Key.{Key}
 

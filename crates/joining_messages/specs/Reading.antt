@@ -1,7 +1,7 @@
 -- The joining message and the grant that stand in octets, as functions of the octets. `Spells` and `SpellsGrant` say which they
 -- are; here they are read off, for definitions that go on from them.
 use Rattle.std.specs.Prelude.{ℕ, List, length, Option, Some, None, is_some, ◌==◌, if◌then◌else◌}
-use Rattle.octet_fields.specs.Fields.{octet, two, part, after}
+use Rattle.plc_base.specs.Fields.{octet, two, part, after}
 use Rattle.plc_base.specs.Grant.{Granted}
 use Rattle.plc_base.specs.declared.key.Key.{Key}
 use Rattle.joining_messages.specs.declared.message.JoinMessage.{JoinMessage}

@@ -1,13 +1,12 @@
 //! Reads and writes the parameter list of a grant.
 ghost use Rattle.std.specs.Prelude.{ℕ, ◌≡◌, ◌≤◌, ◌<◌, ◌+◌, ◌∷◌, ◌++◌, ◌↔◌, List, [], length, true, false, IsSome, IsTrue, IfSome, MatchOption, Some, None};
 ghost use Rattle.byteorder.specs.Endian.{big_bytes};
-ghost use Rattle.octet_fields.specs.Addresses.{IsAddress};
-ghost use Rattle.octet_fields.specs.Fields.{octet, after};
+ghost use Rattle.plc_base.specs.Addresses.{IsAddress};
+ghost use Rattle.plc_base.specs.Fields.{octet, after};
 ghost use Rattle.plc_base.specs.Grant.{Granted};
 ghost use Rattle.joining_messages.specs.Grants.{IsGranted, IsPlace, SpellsGrant, grant_spelling, key_then, stands, address_stands, index_stands, sixteen_stand, head_stands, key_stands, is_parameter_list};
 
-use octet_fields::{octet_at, octets_at, two_at};
-use plc_base::{EapBuf, Grant, Key, Short};
+use plc_base::{EapBuf, Grant, Key, Short, octet_at, octets_at, two_at};
 
 // This octet, at its place.
 #[tactic(auto, unfolding(crate::specs::Grants::stands))]
@@ -54,7 +53,7 @@ fn sixteen_at(octets: &[u8], at: usize) -> Option<Key>
 }
 
 // The parameters of the address and of the active index.
-#[tactic(auto, unfolding(crate::specs::Grants::head_stands), using(octet_fields::proofs::Places::after_none))]
+#[tactic(auto, unfolding(crate::specs::Grants::head_stands), using(plc_base::proofs::Places::after_none))]
 fn head_of(octets: &[u8]) -> Option<(Short, u8)>
     ensures { MatchOption result (head_stands octets.now ≡ false)
         (λ x. (head_stands octets.now ≡ true) × IsAddress x.0 × (x.1 ≤ 1) × (x.1 ≡ octet 6 octets.now) × (octets.now ≡ 1 ∷ 2 ∷ big_bytes 2 x.0 ++ (2 ∷ 1 ∷ x.1 ∷ after 7 octets.now))) }
@@ -82,7 +81,7 @@ fn key_at(octets: &[u8], at: usize, index: u8) -> Option<Key>
 }
 
 // The grant that the octets spell, where they pass the test.
-#[tactic(auto, using(octet_fields::proofs::Places::after_all))]
+#[tactic(auto, using(plc_base::proofs::Places::after_all))]
 fn grant_of(octets: &[u8]) -> Option<Grant>
     ensures found { IfSome result (λ grant. SpellsGrant grant octets.now) }
     ensures exact { MatchOption result (is_parameter_list octets.now ≡ false) (λ grant. is_parameter_list octets.now ≡ true) }

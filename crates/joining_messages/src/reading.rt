@@ -1,16 +1,15 @@
 //! Reads joining messages.
 ghost use Rattle.std.specs.Prelude.{◌≡◌, ◌≤◌, ◌<◌, ◌+◌, ◌∷◌, ◌++◌, List, [], length, IfOk, MatchResult, Some, None, Ok};
-ghost use Rattle.octet_fields.specs.Fields.{octet, after};
+ghost use Rattle.plc_base.specs.Fields.{octet, after};
 ghost use Rattle.joining_messages.specs.Messages.{IsBody, Spells, rest_of, code_of};
 ghost use Rattle.joining_messages.specs.Faults.{code_fault, eui_fault, join_rest_fault, challenge_rest_fault, accept_rest_fault, activate_rest_fault, no_rest_fault, rest_fault, join_fault};
 ghost use Rattle.joining_messages.specs.declared.message.JoinMessage.{JoinMessage};
 
 use crate::fault::{JoinFault, JoinFaultKind, fault};
 use crate::message::{JoinBody, JoinMessage};
-use octet_fields::{octet_at, octets_at, rest_at};
-use plc_base::{EapBuf, Eui};
+use plc_base::{EapBuf, Eui, octet_at, octets_at, rest_at};
 
-#[tactic(auto, unfolding(crate::specs::Faults::code_fault, crate::specs::Faults::short, octet_fields::specs::Faults::cut_off), using(octet_fields::proofs::Places::after_none))]
+#[tactic(auto, unfolding(crate::specs::Faults::code_fault, crate::specs::Faults::short, plc_base::specs::Faults::cut_off), using(plc_base::proofs::Places::after_none))]
 fn code_at_front(octets: &[u8]) -> Result<u8, JoinFault>
     ensures { MatchResult result (λ x. (code_fault octets.now ≡ None) × (0 < x) × (x ≤ 6) × (x ≡ octet 0 octets.now) × (octets.now ≡ x ∷ after 1 octets.now))
         (λ e. code_fault octets.now ≡ Some e) }
@@ -22,7 +21,7 @@ fn code_at_front(octets: &[u8]) -> Result<u8, JoinFault>
     Ok(code)
 }
 
-#[tactic(auto, unfolding(crate::specs::Faults::eui_fault, crate::specs::Faults::short, octet_fields::specs::Faults::cut_off))]
+#[tactic(auto, unfolding(crate::specs::Faults::eui_fault, crate::specs::Faults::short, plc_base::specs::Faults::cut_off))]
 fn eui_behind_the_code(octets: &[u8]) -> Result<Eui, JoinFault>
     ensures { MatchResult result (λ x. (eui_fault octets.now ≡ None) × (9 ≤ length octets.now) × (length x.0 ≡ 8) × (after 1 octets.now ≡ x.0 ++ after 9 octets.now))
         (λ e. eui_fault octets.now ≡ Some e) }
@@ -85,7 +84,7 @@ fn activate_rest(octets: &[u8]) -> Result<u8, JoinFault>
 }
 
 // Nothing.
-#[tactic(auto, unfolding(crate::specs::Faults::no_rest_fault), using(octet_fields::proofs::Places::after_all))]
+#[tactic(auto, unfolding(crate::specs::Faults::no_rest_fault), using(plc_base::proofs::Places::after_all))]
 fn no_rest(octets: &[u8]) -> Result<(), JoinFault>
     requires { 9 ≤ length octets.now }
     ensures { MatchResult result (λ _. (no_rest_fault octets.now ≡ None) × (after 9 octets.now ≡ []))

@@ -3,7 +3,7 @@ use Rattle.std.proofs.Common.{◌≡◌, ℕ, ◌+◌, ◌≤◌, ◌<◌, Bool,
 use Rattle.std.specs.Prelude.{◌==◌, ◌||◌, if◌then◌else◌, nat_lt, nat_le, not}
 use Rattle.std.specs.Option.{option_map}
 use Rattle.std.proofs.lemmas.Bool.{ltb-false, eqb-false, or_parts}
-use Rattle.octet_fields.specs.Faults.{◌then◌, ◌when◌}
+use Rattle.plc_base.specs.Faults.{◌then◌, ◌when◌}
 use Rattle.plc_base.specs.declared.key.Key.{Key}
 use Rattle.plc_base.specs.declared.key.Rand.{Rand}
 use Rattle.plc_base.specs.Grant.{Granted}

@@ -3,13 +3,13 @@ use Rattle.std.proofs.Common.{◌≡◌, ℕ, zero, suc, ◌<◌, ◌≤◌, ◌
 use Rattle.std.specs.Prelude.{◌%◌, ◌==◌, not, IfSome, All, is_some, if◌then◌else◌, slice_index}
 use Rattle.std.proofs.lemmas.Bool.{ltb-false}
 use Rattle.std.proofs.lemmas.Option.{same_Some}
-use Rattle.octet_fields.specs.Faults.{◌then◌, ◌when◌}
+use Rattle.plc_base.specs.Faults.{◌then◌, ◌when◌}
 use Rattle.mac_frames.specs.declared.fault.FrameFault.{FrameFault}
 use Rattle.mesh_header.specs.Grammar.{spelling}
 use Rattle.plc_base.specs.declared.address.TheConstants.{PAN}
 use Rattle.byteorder.specs.Endian.{little_bytes, little_from}
-use Rattle.octet_fields.specs.Fields.{octet, little_two, little_four}
-use Rattle.octet_fields.proofs.Places.{octet_behind, little_four_behind}
+use Rattle.plc_base.specs.Fields.{octet, little_two, little_four}
+use Rattle.plc_base.proofs.Places.{octet_behind, little_four_behind}
 use Rattle.plc_base.specs.declared.address.Eui.{Eui}
 use Rattle.joining_messages.specs.declared.message.JoinMessage.{JoinMessage}
 use Rattle.mac_frames.specs.declared.head.MacHead.TheVariants as heads

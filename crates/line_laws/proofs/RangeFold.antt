@@ -6,7 +6,7 @@ use Rattle.std.specs.Option.{option_map, option_map_or, option_and_then}
 use Rattle.std.proofs.lemmas.Bool.{eqb-false}
 use Rattle.std.proofs.lemmas.Option.{same_Some, slice_get_within, get_or_from_slice_get}
 use Rattle.std.proofs.lemmas.List.Elements.{All-nil, All-head, All-tail, All-push, All-append, All-set, All-map, All-weaker, All-filter}
-use Rattle.octet_fields.specs.Addresses.{IsAddress}
+use Rattle.plc_base.specs.Addresses.{IsAddress}
 use Rattle.mac_frames.specs.Grammar.{IsTarget}
 use Rattle.plc_base.specs.Grant.{Granted}
 use Rattle.routing_set.specs.declared.rank.Rank.{Rank}

@@ -3,8 +3,8 @@ use Rattle.std.proofs.Common.{◌≡◌, ◌≢◌, ℕ, zero, suc, ◌+◌, ◌
 use Rattle.std.specs.Prelude.{◌==◌, ◌&&◌, if◌then◌else◌, is_some, nat_lt, slice_index}
 use Rattle.std.proofs.lemmas.Bool.{eqb-true, eqb-false, ltb-true, ltb-false, and_parts, or_parts}
 use Rattle.std.proofs.lemmas.List.{length-take-le, length-drop}
-use Rattle.octet_fields.specs.Faults.{◌then◌, ◌when◌, cut_off}
-use Rattle.octet_fields.specs.Fields.{octet, two, part, after}
+use Rattle.plc_base.specs.Faults.{◌then◌, ◌when◌, cut_off}
+use Rattle.plc_base.specs.Fields.{octet, two, part, after}
 use Rattle.joining_messages.specs.declared.message.JoinMessage.{JoinMessage}
 use Rattle.joining_messages.specs.declared.message.JoinBody.TheVariants as body
 use Rattle.joining_messages.specs.declared.fault.JoinFault.{JoinFault}

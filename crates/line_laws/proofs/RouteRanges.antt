@@ -3,8 +3,8 @@ use Rattle.std.proofs.Common.{◌≡◌, ◌≢◌, ℕ, ◌+◌, ◌<◌, ◌�
 use Rattle.std.specs.Prelude.{◌==◌, if◌then◌else◌, All, is_some, nat_lt, slice_index}
 use Rattle.std.proofs.lemmas.Bool.{eqb-false, ltb-false}
 use Rattle.std.proofs.lemmas.Option.{same_Some}
-use Rattle.octet_fields.specs.Faults.{◌then◌}
-use Rattle.octet_fields.specs.Fields.{two, octet, after}
+use Rattle.plc_base.specs.Faults.{◌then◌}
+use Rattle.plc_base.specs.Fields.{two, octet, after}
 use Rattle.loadng_messages.specs.declared.message.Message.{Message}
 use Rattle.loadng_messages.specs.declared.message.Message.TheVariants.{Rreq, Rrep, Rerr}
 use Rattle.loadng_messages.specs.declared.fault.MessageFault.{MessageFault}

@@ -1,6 +1,6 @@
 -- What flights are: each sealed one is the spelling of a letter in its ranges, each other one a plain frame.
 use Rattle.std.specs.Prelude.{◌≡◌, ℕ, ◌+◌, ◌<◌, ◌≤◌, ◌^◌, All, List, length, Some, None, ⊤}
-use Rattle.octet_fields.specs.Addresses.{IsAddress}
+use Rattle.plc_base.specs.Addresses.{IsAddress}
 use Rattle.plc_base.specs.declared.key.Key.{Key}
 use Rattle.mac_frames.specs.declared.head.MacHead.{MacHead}
 use Rattle.mac_frames.specs.Grammar.{IsTarget, header}

@@ -1,6 +1,6 @@
 -- What a node sends is in the ranges of what it spells.
 use Rattle.std.specs.Prelude.{◌<◌, ◌≤◌, ◌^◌, All, length, IfSome}
-use Rattle.octet_fields.specs.Addresses.{IsAddress}
+use Rattle.plc_base.specs.Addresses.{IsAddress}
 use Rattle.mac_frames.specs.Grammar.{IsTarget}
 use Rattle.routing_set.specs.declared.entry.RoutingEntry.{RoutingEntry}
 use Rattle.routing_set.specs.declared.entry.Route.{Route}

@@ -6,9 +6,8 @@ ghost use Rattle.mac_frames.specs.Faults.{frame_fault};
 use crate::reading::{LINE_OCTETS, hex_octets};
 use crate::report::{Reason, refuse};
 use line_driver::{Exit, LineKind, LineMachine, tell};
-use line_world::OctetRef;
 use mac_frames::{FrameFault, FrameFaultKind, MacHead, read_frame};
-use plc_base::{Eui, Sink};
+use plc_base::{Eui, OctetRef, OctetRef, Sink};
 use std::alloc::{AllocError, Global};
 use std::marker::Model;
 

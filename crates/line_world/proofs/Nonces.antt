@@ -1,6 +1,6 @@
 -- No two flights have one nonce: the addresses of nodes differ, and the counters of one node.
 use Rattle.std.proofs.Common.{◌≡◌, ℕ, ◌/◌, ◌%◌, ◌^◌, ◌<◌, List, Some, sym, ◌∙◌, ap, arith}
-use Rattle.octet_fields.proofs.Places.{two_same}
+use Rattle.plc_base.proofs.Places.{two_same}
 use Rattle.mac_frames.specs.declared.head.MacHead.TheVariants.{Sealed}
 use Rattle.mac_frames.specs.Sealing.{nonce, nonce_of}
 use Rattle.mac_frames.proofs.Values.{one_value}

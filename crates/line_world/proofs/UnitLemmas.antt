@@ -6,8 +6,8 @@ use Rattle.std.specs.Bool.{Decides}
 use Rattle.std.proofs.lemmas.Bool.Decides.{Decides-and, Decides-like, Decides-ltb}
 use Rattle.std.proofs.lemmas.Slice.Eq.{bytes_eq-Decides}
 use Rattle.byteorder.specs.Endian.{big_bytes}
-use Rattle.octet_fields.specs.Fields.{octet, two, after}
-use Rattle.octet_fields.proofs.Places.{octet_behind, two_behind, after_behind}
+use Rattle.plc_base.specs.Fields.{octet, two, after}
+use Rattle.plc_base.proofs.Places.{octet_behind, two_behind, after_behind}
 use Rattle.mesh_header.specs.declared.unit.Mesh.{Mesh}
 use Rattle.mesh_header.specs.declared.unit.Unit.TheVariants.{Whole}
 use Rattle.mesh_header.specs.Grammar.{Spells, spelling}

@@ -1,7 +1,7 @@
 -- The whole datagram that the octets of a unit are.
 use Rattle.std.specs.Prelude.{ℕ, ◌+◌, ◌-◌, ◌&&◌, Bool, List, length, Option, Some, None, if◌then◌else◌, nat_lt}
 use Rattle.std.specs.Str.{bytes_eq}
-use Rattle.octet_fields.specs.Fields.{octet, two, after}
+use Rattle.plc_base.specs.Fields.{octet, two, after}
 use Rattle.mesh_header.specs.declared.unit.Unit.TheVariants.{Whole}
 use Rattle.mesh_header.specs.Grammar.{spelling}
 use Rattle.line_world.specs.declared.hearing.WholeUnit.{WholeUnit}

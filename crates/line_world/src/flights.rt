@@ -4,9 +4,9 @@ ghost use Rattle.std.specs.Option.{option_map};
 ghost use Rattle.line_world.specs.Buckets.{bucket_of, flight_of};
 ghost use Rattle.line_world.specs.Flights.{is_same, is_under};
 
+use crate::Flight;
 use crate::chains::{CHAINS, Chains};
-use crate::{Flight, OctetRef};
-use plc_base::{FrameBuf, Key};
+use plc_base::{FrameBuf, Key, OctetRef};
 use std::alloc::{AllocError, Global};
 use std::marker::Model;
 

@@ -6,9 +6,9 @@ ghost use Rattle.line_world.specs.Units.{whole_in};
 
 use crate::opening::{ALL, Opened};
 use crate::world::World;
-use crate::{Answer, Handed, Happenings, OctetRef, StepFault};
+use crate::{Answer, Handed, Happenings, StepFault};
 use mesh_header::{Mesh, Unit, read_unit};
-use plc_base::FrameBuf;
+use plc_base::{FrameBuf, OctetRef};
 
 /// A whole datagram with its mesh header.
 #[derive(Drop)]

@@ -14,7 +14,7 @@ mod setup;
 mod tests;
 mod world;
 
-pub use event::{Answer, Event, Handed, Happenings, OctetRef, StepFault};
+pub use event::{Answer, Event, Handed, Happenings, StepFault};
 pub use hearing::WholeUnit;
 pub use laws::{
     addresses_differ, counters_only_rise, counts_are_right, every_run_is_safe,

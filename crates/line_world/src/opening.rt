@@ -7,12 +7,12 @@ ghost use Rattle.frame_counters.specs.PeerMarks.{room_for, mark_of};
 ghost use Rattle.line_world.specs.Nodes.{is_own};
 ghost use Rattle.line_world.specs.Opening.{is_for, has_tag, mark_fault, opening, opening_head};
 
+use crate::Answer;
 use crate::node::Node;
-use crate::{Answer, OctetRef};
 use aes_modes::Aes;
 use frame_counters::PeerFault;
 use mac_frames::{MacHead, RawFrame, open_frame, read_frame};
-use plc_base::{FrameBuf, Key, PAN, Short};
+use plc_base::{FrameBuf, Key, OctetRef, PAN, Short};
 
 /// The short address of all nodes.
 pub const ALL: u16 = 0xFFFF;

@@ -3,11 +3,11 @@ ghost use Rattle.std.specs.Prelude.{◌≡◌, false, ◌<◌, ◌≤◌, length
 ghost use Rattle.line_world.specs.Sending.{frame_of, sealing_key, unit_of, goes_whole};
 
 use crate::world::World;
-use crate::{Answer, Flight, Happenings, OctetRef, StepFault};
+use crate::{Answer, Flight, Happenings, StepFault};
 use aes_modes::Aes;
 use mac_frames::{MacHead, seal_frame};
 use mesh_header::{Mesh, Unit, write_unit};
-use plc_base::{FrameBuf, Grant, Key, PAN, Short};
+use plc_base::{FrameBuf, Grant, Key, OctetRef, PAN, Short};
 
 /// The longest datagram that goes out whole, in octets.
 const MAX_WHOLE: usize = 375;

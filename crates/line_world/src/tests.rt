@@ -1,8 +1,8 @@
 //! What short lines come to, event by event.
-use crate::{Answer, Counts, Event, Happenings, OctetRef, StepFault, World};
+use crate::{Answer, Counts, Event, Happenings, StepFault, World};
 use aes_modes::Aes;
 use mac_frames::{MacHead, seal_frame};
-use plc_base::{Eui, FrameBuf, Key, LinkCost, PAN, Short};
+use plc_base::{Eui, FrameBuf, Key, LinkCost, OctetRef, PAN, Short};
 use std::alloc::Global;
 use std::test::Fail;
 

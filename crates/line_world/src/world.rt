@@ -3,8 +3,8 @@ ghost use Rattle.std.specs.Prelude.{◌≡◌, ◌<◌, ◌≤◌, length};
 
 use crate::flights::Flights;
 use crate::node::Node;
-use crate::{Event, Happenings, OctetRef, StepFault};
-use plc_base::{FrameBuf, Key};
+use crate::{Event, Happenings, StepFault};
+use plc_base::{FrameBuf, Key, OctetRef};
 use std::alloc::Global;
 use std::marker::Model;
 

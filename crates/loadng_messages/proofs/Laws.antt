@@ -3,9 +3,9 @@ use Rattle.std.proofs.Common.{◌≡◌, ℕ, ◌+◌, ◌≤◌, List, [], ◌�
 use Rattle.std.specs.Prelude.{IfOk, MatchResult}
 use Rattle.byteorder.specs.Endian.{big_bytes}
 use Rattle.std.proofs.lemmas.Grind.{common_steps}
-use Rattle.octet_fields.specs.Addresses.{IsAddress}
-use Rattle.octet_fields.specs.Faults.{cut_off}
-use Rattle.octet_fields.proofs.Places.{octet_behind, two_behind, two_within, two_same}
+use Rattle.plc_base.specs.Addresses.{IsAddress}
+use Rattle.plc_base.specs.Faults.{cut_off}
+use Rattle.plc_base.proofs.Places.{octet_behind, two_behind, two_within, two_same}
 use Rattle.loadng_messages.specs.declared.fault.MessageFault.{MessageFault}
 use Rattle.loadng_messages.specs.declared.message.Message.{Message}
 use Rattle.loadng_messages.specs.declared.message.Message.TheVariants.{Rreq, Rrep, Rerr}

@@ -1,7 +1,7 @@
 -- The first fault of octets that are no route message.
 use Rattle.std.specs.Prelude.{ℕ, ◌+◌, List, length, Option, Some, nat_lt, ◌==◌, if◌then◌else◌}
-use Rattle.octet_fields.specs.Fields.{octet, two}
-use Rattle.octet_fields.specs.Faults.{◌then◌, ◌when◌, cut_off}
+use Rattle.plc_base.specs.Fields.{octet, two}
+use Rattle.plc_base.specs.Faults.{◌then◌, ◌when◌, cut_off}
 use Rattle.loadng_messages.specs.declared.fault.MessageFault.{MessageFault}
 use Rattle.loadng_messages.specs.declared.fault.MessageFaultKind.{MessageFaultKind}
 use Rattle.loadng_messages.specs.declared.fault.MessageFaultKind.TheVariants.{Kind, Short, Zero, Address, Long}

@@ -1,7 +1,7 @@
 -- What route messages are, and the one spelling of each.
 use Rattle.std.specs.Prelude.{◌≡◌, ◌<◌, ◌^◌, ℕ, List, ◌∷◌, ◌++◌, ⊤}
 use Rattle.byteorder.specs.Endian.{big_bytes}
-use Rattle.octet_fields.specs.Addresses.{IsAddress}
+use Rattle.plc_base.specs.Addresses.{IsAddress}
 use Rattle.loadng_messages.specs.declared.message.Message.{Message}
 use Rattle.loadng_messages.specs.declared.message.Message.TheVariants.{Rreq, Rrep, Rerr}
 

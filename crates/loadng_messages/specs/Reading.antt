@@ -1,7 +1,7 @@
 -- The route message that stands in octets, as a function of the octets. `Spells` says which it is; here it is read off, for
 -- definitions that go on from it.
 use Rattle.std.specs.Prelude.{ℕ, List, Option, Some, None, is_some, ◌==◌, if◌then◌else◌}
-use Rattle.octet_fields.specs.Fields.{octet, two}
+use Rattle.plc_base.specs.Fields.{octet, two}
 use Rattle.loadng_messages.specs.declared.message.Message.{Message}
 use Rattle.loadng_messages.specs.declared.message.Message.TheVariants.{Rreq, Rrep, Rerr}
 use Rattle.loadng_messages.specs.Faults.{message_fault}

@@ -1,7 +1,7 @@
 //! Why octets are no route message.
 ghost use Rattle.std.specs.Prelude.{◌≡◌};
 
-use octet_fields::Ended;
+use plc_base::Ended;
 use thiserror::Error;
 
 /// What is wrong, at the first place from the left where something is.

@@ -1,18 +1,17 @@
 //! Reads route messages.
 ghost use Rattle.std.specs.Prelude.{◌≡◌, ◌≤◌, ◌<◌, ◌+◌, ◌∷◌, List, [], length, IfOk, MatchResult, Some, None, Ok};
 ghost use Rattle.byteorder.specs.Endian.{big_bytes};
-ghost use Rattle.octet_fields.specs.Fields.{Stands, octet, after};
-ghost use Rattle.octet_fields.specs.Addresses.{IsAddress};
+ghost use Rattle.plc_base.specs.Fields.{Stands, octet, after};
+ghost use Rattle.plc_base.specs.Addresses.{IsAddress};
 ghost use Rattle.loadng_messages.specs.Grammar.{IsNumber, IsMessage, Spells};
 ghost use Rattle.loadng_messages.specs.declared.message.Message.{Message};
 ghost use Rattle.loadng_messages.specs.Faults.{short, number_fault, address_fault, long, message_fault};
 
 use crate::fault::{MessageFault, MessageFaultKind, fault};
 use crate::message::Message;
-use octet_fields::{octet_at, two_at};
-use plc_base::Short;
+use plc_base::{Short, octet_at, two_at};
 
-#[tactic(auto, unfolding(crate::specs::Faults::short, octet_fields::specs::Faults::cut_off), using(octet_fields::proofs::Places::after_none))]
+#[tactic(auto, unfolding(crate::specs::Faults::short, plc_base::specs::Faults::cut_off), using(plc_base::proofs::Places::after_none))]
 fn kind_of(octets: &[u8]) -> Result<u8, MessageFault>
     ensures { MatchResult result (λ x. (short 1 octets.now ≡ None) × (x ≡ octet 0 octets.now) × (octets.now ≡ x ∷ after 1 octets.now))
         (λ e. short 1 octets.now ≡ Some e) }
@@ -20,7 +19,7 @@ fn kind_of(octets: &[u8]) -> Result<u8, MessageFault>
     Ok(octet_at(octets, 0)?)
 }
 
-#[tactic(auto, unfolding(crate::specs::Faults::short, octet_fields::specs::Faults::cut_off))]
+#[tactic(auto, unfolding(crate::specs::Faults::short, plc_base::specs::Faults::cut_off))]
 fn cost_at(octets: &[u8], at: usize) -> Result<u16, MessageFault>
     requires { at ≤ 9 }
     ensures { MatchResult result (λ x. (short (at + 2) octets.now ≡ None) × Stands (big_bytes 2 x) at octets.now)
@@ -29,7 +28,7 @@ fn cost_at(octets: &[u8], at: usize) -> Result<u16, MessageFault>
     Ok(two_at(octets, at)?)
 }
 
-#[tactic(auto, unfolding(crate::specs::Faults::number_fault, crate::specs::Faults::short, octet_fields::specs::Faults::cut_off))]
+#[tactic(auto, unfolding(crate::specs::Faults::number_fault, crate::specs::Faults::short, plc_base::specs::Faults::cut_off))]
 fn number_at(octets: &[u8], at: usize) -> Result<u16, MessageFault>
     requires { at ≤ 9 }
     ensures { MatchResult result (λ x. (number_fault at octets.now ≡ None) × IsNumber x × Stands (big_bytes 2 x) at octets.now)
@@ -42,7 +41,7 @@ fn number_at(octets: &[u8], at: usize) -> Result<u16, MessageFault>
     Ok(number)
 }
 
-#[tactic(auto, unfolding(crate::specs::Faults::address_fault, crate::specs::Faults::short, octet_fields::specs::Faults::cut_off))]
+#[tactic(auto, unfolding(crate::specs::Faults::address_fault, crate::specs::Faults::short, plc_base::specs::Faults::cut_off))]
 fn address_at(octets: &[u8], at: usize) -> Result<Short, MessageFault>
     requires { at ≤ 9 }
     ensures { MatchResult result (λ x. (address_fault at octets.now ≡ None) × IsAddress x × Stands (big_bytes 2 x) at octets.now)
@@ -54,7 +53,7 @@ fn address_at(octets: &[u8], at: usize) -> Result<Short, MessageFault>
     }
 }
 
-#[tactic(auto, unfolding(crate::specs::Faults::long), using(octet_fields::proofs::Places::after_all))]
+#[tactic(auto, unfolding(crate::specs::Faults::long), using(plc_base::proofs::Places::after_all))]
 fn end_at(octets: &[u8], end: usize) -> Result<(), MessageFault>
     requires { end ≤ 9 }
     ensures { MatchResult result (λ x. (long end octets.now ≡ None) × (after end octets.now ≡ []))

@@ -3,8 +3,8 @@ use Rattle.std.proofs.Common.{◌≡◌, ℕ, ◌<◌, ◌≤◌, List, length, 
 use Rattle.std.proofs.lemmas.Bool.{cases_eq, eq-eqb, ne_eqb}
 use Rattle.mac_frames.specs.Grammar.{low_control}
 use Rattle.std.proofs.lemmas.Grind.{common_steps}
-use Rattle.octet_fields.specs.Fields.{octet}
-use Rattle.octet_fields.specs.Faults.{cut_off}
+use Rattle.plc_base.specs.Fields.{octet}
+use Rattle.plc_base.specs.Faults.{cut_off}
 use Rattle.mac_frames.specs.Faults.{bits, low_fault, short}
 
 pub low_is : (x : ℕ) → x < 256 → bits 0 3 x ≡ 1 → bits 4 1 x ≡ 0 → bits 7 1 x ≡ 0 → bits 6 1 x ≡ 1

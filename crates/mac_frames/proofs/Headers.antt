@@ -3,7 +3,7 @@ use Rattle.std.proofs.Common.{◌≡◌, ℕ, List, [], ◌++◌, length, take, 
 use Rattle.std.proofs.Math.Seq.{take-append_seam, drop-append_seam}
 use Rattle.std.proofs.lemmas.List.{length-append, length-reverse, append_assoc, append-nil}
 use Rattle.byteorder.specs.Endian.{little_bytes}
-use Rattle.octet_fields.specs.Fields.{after}
+use Rattle.plc_base.specs.Fields.{after}
 use Rattle.mac_frames.specs.declared.head.MacHead.{MacHead}
 use Rattle.mac_frames.specs.declared.head.MacHead.TheVariants.{Sealed, Up, Down}
 use Rattle.mac_frames.specs.Grammar.{IsHead, header, header_then}

@@ -4,8 +4,8 @@ use Rattle.std.specs.Prelude.{IfOk}
 use Rattle.std.proofs.lemmas.List.{length-append, length-reverse, reverse-reverse, append_assoc}
 use Rattle.std.proofs.Math.Seq.{take-append_seam}
 use Rattle.byteorder.specs.Endian.{little_bytes}
-use Rattle.octet_fields.specs.Fields.{octet, little_two, little_four, part, after}
-use Rattle.octet_fields.proofs.Places.{octet_behind, little_two_behind, little_four_behind, after_behind}
+use Rattle.plc_base.specs.Fields.{octet, little_two, little_four, part, after}
+use Rattle.plc_base.proofs.Places.{octet_behind, little_two_behind, little_four_behind, after_behind}
 use Rattle.plc_base.specs.declared.address.Eui.{Eui}
 use Rattle.mac_frames.specs.declared.fault.FrameFault.{FrameFault}
 use Rattle.mac_frames.specs.declared.head.MacHead.{MacHead}

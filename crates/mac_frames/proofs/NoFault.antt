@@ -3,9 +3,9 @@ use Rattle.std.proofs.Common.{◌≡◌, ◌≢◌, ℕ, zero, suc, ◌+◌, ◌
 use Rattle.std.proofs.lemmas.Grind.{common_steps}
 use Rattle.std.proofs.lemmas.List.{length-append, length-reverse}
 use Rattle.byteorder.specs.Endian.{little_bytes}
-use Rattle.octet_fields.specs.Fields.{octet, little_two}
-use Rattle.octet_fields.specs.Faults.{cut_off}
-use Rattle.octet_fields.proofs.Places.{little_two_behind}
+use Rattle.plc_base.specs.Fields.{octet, little_two}
+use Rattle.plc_base.specs.Faults.{cut_off}
+use Rattle.plc_base.proofs.Places.{little_two_behind}
 use Rattle.plc_base.specs.declared.address.Eui.{Eui}
 use Rattle.mac_frames.specs.declared.head.MacHead.{MacHead}
 use Rattle.mac_frames.specs.declared.head.MacHead.TheVariants.{Sealed, Up, Down}

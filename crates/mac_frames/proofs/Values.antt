@@ -5,7 +5,7 @@ use Rattle.std.proofs.Math.Seq.{take-append_seam, drop-append_seam}
 use Rattle.std.proofs.lemmas.Bool.{true≢false}
 use Rattle.std.proofs.lemmas.List.{length-reverse, reverse-reverse}
 use Rattle.byteorder.specs.Endian.{little_bytes}
-use Rattle.octet_fields.proofs.Places.{two_same}
+use Rattle.plc_base.proofs.Places.{two_same}
 use Rattle.plc_base.specs.declared.address.Eui.{Eui}
 use Rattle.mac_frames.specs.declared.fault.FrameFault.{FrameFault}
 use Rattle.mac_frames.specs.declared.reading.RawFrame.{RawFrame}

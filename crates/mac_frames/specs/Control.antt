@@ -1,7 +1,7 @@
 -- What the code reads of the frame control, for the clauses of its private functions. No public clause
 -- names what stands here.
 use Rattle.std.specs.Prelude.{◌≡◌, ℕ, true, false, List}
-use Rattle.octet_fields.specs.Fields.{octet}
+use Rattle.plc_base.specs.Fields.{octet}
 use Rattle.mac_frames.specs.Faults.{is_sealed, has_modes}
 use Rattle.mac_frames.specs.declared.control.FrameKind.{FrameKind}
 use Rattle.mac_frames.specs.declared.control.FrameKind.TheVariants.{Sealed, Up, Down}

@@ -1,7 +1,7 @@
 -- The first fault of octets that are no MAC frame.
 use Rattle.std.specs.Prelude.{ℕ, ◌+◌, ◌/◌, ◌%◌, ◌^◌, Bool, not, List, length, Option, Some, nat_lt, ◌==◌, ◌&&◌, ◌||◌, if◌then◌else◌}
-use Rattle.octet_fields.specs.Fields.{octet, little_two}
-use Rattle.octet_fields.specs.Faults.{◌then◌, ◌when◌, cut_off}
+use Rattle.plc_base.specs.Fields.{octet, little_two}
+use Rattle.plc_base.specs.Faults.{◌then◌, ◌when◌, cut_off}
 use Rattle.mac_frames.specs.declared.fault.FrameFault.{FrameFault}
 use Rattle.mac_frames.specs.declared.fault.FrameFaultKind.{FrameFaultKind}
 use Rattle.mac_frames.specs.declared.fault.FrameFaultKind.TheVariants.{Short, Kind, Mode, Level, Long, Address}

@@ -1,7 +1,7 @@
 -- The head and the body that stand in the octets of a frame, as a function of the octets. `Frame` says which they are; here they
 -- are read off, for definitions that go on from them.
 use Rattle.std.specs.Prelude.{ℕ, Bool, true, false, List, reverse, ◌==◌}
-use Rattle.octet_fields.specs.Fields.{octet, little_two, little_four, part, after}
+use Rattle.plc_base.specs.Fields.{octet, little_two, little_four, part, after}
 use Rattle.mac_frames.specs.declared.head.MacHead.{MacHead}
 use Rattle.mac_frames.specs.declared.head.MacHead.TheVariants.{Sealed, Up, Down}
 use Rattle.mac_frames.specs.Faults.{bits, is_sealed, has_modes}

@@ -1,12 +1,12 @@
 //! The frame control: the first two octets of a header (IEEE 802.15.4-2006, section 7.2.1.1).
 ghost use Rattle.std.specs.Prelude.{◌≡◌, ◌≤◌, ◌<◌, ◌+◌, ◌∷◌, List, [], length, MatchResult, Some, None};
-ghost use Rattle.octet_fields.specs.Fields.{after};
+ghost use Rattle.plc_base.specs.Fields.{after};
 ghost use Rattle.mac_frames.specs.Grammar.{high_control, low_control};
 ghost use Rattle.mac_frames.specs.Faults.{bits, high_fault, is_sealed, low_fault};
 ghost use Rattle.mac_frames.specs.Control.{IsOfKind, sender_mode, target_mode};
 
 use crate::fault::{FrameFault, FrameFaultKind, fault};
-use octet_fields::octet_at;
+use plc_base::octet_at;
 
 /// The kinds of frame, by what their frame control says.
 #[derive(Clone, Copy)]
@@ -27,7 +27,7 @@ fn bits(octet: u8, first: u32, count: u32) -> u8
 }
 
 /// Whether the frame is sealed, and whether it asks for an acknowledgement, by octet 0.
-#[tactic(auto, unfolding(crate::specs::Faults::low_fault, crate::specs::Faults::short, octet_fields::specs::Faults::cut_off))]
+#[tactic(auto, unfolding(crate::specs::Faults::low_fault, crate::specs::Faults::short, plc_base::specs::Faults::cut_off))]
 pub(crate) fn low_of(octets: &[u8]) -> Result<(bool, bool), FrameFault>
     ensures { MatchResult result (λ x. (low_fault octets.now ≡ None) × (x.0 ≡ is_sealed octets.now) × (1 ≤ length octets.now) × (octets.now ≡ low_control x.0 x.1 ∷ after 1 octets.now))
         (λ e. low_fault octets.now ≡ Some e) }
@@ -43,7 +43,7 @@ pub(crate) fn low_of(octets: &[u8]) -> Result<(bool, bool), FrameFault>
 }
 
 /// The kind of frame and its version, by octet 1.
-#[tactic(auto, unfolding(crate::specs::Faults::high_fault, crate::specs::Faults::short, octet_fields::specs::Faults::cut_off))]
+#[tactic(auto, unfolding(crate::specs::Faults::high_fault, crate::specs::Faults::short, plc_base::specs::Faults::cut_off))]
 pub(crate) fn high_of(octets: &[u8], sealed: bool) -> Result<(FrameKind, u8), FrameFault>
     requires { sealed ≡ is_sealed octets.now }
     ensures { MatchResult result (λ x. (high_fault octets.now ≡ None) × IsOfKind x.0 x.1 octets.now × (x.1 ≤ 1) × (2 ≤ length octets.now) × (after 1 octets.now ≡ high_control (target_mode x.0) x.1 (sender_mode x.0) ∷ after 2 octets.now))

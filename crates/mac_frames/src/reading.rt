@@ -1,8 +1,8 @@
 //! Reads frames.
 ghost use Rattle.std.specs.Prelude.{◌≡◌, ◌≤◌, ◌<◌, ◌≢◌, ◌^◌, ◌+◌, ◌∷◌, ◌++◌, ℕ, List, [], true, false, length, take, reverse, IfOk, IsOkAnd, MatchResult, Some, None, Ok};
 ghost use Rattle.byteorder.specs.Endian.{little_bytes};
-ghost use Rattle.octet_fields.specs.Fields.{after, little_two};
-ghost use Rattle.octet_fields.specs.Addresses.{IsAddress};
+ghost use Rattle.plc_base.specs.Fields.{after, little_two};
+ghost use Rattle.plc_base.specs.Addresses.{IsAddress};
 ghost use Rattle.mac_frames.specs.Reading.{head_in, body_in};
 ghost use Rattle.mac_frames.specs.Grammar.{Frame, IsBody, IsHead, IsTarget, header, header_then, high_control, low_control};
 ghost use Rattle.mac_frames.specs.Faults.{down_fault, fields_fault, frame_fault, index_fault, level_fault, sealed_fault, sender_fault, target_fault, up_fault};
@@ -11,8 +11,7 @@ ghost use Rattle.mac_frames.specs.declared.head.MacHead.{MacHead};
 use crate::control::{FrameKind, high_of, low_of};
 use crate::fault::{FrameFault, FrameFaultKind, fault};
 use crate::head::MacHead;
-use octet_fields::{little_four_at, little_two_at, octet_at, reversed_at};
-use plc_base::{Eui, Short};
+use plc_base::{Eui, Short, little_four_at, little_two_at, octet_at, reversed_at};
 
 /// A frame that was read, over the octets that it was read from.
 #[derive(Clone, Copy, Debug)]
@@ -25,7 +24,7 @@ pub struct RawFrame<'a> {
     pub body: &'a [u8],
 }
 
-#[tactic(auto, unfolding(crate::specs::Faults::target_fault, crate::specs::Faults::short, octet_fields::specs::Faults::cut_off))]
+#[tactic(auto, unfolding(crate::specs::Faults::target_fault, crate::specs::Faults::short, plc_base::specs::Faults::cut_off))]
 fn target_at(octets: &[u8], at: usize) -> Result<u16, FrameFault>
     requires { at ≤ 100 }
     ensures { MatchResult result (λ x. (target_fault at octets.now ≡ None) × IsTarget x × (at + 2 ≤ length octets.now) × (after at octets.now ≡ little_bytes 2 x ++ after (at + 2) octets.now))
@@ -38,7 +37,7 @@ fn target_at(octets: &[u8], at: usize) -> Result<u16, FrameFault>
     Ok(to)
 }
 
-#[tactic(auto, unfolding(crate::specs::Faults::sender_fault, crate::specs::Faults::short, octet_fields::specs::Faults::cut_off))]
+#[tactic(auto, unfolding(crate::specs::Faults::sender_fault, crate::specs::Faults::short, plc_base::specs::Faults::cut_off))]
 fn sender_at(octets: &[u8], at: usize) -> Result<Short, FrameFault>
     requires { at ≤ 100 }
     ensures { MatchResult result (λ x. (sender_fault at octets.now ≡ None) × IsAddress x × (at + 2 ≤ length octets.now) × (after at octets.now ≡ little_bytes 2 x ++ after (at + 2) octets.now))
@@ -51,7 +50,7 @@ fn sender_at(octets: &[u8], at: usize) -> Result<Short, FrameFault>
 }
 
 // The security control: level 5 and key identifier mode 1.
-#[tactic(auto, unfolding(crate::specs::Faults::level_fault, crate::specs::Faults::short, octet_fields::specs::Faults::cut_off))]
+#[tactic(auto, unfolding(crate::specs::Faults::level_fault, crate::specs::Faults::short, plc_base::specs::Faults::cut_off))]
 fn level_at(octets: &[u8], at: usize) -> Result<(), FrameFault>
     requires { at ≤ 100 }
     ensures { MatchResult result (λ _. (level_fault at octets.now ≡ None) × (at + 1 ≤ length octets.now) × (after at octets.now ≡ 0x0D ∷ after (at + 1) octets.now))
@@ -63,7 +62,7 @@ fn level_at(octets: &[u8], at: usize) -> Result<(), FrameFault>
     Ok(())
 }
 
-#[tactic(auto, unfolding(crate::specs::Faults::index_fault, crate::specs::Faults::short, octet_fields::specs::Faults::cut_off))]
+#[tactic(auto, unfolding(crate::specs::Faults::index_fault, crate::specs::Faults::short, plc_base::specs::Faults::cut_off))]
 fn index_at(octets: &[u8], at: usize) -> Result<u8, FrameFault>
     requires { at ≤ 100 }
     ensures { MatchResult result (λ x. (index_fault at octets.now ≡ None) × (x ≤ 1) × (at + 1 ≤ length octets.now) × (after at octets.now ≡ x ∷ after (at + 1) octets.now))
@@ -77,7 +76,7 @@ fn index_at(octets: &[u8], at: usize) -> Result<u8, FrameFault>
 }
 
 // The head of a sealed frame, behind its PAN id, where a tag follows it.
-#[tactic(auto, unfolding(crate::specs::Faults::sealed_fault, crate::specs::Faults::short, octet_fields::specs::Faults::cut_off))]
+#[tactic(auto, unfolding(crate::specs::Faults::sealed_fault, crate::specs::Faults::short, plc_base::specs::Faults::cut_off))]
 fn sealed_of(octets: &[u8], ack: bool, seq: u8, pan: u16) -> Result<MacHead, FrameFault>
     requires { octets.now ≡ low_control true ack ∷ high_control 2 1 2 ∷ seq ∷ little_bytes 2 pan ++ after 5 octets.now }
     ensures { MatchResult result (λ head. (sealed_fault octets.now ≡ None) × IsHead head × (19 ≤ length octets.now) × (octets.now ≡ header_then head (after 15 octets.now)) × IsBody head (after 15 octets.now))
@@ -103,7 +102,7 @@ fn sealed_of(octets: &[u8], ack: bool, seq: u8, pan: u16) -> Result<MacHead, Fra
 }
 
 // The head of a plain frame from a device without a short address, behind its PAN id.
-#[tactic(auto, unfolding(crate::specs::Faults::up_fault, crate::specs::Faults::short, octet_fields::specs::Faults::cut_off))]
+#[tactic(auto, unfolding(crate::specs::Faults::up_fault, crate::specs::Faults::short, plc_base::specs::Faults::cut_off))]
 fn up_of(octets: &[u8], ack: bool, version: u8, seq: u8, pan: u16) -> Result<MacHead, FrameFault>
     requires version { version ≤ 1 }
     requires there { octets.now ≡ low_control false ack ∷ high_control 2 version 3 ∷ seq ∷ little_bytes 2 pan ++ after 5 octets.now }
@@ -123,7 +122,7 @@ fn up_of(octets: &[u8], ack: bool, version: u8, seq: u8, pan: u16) -> Result<Mac
 }
 
 // The head of a plain frame to a device without a short address, behind its PAN id.
-#[tactic(auto, unfolding(crate::specs::Faults::down_fault, crate::specs::Faults::short, octet_fields::specs::Faults::cut_off))]
+#[tactic(auto, unfolding(crate::specs::Faults::down_fault, crate::specs::Faults::short, plc_base::specs::Faults::cut_off))]
 fn down_of(octets: &[u8], ack: bool, version: u8, seq: u8, pan: u16) -> Result<MacHead, FrameFault>
     requires version { version ≤ 1 }
     requires there { octets.now ≡ low_control false ack ∷ high_control 3 version 2 ∷ seq ∷ little_bytes 2 pan ++ after 5 octets.now }
@@ -143,7 +142,7 @@ fn down_of(octets: &[u8], ack: bool, version: u8, seq: u8, pan: u16) -> Result<M
 }
 
 // The head, or the first fault of a field.
-#[tactic(auto, unfolding(crate::specs::Faults::fields_fault, crate::specs::Faults::short, octet_fields::specs::Faults::cut_off))]
+#[tactic(auto, unfolding(crate::specs::Faults::fields_fault, crate::specs::Faults::short, plc_base::specs::Faults::cut_off))]
 fn head_of(octets: &[u8]) -> Result<MacHead, FrameFault>
     ensures { MatchResult result (λ head. (fields_fault octets.now ≡ None) × IsHead head × (15 ≤ length octets.now) × (octets.now ≡ header_then head (after 15 octets.now)) × IsBody head (after 15 octets.now))
         (λ e. fields_fault octets.now ≡ Some e) }

@@ -3,9 +3,9 @@ use Rattle.std.proofs.Common.{◌≡◌, ℕ, ◌+◌, ◌-◌, ◌*◌, ◌/◌
 use Rattle.std.proofs.lemmas.Bool.{cases_lt}
 use Rattle.byteorder.specs.Endian.{big_bytes}
 use Rattle.std.proofs.lemmas.Grind.{common_steps}
-use Rattle.octet_fields.specs.Fields.{octet, two}
-use Rattle.octet_fields.specs.Faults.{cut_off}
-use Rattle.octet_fields.proofs.Places.{octet_past, octet_behind, two_behind}
+use Rattle.plc_base.specs.Fields.{octet, two}
+use Rattle.plc_base.specs.Faults.{cut_off}
+use Rattle.plc_base.proofs.Places.{octet_past, octet_behind, two_behind}
 use Rattle.mesh_header.specs.declared.unit.Mesh.{Mesh}
 use Rattle.mesh_header.specs.Pieces.{Placed, IsPiece}
 use Rattle.mesh_header.specs.declared.unit.Unit.{Unit}

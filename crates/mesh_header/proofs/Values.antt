@@ -3,7 +3,7 @@ use Rattle.std.proofs.Common.{◌≡◌, ℕ, ◌+◌, ◌/◌, ◌%◌, ◌<◌
 use Rattle.std.specs.Prelude.{IfOk, MatchResult}
 use Rattle.std.proofs.lemmas.Bool.{cases_lt}
 use Rattle.byteorder.specs.Endian.{big_bytes}
-use Rattle.octet_fields.proofs.Places.{two_same}
+use Rattle.plc_base.proofs.Places.{two_same}
 use Rattle.mesh_header.specs.declared.fault.UnitFault.{UnitFault}
 use Rattle.mesh_header.specs.declared.unit.Mesh.{Mesh}
 use Rattle.mesh_header.specs.Pieces.{Placed, IsPiece}

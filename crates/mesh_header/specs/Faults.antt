@@ -1,7 +1,7 @@
 -- The first fault of octets that are no unit.
 use Rattle.std.specs.Prelude.{ℕ, ◌+◌, ◌-◌, ◌*◌, ◌%◌, List, length, Option, Some, None, nat_lt, ◌==◌, ◌&&◌, ◌||◌, if◌then◌else◌}
-use Rattle.octet_fields.specs.Fields.{octet, two}
-use Rattle.octet_fields.specs.Faults.{◌then◌, ◌when◌, cut_off}
+use Rattle.plc_base.specs.Fields.{octet, two}
+use Rattle.plc_base.specs.Faults.{◌then◌, ◌when◌, cut_off}
 use Rattle.mesh_header.specs.declared.fault.UnitFault.{UnitFault}
 use Rattle.mesh_header.specs.declared.fault.UnitFaultKind.{UnitFaultKind}
 use Rattle.mesh_header.specs.declared.fault.UnitFaultKind.TheVariants.{Empty, Dispatch, AddressKind, HopForm, Short, Size, PieceForm, DataSize, Address}

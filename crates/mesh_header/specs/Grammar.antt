@@ -1,7 +1,7 @@
 -- What units are, and the one spelling of each.
 use Rattle.std.specs.Prelude.{◌≡◌, ◌<◌, ◌≤◌, ◌^◌, ℕ, ◌+◌, List, ◌∷◌, ◌++◌, length, nat_lt, ◌==◌, if◌then◌else◌, ⊤}
 use Rattle.byteorder.specs.Endian.{big_bytes}
-use Rattle.octet_fields.specs.Addresses.{IsAddress}
+use Rattle.plc_base.specs.Addresses.{IsAddress}
 use Rattle.mesh_header.specs.declared.unit.Mesh.{Mesh}
 use Rattle.mesh_header.specs.Pieces.{Placed, IsPiece}
 use Rattle.mesh_header.specs.declared.unit.Unit.{Unit}

@@ -1,7 +1,7 @@
 -- The unit that stands in octets, as a function of the octets. `Spells` says which it is; here it is read off, for definitions
 -- that go on from it.
 use Rattle.std.specs.Prelude.{ℕ, ◌+◌, ◌-◌, List, Option, Some, None, is_some, nat_lt, ◌==◌, if◌then◌else◌}
-use Rattle.octet_fields.specs.Fields.{octet, two, after}
+use Rattle.plc_base.specs.Fields.{octet, two, after}
 use Rattle.mesh_header.specs.declared.unit.Mesh.{Mesh}
 use Rattle.mesh_header.specs.declared.unit.Unit.{Unit}
 use Rattle.mesh_header.specs.declared.unit.Unit.TheVariants.{Whole, Part, Carried, Local}

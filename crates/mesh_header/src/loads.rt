@@ -1,7 +1,7 @@
 //! What stands behind a mesh header, and commands alone.
 ghost use Rattle.std.specs.Prelude.{◌≡◌, ◌≤◌, ◌<◌, ◌+◌, ◌-◌, ◌*◌, ◌%◌, ◌∷◌, ◌++◌, List, [], length, IfOk, MatchResult, Some, None, Ok};
 ghost use Rattle.byteorder.specs.Endian.{big_bytes};
-ghost use Rattle.octet_fields.specs.Fields.{octet, two, after};
+ghost use Rattle.plc_base.specs.Fields.{octet, two, after};
 ghost use Rattle.mesh_header.specs.Pieces.{IsPiece};
 ghost use Rattle.mesh_header.specs.Grammar.{IsMesh, IsUnit, mesh_then, piece_spelling, spelling};
 ghost use Rattle.mesh_header.specs.Faults.{size_fault, octets_fault, tag_fault, octet_fault, data_fault, first_piece_fault, later_piece_fault, carried_fault, local_fault, load_fault};
@@ -9,8 +9,7 @@ ghost use Rattle.mesh_header.specs.Faults.{size_fault, octets_fault, tag_fault, 
 use crate::fault::{UnitFault, UnitFaultKind, fault};
 use crate::piece::Piece;
 use crate::unit::{Mesh, Unit};
-use octet_fields::{octet_at, rest_at, two_at};
-use plc_base::FrameBuf;
+use plc_base::{FrameBuf, octet_at, rest_at, two_at};
 
 #[tactic(auto, unfolding(crate::specs::Faults::data_fault))]
 fn data_of(octets: &[u8], at: usize) -> Result<FrameBuf, UnitFault>
@@ -27,7 +26,7 @@ fn data_of(octets: &[u8], at: usize) -> Result<FrameBuf, UnitFault>
 }
 
 // The size of a piece, which stands above a base in two octets.
-#[tactic(auto, unfolding(crate::specs::Faults::size_fault, crate::specs::Faults::short, octet_fields::specs::Faults::cut_off))]
+#[tactic(auto, unfolding(crate::specs::Faults::size_fault, crate::specs::Faults::short, plc_base::specs::Faults::cut_off))]
 fn size_at(octets: &[u8], base: u16, at: usize) -> Result<u16, UnitFault>
     requires low { base ≤ octet at octets.now * 256 }
     requires place { at ≤ 100 }
@@ -41,7 +40,7 @@ fn size_at(octets: &[u8], base: u16, at: usize) -> Result<u16, UnitFault>
     Ok(size)
 }
 
-#[tactic(auto, unfolding(crate::specs::Faults::tag_fault, crate::specs::Faults::short, octet_fields::specs::Faults::cut_off))]
+#[tactic(auto, unfolding(crate::specs::Faults::tag_fault, crate::specs::Faults::short, plc_base::specs::Faults::cut_off))]
 fn tag_at(octets: &[u8], at: usize) -> Result<u16, UnitFault>
     requires { at ≤ 100 }
     ensures { MatchResult result (λ x. (tag_fault at octets.now ≡ None) × (after at octets.now ≡ big_bytes 2 x ++ after (at + 2) octets.now))
@@ -50,7 +49,7 @@ fn tag_at(octets: &[u8], at: usize) -> Result<u16, UnitFault>
     Ok(two_at(octets, at)?)
 }
 
-#[tactic(auto, unfolding(crate::specs::Faults::octet_fault, crate::specs::Faults::short, octet_fields::specs::Faults::cut_off))]
+#[tactic(auto, unfolding(crate::specs::Faults::octet_fault, crate::specs::Faults::short, plc_base::specs::Faults::cut_off))]
 fn one_at(octets: &[u8], at: usize) -> Result<u8, UnitFault>
     requires { at ≤ 100 }
     ensures { MatchResult result (λ x. (octet_fault at octets.now ≡ None) × (x ≡ octet at octets.now) × (at + 1 ≤ length octets.now) × (after at octets.now ≡ x ∷ after (at + 1) octets.now))

@@ -1,18 +1,17 @@
 //! Mesh headers.
 ghost use Rattle.std.specs.Prelude.{ℕ, ◌≡◌, ◌≤◌, ◌<◌, ◌+◌, ◌∷◌, ◌++◌, List, [], length, IfOk, MatchResult, Some, None, Ok};
 ghost use Rattle.byteorder.specs.Endian.{big_bytes};
-ghost use Rattle.octet_fields.specs.Fields.{octet, after};
-ghost use Rattle.octet_fields.specs.Faults.{◌then◌};
-ghost use Rattle.octet_fields.specs.Addresses.{IsAddress};
+ghost use Rattle.plc_base.specs.Fields.{octet, after};
+ghost use Rattle.plc_base.specs.Faults.{◌then◌};
+ghost use Rattle.plc_base.specs.Addresses.{IsAddress};
 ghost use Rattle.mesh_header.specs.Grammar.{IsMesh, header_length, hops_then, mesh_then};
 ghost use Rattle.mesh_header.specs.Faults.{address_fault, hops_fault, origin_at, header_fault};
 
 use crate::fault::{UnitFault, UnitFaultKind, fault};
 use crate::unit::Mesh;
-use octet_fields::{octet_at, two_at};
-use plc_base::{FrameBuf, Short};
+use plc_base::{FrameBuf, Short, octet_at, two_at};
 
-#[tactic(auto, unfolding(crate::specs::Faults::address_fault, crate::specs::Faults::short, octet_fields::specs::Faults::cut_off))]
+#[tactic(auto, unfolding(crate::specs::Faults::address_fault, crate::specs::Faults::short, plc_base::specs::Faults::cut_off))]
 fn address_at(octets: &[u8], at: usize) -> Result<Short, UnitFault>
     requires { at ≤ 100 }
     ensures { MatchResult result (λ x. (address_fault at octets.now ≡ None) × IsAddress x × (at + 2 ≤ length octets.now) × (after at octets.now ≡ big_bytes 2 x ++ after (at + 2) octets.now))
@@ -25,7 +24,7 @@ fn address_at(octets: &[u8], at: usize) -> Result<Short, UnitFault>
 }
 
 // The hops, and where the origin begins.
-#[tactic(auto, unfolding(crate::specs::Faults::hops_fault, crate::specs::Faults::short, octet_fields::specs::Faults::cut_off, crate::specs::Faults::origin_at, crate::specs::Grammar::hops_then), using(octet_fields::proofs::Places::after_none))]
+#[tactic(auto, unfolding(crate::specs::Faults::hops_fault, crate::specs::Faults::short, plc_base::specs::Faults::cut_off, crate::specs::Faults::origin_at, crate::specs::Grammar::hops_then), using(plc_base::proofs::Places::after_none))]
 fn hops_of(octets: &[u8], first: u8) -> Result<(u8, usize), UnitFault>
     requires there { octets.now ≡ first ∷ after 1 octets.now }
     requires is { first ≡ octet 0 octets.now }

@@ -1,6 +1,6 @@
 //! Reads units.
 ghost use Rattle.std.specs.Prelude.{◌≡◌, ◌≤◌, ◌<◌, ◌∷◌, List, [], length, IfOk, MatchResult, Some, None, Ok};
-ghost use Rattle.octet_fields.specs.Fields.{octet, after};
+ghost use Rattle.plc_base.specs.Fields.{octet, after};
 ghost use Rattle.mesh_header.specs.Grammar.{Spells};
 ghost use Rattle.mesh_header.specs.Faults.{unit_fault};
 ghost use Rattle.mesh_header.specs.declared.unit.Unit.{Unit};
@@ -10,7 +10,7 @@ use crate::loads::{load_of, local};
 use crate::meshes::mesh_of;
 use crate::unit::Unit;
 
-#[tactic(auto, unfolding(octet_fields::specs::Fields::octet), using(octet_fields::proofs::Places::first_is))]
+#[tactic(auto, unfolding(plc_base::specs::Fields::octet), using(plc_base::proofs::Places::first_is))]
 fn first_of(octets: &[u8]) -> u8
     requires { 0 < length octets.now }
     ensures value { result ≡ octet 0 octets.now }

@@ -6,8 +6,8 @@ use Rattle.std.proofs.lemmas.Bool.{cases_lt}
 use Rattle.std.proofs.lemmas.List.{drop-drop, length-append}
 use Rattle.std.proofs.lemmas.Grind.{common_steps}
 use Rattle.byteorder.specs.Endian.{big_bytes, big_number}
-use Rattle.octet_fields.specs.Fields.{octet, two, part, after}
-use Rattle.octet_fields.proofs.Places.{octet_behind, octet_past, two_behind, after_behind}
+use Rattle.plc_base.specs.Fields.{octet, two, part, after}
+use Rattle.plc_base.proofs.Places.{octet_behind, octet_past, two_behind, after_behind}
 use Rattle.plc_base.specs.declared.address.Eui.{Eui}
 use Rattle.plc_base.specs.declared.key.Key.{Key}
 use Rattle.plc_base.specs.Grant.{Granted}

@@ -1,7 +1,7 @@
 -- Runs that are computed. Each `unfolding` line has every word that is shut in the definitions of this crate and of those below it.
 use Rattle.std.proofs.Common.{refl}
-use Rattle.octet_fields.specs.Faults.{cut_off as os_faults_cut_off}
-use Rattle.octet_fields.specs.Fields.{after as os_fields_after, octet as os_fields_octet, two as os_fields_two, four as os_fields_four, little_two as os_fields_little_two, little_four as os_fields_little_four, part as os_fields_part}
+use Rattle.plc_base.specs.Faults.{cut_off as os_faults_cut_off}
+use Rattle.plc_base.specs.Fields.{after as os_fields_after, octet as os_fields_octet, two as os_fields_two, four as os_fields_four, little_two as os_fields_little_two, little_four as os_fields_little_four, part as os_fields_part}
 use Rattle.plc_base.specs.Cells.{slot_at as pe_cells_slot_at, records_in as pe_cells_records_in}
 use Rattle.plc_base.specs.SlotTables.{opened_from as pe_slottables_opened_from}
 use Rattle.mac_frames.specs.Faults.{short as ms_faults_short, low_fault as ms_faults_low_fault, high_fault as ms_faults_high_fault, target_fault as ms_faults_target_fault, sender_fault as ms_faults_sender_fault, level_fault as ms_faults_level_fault, index_fault as ms_faults_index_fault, sealed_fault as ms_faults_sealed_fault, up_fault as ms_faults_up_fault, down_fault as ms_faults_down_fault, fields_fault as ms_faults_fields_fault}

@@ -1,7 +1,7 @@
 -- What frames and the packets of a joining are made with.
 use Rattle.std.specs.Prelude.{ℕ, List, ◌++◌, length, Option, Some, None, if◌then◌else◌}
 use Rattle.std.specs.Str.{bytes_eq}
-use Rattle.octet_fields.specs.Fields.{after}
+use Rattle.plc_base.specs.Fields.{after}
 use Rattle.aes_modes.specs.Ccm.{ccm_text, ccm_tag}
 use Rattle.plc_base.specs.declared.key.Key.{Key}
 use Rattle.plc_base.specs.declared.key.Rand.{Rand}

@@ -2,7 +2,7 @@
 use Rattle.std.specs.Prelude.{ℕ, ◌+◌, Bool, true, false, not, ◌==◌, ◌&&◌, nat_lt, List, [], ◌∷◌, ◌++◌, length, set, position, slice_get, is_some, Option, Some, None, Result, Ok, Err, if◌then◌else◌}
 use Rattle.std.specs.List.{filter}
 use Rattle.std.specs.Option.{option_map, option_map_or, option_and_then}
-use Rattle.octet_fields.specs.Faults.{◌then◌, ◌when◌}
+use Rattle.plc_base.specs.Faults.{◌then◌, ◌when◌}
 use Rattle.plc_base.specs.declared.address.Eui.{Eui}
 use Rattle.plc_base.specs.declared.key.Key.{Key}
 use Rattle.plc_base.specs.declared.key.Rand.{Rand}

@@ -3,7 +3,7 @@ use Rattle.std.specs.Prelude.{ℕ, ◌+◌, ◌-◌, ◌%◌, Bool, true, false,
 use Rattle.std.specs.List.{filter, list_any, sum_by, flat_map}
 use Rattle.std.specs.Option.{option_map_or}
 use Rattle.byteorder.specs.Endian.{big_bytes}
-use Rattle.octet_fields.specs.Faults.{◌then◌, ◌when◌}
+use Rattle.plc_base.specs.Faults.{◌then◌, ◌when◌}
 use Rattle.plc_base.specs.declared.tags.PairTag.{PairTag}
 use Rattle.plc_base.specs.declared.key.Key.{Key}
 use Rattle.plc_base.specs.Grant.{Granted, key_at}

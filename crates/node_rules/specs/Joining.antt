@@ -1,6 +1,6 @@
 -- What the two ends of a joining send and check, as functions (RFC 4764), and the messages that carry it.
 use Rattle.std.specs.Prelude.{ℕ, ◌/◌, Bool, ◌==◌, ◌&&◌, nat_lt, List, ◌∷◌, ◌++◌, length, None}
-use Rattle.octet_fields.specs.Fields.{octet, part}
+use Rattle.plc_base.specs.Fields.{octet, part}
 use Rattle.plc_base.specs.declared.address.Eui.{Eui}
 use Rattle.plc_base.specs.declared.key.Rand.{Rand}
 use Rattle.joining_messages.specs.declared.message.JoinMessage.{JoinMessage}

@@ -3,8 +3,8 @@ use Rattle.std.specs.Prelude.{ℕ, ◌-◌, ◌==◌, Bool, false, List, [], ◌
 use Rattle.std.specs.Str.{bytes_eq}
 use Rattle.byteorder.specs.Endian.{big_bytes}
 use Rattle.plc_base.specs.declared.address.Eui.{Eui}
-use Rattle.octet_fields.specs.Faults.{◌then◌, ◌unless◌}
-use Rattle.octet_fields.specs.Fields.{octet, part, after}
+use Rattle.plc_base.specs.Faults.{◌then◌, ◌unless◌}
+use Rattle.plc_base.specs.Fields.{octet, part, after}
 use Rattle.plc_base.specs.declared.key.Key.{Key}
 use Rattle.plc_base.specs.declared.key.Rand.{Rand}
 use Rattle.plc_base.specs.Grant.{Granted}

@@ -1,5 +1,6 @@
 //! The addresses of nodes.
-ghost use Rattle.std.specs.Prelude.{◌≡◌, ◌<◌, ◌↔◌, IsSome, IfSome};
+ghost use Rattle.std.specs.Prelude.{◌≡◌, ◌↔◌, IsSome, IfSome};
+ghost use Rattle.plc_base.specs.Addresses.{IsAddress};
 
 use std::marker::Model;
 
@@ -19,13 +20,14 @@ pub struct Short {
 }
 
 impl Model for Short {
-    ghost use Rattle.std.specs.Prelude.{ℕ, ◌<◌};
+    ghost use Rattle.std.specs.Prelude.{ℕ};
+    ghost use Rattle.plc_base.specs.Addresses.{IsAddress};
 
     ghost Value = { ℕ };
 
     ghost view = { λ a. a.number };
 
-    ghost invariant = { λ a. a.number < 0xFFFE };
+    ghost invariant = { λ a. IsAddress a.number };
 
     ghost inverse = { λ n. record { number = n } };
 }
@@ -33,7 +35,7 @@ impl Model for Short {
 impl Short {
     /// The address of this number. None exactly for FFFE and FFFF.
     pub fn new(value: u16) -> Option<Short>
-        ensures valid { IsSome result ↔ (value < 0xFFFE) }
+        ensures valid { IsSome result ↔ IsAddress value }
         ensures value { IfSome result (λ address. address ≡ value) }
     {
         if value >= 0xFFFE {
@@ -45,7 +47,7 @@ impl Short {
     /// The address as a number.
     pub fn number(self) -> u16
         ensures value { result ≡ self }
-        ensures valid { result < 0xFFFE }
+        ensures valid { IsAddress result }
     {
         self.number
     }

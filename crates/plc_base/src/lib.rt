@@ -2,6 +2,9 @@
 #![tactic(auto)]
 
 mod address;
+#[cfg(test)]
+mod field_tests;
+mod fields;
 mod grant;
 mod keeper;
 #[cfg(test)]
@@ -11,6 +14,7 @@ mod link_cost;
 mod mem_keeper;
 mod memory;
 mod numbers;
+mod octet_ref;
 mod octets;
 mod out_frame;
 mod slot_table;
@@ -21,6 +25,10 @@ mod streams;
 mod tags;
 
 pub use address::{Eui, PAN, Short};
+pub use fields::{
+    Ended, four_at, little_four_at, little_two_at, octet_at, octets_at, rest_at, reversed_at,
+    two_at,
+};
 pub use grant::Grant;
 pub use keeper::{BadStore, Cut, Keeper};
 pub use key::{Key, Rand};
@@ -28,6 +36,7 @@ pub use link_cost::LinkCost;
 pub use mem_keeper::MemKeeper;
 pub use memory::{MemSink, MemSource};
 pub use numbers::a_number_has_the_octets_it_was_read_from;
+pub use octet_ref::OctetRef;
 pub use octets::{DatagramBuf, EapBuf, FrameBuf, Octets, Record};
 pub use out_frame::{Out, OutFrame, OutFrames};
 pub use slot_table::{SlotEntry, SlotTable};

@@ -1,5 +1,5 @@
 use Rattle.std.proofs.Common.{◌≡◌, ◌∙◌, List, ℕ, length, arith}
-use Rattle.octet_fields.specs.Fields.{part}
+use Rattle.plc_base.specs.Fields.{part}
 use Rattle.eap_psk.specs.Messages.{head}
 use Rattle.eap_psk.proofs.Fronts.{part_front}
 use Rattle.eap_psk.proofs.reading.head_of.Goals as goal

@@ -1,6 +1,6 @@
 use Rattle.std.proofs.Common.{◌≡◌, ◌<◌, ◌≤◌, length, ◌∷◌, ℕ, eqb, ap, sym, ◌∙◌, arith}
-use Rattle.octet_fields.specs.Fields.{after, octet}
-use Rattle.octet_fields.proofs.Places.{after_none}
+use Rattle.plc_base.specs.Fields.{after, octet}
+use Rattle.plc_base.proofs.Places.{after_none}
 use Rattle.mac_frames.specs.Grammar.{low_control}
 use Rattle.mac_frames.specs.Faults.{bits}
 use Rattle.mac_frames.proofs.Controls.{low_is, low_none}

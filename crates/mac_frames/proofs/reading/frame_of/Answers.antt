@@ -1,6 +1,6 @@
 use Rattle.std.proofs.Common.{◌≡◌, ◌++◌, subst, sym, ap, ◌∙◌, arith}
 use Rattle.std.proofs.lemmas.List.{take-append-drop}
-use Rattle.octet_fields.specs.Fields.{after}
+use Rattle.plc_base.specs.Fields.{after}
 use Rattle.mac_frames.specs.Grammar.{IsBody, header_then}
 use Rattle.mac_frames.proofs.Headers.{header_is}
 use Rattle.mac_frames.proofs.reading.frame_of.Goals as goal

@@ -1,5 +1,5 @@
 use Rattle.std.proofs.Common.{◌≡◌, List, ℕ}
-use Rattle.octet_fields.specs.Fields.{after}
+use Rattle.plc_base.specs.Fields.{after}
 use Rattle.eap_psk.specs.Keys.{transient_key, channel_tag, channel_text, mac_s}
 use Rattle.eap_psk.specs.Messages.{Third, granting_text}
 use Rattle.eap_psk.proofs.Relations.{third_read}

@@ -1,7 +1,7 @@
 use Rattle.std.proofs.Common.{arith}
-use Rattle.octet_fields.specs.Fields.{four}
-use Rattle.octet_fields.proofs.Places.{octets_all, big_stands}
-use Rattle.octet_fields.proofs.fields.four_at.Goals as goal
+use Rattle.plc_base.specs.Fields.{four}
+use Rattle.plc_base.proofs.Places.{octets_all, big_stands}
+use Rattle.plc_base.proofs.fields.four_at.Goals as goal
 
 pub returns : goal.returns
 unfolding four

@@ -1,7 +1,7 @@
 use Rattle.std.proofs.Common.{◌≡◌, ◌+◌, ◌-◌, ℕ, take, drop, ap, ◌∙◌, arith}
-use Rattle.octet_fields.specs.Fields.{part}
-use Rattle.octet_fields.proofs.Places.{part_stands}
-use Rattle.octet_fields.proofs.fields.octets_at.Goals as goal
+use Rattle.plc_base.specs.Fields.{part}
+use Rattle.plc_base.proofs.Places.{part_stands}
+use Rattle.plc_base.proofs.fields.octets_at.Goals as goal
 
 pub returns : goal.returns
 unfolding part

@@ -1,7 +1,7 @@
 //! Reads fields at their places.
 ghost use Rattle.std.specs.Prelude.{◌≡◌, ◌≤◌, ◌<◌, ◌+◌, ◌/◌, ◌∷◌, List, [], length, reverse, MatchResult};
 ghost use Rattle.byteorder.specs.Endian.{big_bytes, little_bytes};
-ghost use Rattle.octet_fields.specs.Fields.{Stands, octet, two, four, little_two, little_four, part, after};
+ghost use Rattle.plc_base.specs.Fields.{Stands, octet, two, four, little_two, little_four, part, after};
 
 use byteorder::{BigEndian, ByteOrder, LittleEndian};
 use thiserror::Error;

@@ -1,7 +1,7 @@
 use Rattle.std.proofs.Common.{arith}
-use Rattle.octet_fields.specs.Fields.{two}
-use Rattle.octet_fields.proofs.Places.{octets_all, big_stands, two_high}
-use Rattle.octet_fields.proofs.fields.two_at.Goals as goal
+use Rattle.plc_base.specs.Fields.{two}
+use Rattle.plc_base.proofs.Places.{octets_all, big_stands, two_high}
+use Rattle.plc_base.proofs.fields.two_at.Goals as goal
 
 pub returns : goal.returns
 unfolding two
