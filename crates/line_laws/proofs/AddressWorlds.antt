@@ -11,7 +11,7 @@ use Rattle.group_keys.specs.declared.key_book.BookEntry.{BookEntry}
 use Rattle.group_keys.specs.KeyBook as books
 use Rattle.group_keys.specs.KeyRing as ring
 use Rattle.node_rules.specs.Memory.{Memory, Node, address_of, node_address}
-use Rattle.node_rules.specs.Worlds.{World, Issued, node_at}
+use Rattle.line_rules.specs.Worlds.{World, Issued, node_at}
 use Rattle.line_laws.specs.Stores.{IsKept}
 use Rattle.line_laws.proofs.Keeping.{Left}
 use Rattle.line_laws.proofs.Nodes.{NodeOk}

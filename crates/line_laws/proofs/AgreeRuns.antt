@@ -3,10 +3,10 @@ use Rattle.std.proofs.Common.{◌≡◌, suc, false, List, [], ◌∷◌, ◌++�
 use Rattle.std.specs.Prelude.{All, IfSome}
 use Rattle.std.proofs.lemmas.List.Elements.{All-nil, All-head, All-tail}
 use Rattle.node_rules.specs.Ciphers.{Ciphers}
-use Rattle.node_rules.specs.Events.{IsEvent}
-use Rattle.node_rules.specs.Worlds.{World, Pairing, start}
-use Rattle.node_rules.specs.Steps.{Step}
-use Rattle.node_rules.specs.Runs.{Entry, IsRun, one_of, issued, takings, WasTaken, AgreesAfter}
+use Rattle.line_rules.specs.Events.{IsEvent}
+use Rattle.line_rules.specs.Worlds.{World, Pairing, start}
+use Rattle.line_rules.specs.Steps.{Step}
+use Rattle.line_rules.specs.Runs.{Entry, IsRun, one_of, issued, takings, WasTaken, AgreesAfter}
 use Rattle.line_laws.specs.Owed.{KeepsRanges}
 use Rattle.line_laws.specs.Laws.{AreSaid, FlightsAreOctets}
 use Rattle.line_laws.specs.Issued.{EveryJoiningAgrees}

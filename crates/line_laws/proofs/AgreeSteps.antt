@@ -11,18 +11,18 @@ use Rattle.plc_base.specs.declared.key.Key.{Key}
 use Rattle.plc_base.specs.declared.key.Rand.{Rand}
 use Rattle.plc_base.specs.Grant.{Granted}
 use Rattle.group_keys.specs.KeyBook as book
-use Rattle.node_rules.specs.declared.event.Event.{Event}
-use Rattle.node_rules.specs.declared.event.Event.TheVariants as events
-use Rattle.node_rules.specs.declared.event.Answer.{Answer}
-use Rattle.node_rules.specs.declared.event.StepFault.{StepFault}
-use Rattle.node_rules.specs.declared.event.StepFault.TheVariants as faults
+use Rattle.line_rules.specs.declared.event.Event.{Event}
+use Rattle.line_rules.specs.declared.event.Event.TheVariants as events
+use Rattle.line_rules.specs.declared.event.Answer.{Answer}
+use Rattle.line_rules.specs.declared.event.StepFault.{StepFault}
+use Rattle.line_rules.specs.declared.event.StepFault.TheVariants as faults
 use Rattle.node_rules.specs.declared.heard.Accepted.{Accepted}
 use Rattle.node_rules.specs.declared.refusal.CoordinatorRefusal.{CoordinatorRefusal}
 use Rattle.node_rules.specs.declared.refusal.CoordinatorRefusal.TheVariants as orders
 use Rattle.node_rules.specs.declared.refusal.Dropped.TheVariants as drops
 use Rattle.node_rules.specs.declared.refusal.FrameRefusal.{FrameRefusal}
 use Rattle.node_rules.specs.declared.refusal.FrameRefusal.TheVariants as frames
-use Rattle.node_rules.specs.declared.event.Answer.TheVariants as said
+use Rattle.line_rules.specs.declared.event.Answer.TheVariants as said
 use Rattle.node_rules.specs.declared.refusal.RandomFault.TheVariants as randoms
 use Rattle.node_rules.specs.declared.refusal.JoinRefusal.TheVariants as joins
 use Rattle.node_rules.specs.declared.refusal.LeaveRefusal.TheVariants as leaves
@@ -35,10 +35,11 @@ use Rattle.node_rules.specs.Accepting.{accept}
 use Rattle.node_rules.specs.Calls as calls
 use Rattle.node_rules.specs.Meters as meters
 use Rattle.node_rules.specs.Coordinators as coordinator_rules
-use Rattle.node_rules.specs.Answers.{Reception, meter_reception, coordinator_reception, random_word, join_word, leave_word, sent_word, ordered_word, frame_word}
-use Rattle.node_rules.specs.Events.{IsEvent}
-use Rattle.node_rules.specs.Worlds.{World, Deeds, node_at, flight_at, is_forged_tag}
-use Rattle.node_rules.specs.Steps.{Step, Did, acts, stays, answering, of_line, set_up, ran, told, acted, once_begun, in_setup, has_begun, takes_setup, on_node, on_meter, made_node, blank_node, identity, hears, restarts, ticked, rand, join, joins_by, leave, send, sends_by, sent_if, breaks, breaks_by, lose, tick, restart, cut, show, psk_of, deeds, happened, coordinator, coordinator_node, meter, is_known, depot, depot_by, provisioned, near, near_by, keeps_rank, ranks_full, offered_near, preset, allow, allowed, deliver, inject, arrives, accepted_by, received, by_coordinator, forged_by, note_by, rekey, challenge, activate, kick, step}
+use Rattle.line_rules.specs.Answers.{Reception, meter_reception, coordinator_reception, random_word, join_word, leave_word, sent_word, ordered_word, frame_word}
+use Rattle.line_rules.specs.Events.{IsEvent}
+use Rattle.line_rules.specs.Worlds.{World, Deeds, node_at, flight_at, is_forged_tag}
+use Rattle.line_rules.specs.Steps.{Step, set_up, ran, told, acted, once_begun, in_setup, has_begun, takes_setup, on_node, on_meter, made_node, blank_node, identity, hears, restarts, ticked, rand, join, joins_by, leave, send, sends_by, sent_if, breaks, breaks_by, lose, tick, restart, cut, show, psk_of, deeds, happened, coordinator, coordinator_node, meter, is_known, depot, depot_by, provisioned, near, near_by, keeps_rank, ranks_full, offered_near, preset, allow, allowed, deliver, inject, arrives, accepted_by, received, by_coordinator, forged_by, note_by, rekey, challenge, activate, kick, step}
+use Rattle.node_rules.specs.NodeSteps.{Did, acts, stays, answering, of_line}
 use Rattle.plc_base.specs.declared.tags.PairTag.{PairTag}
 use Rattle.std.proofs.Common.{append-nil}
 use Rattle.node_rules.specs.declared.heard.Heard.{Heard}
@@ -48,8 +49,8 @@ use Rattle.node_rules.specs.declared.heard.MeterHeard.TheVariants as meter_heard
 use Rattle.node_rules.specs.declared.heard.CoordinatorHeard.{CoordinatorHeard}
 use Rattle.node_rules.specs.declared.heard.CoordinatorHeard.TheVariants as coordinator_heard
 use Rattle.node_rules.specs.declared.refusal.Dropped.{Dropped}
-use Rattle.node_rules.specs.Answers.{line_reception, SentGrant, CompletedJoining}
-use Rattle.node_rules.specs.Worlds.{Issued}
+use Rattle.line_rules.specs.Answers.{line_reception, SentGrant, CompletedJoining}
+use Rattle.line_rules.specs.Worlds.{Issued}
 use Rattle.node_rules.specs.Hearing.{dropped}
 use Rattle.line_laws.specs.Stores.{IsKept}
 use Rattle.line_laws.specs.Sizes.{IsSized}
@@ -68,15 +69,15 @@ use Rattle.line_laws.proofs.IssueNodes.{all_made, installs_rest}
 use Rattle.line_laws.proofs.IssueCalls.{send_quietly, near_quietly, broke_quietly, random_quietly, accept_quietly}
 use Rattle.line_laws.proofs.IssueWorlds.{Keyed}
 use Rattle.node_rules.specs.Accepting.{same_eui}
-use Rattle.node_rules.specs.Worlds.{Pairing}
-use Rattle.node_rules.specs.Runs.{one_of}
-use Rattle.node_rules.specs.Answers.{CompletedJoining}
-use Rattle.node_rules.specs.Steps.{number_of, done_by, tag_of, is_taken}
+use Rattle.line_rules.specs.Worlds.{Pairing}
+use Rattle.line_rules.specs.Runs.{one_of}
+use Rattle.line_rules.specs.Answers.{CompletedJoining}
+use Rattle.line_rules.specs.Steps.{number_of, done_by, tag_of, is_taken}
 use Rattle.plc_base.proofs.SlotTables.{slice_get-push_other}
 use Rattle.line_laws.proofs.IssueNodes.{installs_rest}
 use Rattle.node_rules.specs.Laws.{IsWhole, IsCutOff}
 use Rattle.node_rules.specs.Plans.{carry_out}
-use Rattle.node_rules.specs.Steps.{left_by}
+use Rattle.node_rules.specs.NodeSteps.{left_by}
 use Rattle.node_rules.proofs.Writing.{clean}
 use Rattle.eap_psk.specs.declared.server.Agreed.{Agreed}
 use Rattle.plc_base.specs.declared.tags.PairTag.TheVariants as tags

@@ -11,9 +11,9 @@ use Rattle.group_keys.specs.KeyBook as book
 use Rattle.eap_psk.specs.Messages.{fourth_head}
 use Rattle.eap_psk.specs.Tags.{success_tag}
 use Rattle.eap_psk.specs.declared.server.Agreed.{Agreed}
-use Rattle.node_rules.specs.Answers.{CompletedJoining}
+use Rattle.line_rules.specs.Answers.{CompletedJoining}
 use Rattle.node_rules.specs.Memory.{Node}
-use Rattle.node_rules.specs.Worlds.{Pairing, same_tag}
+use Rattle.line_rules.specs.Worlds.{Pairing, same_tag}
 use Rattle.line_laws.proofs.IssueWords.{Among, Each, Found, any_found}
 use Rattle.line_laws.proofs.IssueNodes.{AllMade}
 use Rattle.line_laws.proofs.IssueCenter.{IsDoneBy}

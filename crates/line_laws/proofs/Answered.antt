@@ -15,7 +15,7 @@ use Rattle.group_keys.specs.KeyBook as book
 use Rattle.node_rules.specs.Memory.{Memory, Node}
 use Rattle.node_rules.specs.Plans.{Plan, carry_out, resting}
 use Rattle.node_rules.specs.Laws.{IsWhole, IsCutOff}
-use Rattle.node_rules.specs.Steps.{acts, stays, left_by}
+use Rattle.node_rules.specs.NodeSteps.{acts, stays, left_by}
 use Rattle.node_rules.specs.Doings.{Doing, begun, choose, sealing, refused}
 use Rattle.node_rules.specs.Holding.{in_memory, remembered}
 use Rattle.node_rules.specs.declared.refusal.CoordinatorRefusal.{CoordinatorRefusal}

@@ -23,7 +23,7 @@ use Rattle.node_rules.specs.Doings.{Ends}
 use Rattle.node_rules.specs.Hearing.{dropped}
 use Rattle.node_rules.specs.Holding.{in_memory}
 use Rattle.node_rules.specs.Coordinators as coordinators
-use Rattle.node_rules.specs.Steps.{of_line}
+use Rattle.node_rules.specs.NodeSteps.{of_line}
 use Rattle.line_laws.specs.Stores.{IsHeld, IsKept}
 use Rattle.line_laws.specs.Sizes.{IsSized}
 use Rattle.line_laws.specs.Owed.{AreOctets, KeepsRanges}

@@ -22,11 +22,13 @@ use Rattle.node_rules.specs.Frames.{Sent, Sealed, Up as UpFrame, Down, spelled, 
 use Rattle.node_rules.specs.Memory.{Memory, Node, Role, Coordinator, Meter}
 use Rattle.node_rules.specs.Plans.{resting}
 use Rattle.node_rules.specs.Accepting.{Accepting, accept, marking}
-use Rattle.node_rules.specs.Answers.{Reception, Up, line_reception, meter_reception, coordinator_reception, frame_word}
+use Rattle.line_rules.specs.Answers.{Reception, Up, line_reception, meter_reception, coordinator_reception, frame_word}
 use Rattle.node_rules.specs.Meters as meters
 use Rattle.node_rules.specs.Coordinators as coordinators
-use Rattle.node_rules.specs.Steps.{Did, acts, of_line, answering, identity, hears, note_by, told, ran, deeds, happened, flights_of, flight_by, handed_by, heard, arrives}
-use Rattle.node_rules.specs.Worlds.{Flight, Handed, Deeds, World}
+use Rattle.node_rules.specs.NodeSteps.{Did, acts, of_line, answering}
+use Rattle.line_rules.specs.Steps.{identity, hears, note_by, told, ran, deeds, happened, flights_of, flight_by, handed_by, heard, arrives}
+use Rattle.line_rules.specs.Worlds.{Flight, Deeds, World}
+use Rattle.line_rules.specs.declared.happenings.Handed.{Handed}
 use Rattle.line_laws.specs.Letters.{OpensWhatItSeals, AreFlights}
 use Rattle.line_laws.specs.Places.{unit_of}
 use Rattle.line_laws.specs.Sends.{SentAs, UnitIsOf, UpIsOf}

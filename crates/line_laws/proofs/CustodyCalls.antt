@@ -30,7 +30,7 @@ use Rattle.node_rules.specs.Meters as meters
 use Rattle.node_rules.specs.Coordinators as coordinators
 use Rattle.node_rules.specs.Doings.{alone, begun}
 use Rattle.node_rules.specs.Holding.{in_memory}
-use Rattle.node_rules.specs.Steps.{of_line}
+use Rattle.node_rules.specs.NodeSteps.{of_line}
 use Rattle.node_rules.proofs.HoldingShapes.{whole}
 use Rattle.line_laws.specs.Letters.{IsLetter}
 use Rattle.line_laws.specs.Custody.{weigh, below, content_is, load_is, body_is, letter_is, held_is, up_is, keeps}

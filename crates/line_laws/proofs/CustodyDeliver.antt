@@ -27,12 +27,14 @@ use Rattle.node_rules.specs.Frames.{Letter, arrived, to_all}
 use Rattle.node_rules.specs.Memory.{Memory, Node, Role, Coordinator, Meter}
 use Rattle.node_rules.specs.Plans.{Plan, carry_out, resting}
 use Rattle.node_rules.specs.Accepting.{Accepting, accept, marking}
-use Rattle.node_rules.specs.Answers.{Reception, Up, frame_word, line_reception, meter_reception, coordinator_reception}
+use Rattle.line_rules.specs.Answers.{Reception, Up, frame_word, line_reception, meter_reception, coordinator_reception}
 use Rattle.node_rules.specs.Laws.{IsWhole, IsCutOff}
 use Rattle.node_rules.specs.Meters as meters
 use Rattle.node_rules.specs.Coordinators as coordinators
-use Rattle.node_rules.specs.Steps.{Did, acts, stays, left_by, of_line, answering, identity, hears, note_by, forged_by, told, ran, deeds, happened, flights_of, handed_by, heard, arrives}
-use Rattle.node_rules.specs.Worlds.{Flight, Handed, Deeds, World, has_octets, note_of, is_forged_frame}
+use Rattle.node_rules.specs.NodeSteps.{Did, acts, stays, left_by, of_line, answering}
+use Rattle.line_rules.specs.Steps.{identity, hears, note_by, forged_by, told, ran, deeds, happened, flights_of, handed_by, heard, arrives}
+use Rattle.line_rules.specs.Worlds.{Flight, Deeds, World, has_octets, note_of, is_forged_frame}
+use Rattle.line_rules.specs.declared.happenings.Handed.{Handed}
 use Rattle.node_rules.proofs.Writing.{clean}
 use Rattle.line_laws.specs.Letters.{OpensWhatItSeals, IsLetter, IsSpelled, IsFlight, AreFlights}
 use Rattle.line_laws.specs.Custody.{weigh, below, letter_is, up_is}

@@ -15,10 +15,12 @@ use Rattle.node_rules.specs.Memory.{Line, Memory, Node, Role, Coordinator, Meter
 use Rattle.node_rules.specs.Plans.{Plan, carry_out, resting}
 use Rattle.node_rules.specs.Calls as calls
 use Rattle.node_rules.specs.Doings.{alone, begun}
-use Rattle.node_rules.specs.Answers.{sent_word, send_word}
+use Rattle.line_rules.specs.Answers.{sent_word, send_word}
 use Rattle.node_rules.specs.Laws.{IsWhole, IsCutOff}
-use Rattle.node_rules.specs.Steps.{Did, acts, stays, left_by, of_line, answering, is_taken, tag_of, sending, sent_if, acted, told, ran, flights_of, ticked}
-use Rattle.node_rules.specs.Worlds.{Flight, Handed, World}
+use Rattle.node_rules.specs.NodeSteps.{Did, acts, stays, left_by, of_line, answering}
+use Rattle.line_rules.specs.Steps.{is_taken, tag_of, sending, sent_if, acted, told, ran, flights_of, ticked}
+use Rattle.line_rules.specs.Worlds.{Flight, World}
+use Rattle.line_rules.specs.declared.happenings.Handed.{Handed}
 use Rattle.node_rules.proofs.Writing.{clean}
 use Rattle.line_laws.specs.Letters.{OpensWhatItSeals}
 use Rattle.line_laws.specs.Custody.{weigh, below, sent_is, keeps}

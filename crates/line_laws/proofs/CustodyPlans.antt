@@ -21,7 +21,7 @@ use Rattle.node_rules.specs.Doings.{Doing, Ends, Outgoing, begun, letters, seale
 use Rattle.node_rules.specs.Holding.{in_memory, on_line, line_part, remembered, tagged_with, goes_up, goes_down}
 use Rattle.node_rules.specs.Coordinators.{entered}
 use Rattle.node_rules.specs.Laws.{IsWhole, IsCutOff}
-use Rattle.node_rules.specs.Steps.{Did, acts, stays, left_by}
+use Rattle.node_rules.specs.NodeSteps.{Did, acts, stays, left_by}
 use Rattle.node_rules.proofs.Writing.{clean}
 use Rattle.node_rules.proofs.HoldingShapes.{whole}
 use Rattle.line_laws.specs.Custody.{weigh, below, out_is, sent_is, held_is, up_is, keeps}

@@ -7,7 +7,7 @@ use Rattle.plc_base.specs.declared.address.Eui.{Eui}
 use Rattle.plc_base.specs.declared.key.Key.{Key}
 use Rattle.plc_base.specs.declared.key.Rand.{Rand}
 use Rattle.plc_base.specs.declared.keeper.BadStore.{BadStore}
-use Rattle.node_rules.specs.declared.event.Answer.{Answer}
+use Rattle.line_rules.specs.declared.event.Answer.{Answer}
 use Rattle.node_rules.specs.Ciphers.{Ciphers}
 use Rattle.node_rules.specs.Memory.{Line, Memory, Node, Role, Coordinator, Meter}
 use Rattle.node_rules.specs.Plans.{resting}
@@ -25,8 +25,10 @@ use Rattle.routing_set.specs.RoutingSet as routing
 use Rattle.routing_set.specs.OwnNumber as own_number
 use Rattle.node_rules.specs.Doings.{tag_slot}
 use Rattle.node_rules.specs.Opening.{tag_in, reading, line_of, memory_of, remembering}
-use Rattle.node_rules.specs.Steps.{Did, acted, told, restarts, memory_by, flights_of}
-use Rattle.node_rules.specs.Worlds.{Flight, Handed, World}
+use Rattle.node_rules.specs.NodeSteps.{Did}
+use Rattle.line_rules.specs.Steps.{acted, told, restarts, memory_by, flights_of}
+use Rattle.line_rules.specs.Worlds.{Flight, World}
+use Rattle.line_rules.specs.declared.happenings.Handed.{Handed}
 use Rattle.line_laws.specs.Letters.{OpensWhatItSeals}
 use Rattle.line_laws.specs.Custody.{keeps}
 use Rattle.line_laws.specs.Places.{node_keeps, places, issued, IsInCustody, OneNode, LiveFalls}

@@ -6,7 +6,7 @@ use Rattle.std.proofs.lemmas.Bool.{eqb-true, and_parts, or_parts, cases_eq}
 use Rattle.std.proofs.lemmas.Option.{same_Some}
 use Rattle.plc_base.proofs.SlotTables.{slice_get-set, slice_get-set_other}
 use Rattle.line_laws.proofs.Worlds.{at_place, within}
-use Rattle.node_rules.specs.Answers.{frame_word}
+use Rattle.line_rules.specs.Answers.{frame_word}
 use Rattle.std.proofs.lemmas.List.Elements.{All-head, All-tail}
 use Rattle.plc_base.specs.declared.key.Key.{Key}
 use Rattle.mesh_header.specs.declared.unit.Mesh.{Mesh}
@@ -20,8 +20,10 @@ use Rattle.node_rules.specs.Ciphers.{Ciphers}
 use Rattle.node_rules.specs.Frames.{arrived}
 use Rattle.node_rules.specs.Memory.{Line, Memory, Node}
 use Rattle.node_rules.specs.Accepting.{accept}
-use Rattle.node_rules.specs.Steps.{Did, acts, of_line, identity, hears, note_by, forged_by, arrives, heard, told, ran, deeds, happened}
-use Rattle.node_rules.specs.Worlds.{Flight, Handed, Deeds, World}
+use Rattle.node_rules.specs.NodeSteps.{Did, acts, of_line}
+use Rattle.line_rules.specs.Steps.{identity, hears, note_by, forged_by, arrives, heard, told, ran, deeds, happened}
+use Rattle.line_rules.specs.Worlds.{Flight, Deeds, World}
+use Rattle.line_rules.specs.declared.happenings.Handed.{Handed}
 use Rattle.line_laws.specs.Letters.{OpensWhatItSeals, AreFlights}
 use Rattle.line_laws.specs.Places.{IsInCustody, LiveFalls, opened_at}
 use Rattle.line_laws.specs.Sends.{SentAs, HeldIsOf}

@@ -29,7 +29,7 @@ use Rattle.node_rules.specs.Coordinators.{entered}
 use Rattle.node_rules.specs.Hearing.{dropped}
 use Rattle.node_rules.specs.Meters as meters
 use Rattle.node_rules.specs.Laws.{IsWhole, IsCutOff}
-use Rattle.node_rules.specs.Steps.{Did, acts, stays, left_by}
+use Rattle.node_rules.specs.NodeSteps.{Did, acts, stays, left_by}
 use Rattle.node_rules.proofs.Writing.{clean}
 use Rattle.line_laws.specs.Letters.{IsLetter}
 use Rattle.line_laws.specs.Sends.{SentAs, UnitIsOf, LoadIsOf, OutIsOf, BodyIsOf, HeldIsOf, UpIsOf}

@@ -14,8 +14,9 @@ use Rattle.mac_frames.specs.Grammar.{header}
 use Rattle.node_rules.specs.Ciphers.{Ciphers}
 use Rattle.node_rules.specs.Frames.{Sent, Sealed, Up, Down, Arrived, arrived_with, head_of, spelled, arrived}
 use Rattle.node_rules.specs.Memory.{Node}
-use Rattle.node_rules.specs.Worlds.{Flight, Handed, World}
-use Rattle.node_rules.specs.Steps.{flight_by}
+use Rattle.line_rules.specs.Worlds.{Flight, World}
+use Rattle.line_rules.specs.declared.happenings.Handed.{Handed}
+use Rattle.line_rules.specs.Steps.{flight_by}
 use Rattle.line_laws.specs.Letters.{OpensWhatItSeals, IsSpelled}
 use Rattle.line_laws.specs.Custody.{weigh, below, content_is, letter_is, sent_is, keeps}
 use Rattle.line_laws.specs.Places.{node_keeps, unit_of, flight_is, handed_is, live_is, places, issued, IsInCustody, OneNode, LiveFalls}

@@ -29,7 +29,7 @@ use Rattle.node_rules.specs.Doings.{Doing, Ends, Outgoing, letters, sealed_by, s
 use Rattle.node_rules.specs.Holding.{in_memory, on_line, line_part, remembered, tagged_with, goes_up, goes_down}
 use Rattle.node_rules.specs.Coordinators.{entered}
 use Rattle.node_rules.specs.Laws.{all_put, IsWhole, IsCutOff}
-use Rattle.node_rules.specs.Steps.{acts, stays, left_by}
+use Rattle.node_rules.specs.NodeSteps.{acts, stays, left_by}
 use Rattle.node_rules.proofs.Writing.{clean}
 use Rattle.line_laws.proofs.Planned.{Planned, Refuses, Keeps, Ended}
 use Rattle.line_laws.proofs.Made.{RingWord, Given, Made, Starts, Ranks, Numbers, Tags, Rings, Idles, Loses, Goes, Sends, Waits, Leaves}

@@ -18,9 +18,9 @@ use Rattle.mac_frames.specs.Grammar.{header_then, low_control, high_control}
 use Rattle.mac_frames.specs.Reading.{head_by, head_in, body_in}
 use Rattle.node_rules.specs.Ciphers.{Ciphers}
 use Rattle.node_rules.specs.Frames.{Sent, Arrived, arrived, arrived_with, Letter, Sealed, Up, Down, to_all, head_of, spelled}
-use Rattle.node_rules.specs.Steps.{flight_by}
+use Rattle.line_rules.specs.Steps.{flight_by}
 use Rattle.line_laws.specs.Laws.{IsSpelled}
-use Rattle.node_rules.specs.Runs.{nonce_in_head}
+use Rattle.line_rules.specs.Runs.{nonce_in_head}
 
 low_sealed : (ack : Bool) (rest : List ℕ) → is_sealed (low_control true ack ∷ rest) ≡ true
 low_sealed true rest = rw (octet_behind [] (low_control true true) rest) refl

@@ -32,7 +32,7 @@ use Rattle.joining_messages.specs.declared.message.JoinBody.TheVariants as body
 use Rattle.node_rules.specs.Joining.{message, server_for}
 use Rattle.node_rules.specs.Ciphers.{Ciphers}
 use Rattle.node_rules.specs.Frames.{arrived}
-use Rattle.node_rules.specs.Answers.{SentGrant, CompletedJoining}
+use Rattle.line_rules.specs.Answers.{SentGrant, CompletedJoining}
 use Rattle.node_rules.specs.Memory.{Line, Memory, Coordinator, next_hop}
 use Rattle.node_rules.specs.Plans.{Plan, resting}
 use Rattle.node_rules.specs.Accepting.{Accepting, accept, marking}
@@ -41,7 +41,7 @@ use Rattle.node_rules.specs.Hearing.{dropped}
 use Rattle.node_rules.specs.Holding.{in_memory, with_line, give_random, given_ends, remembered, on_line, is_commanded, oldest}
 use Rattle.node_rules.specs.Calls as calls
 use Rattle.node_rules.specs.Coordinators as coordinators
-use Rattle.node_rules.specs.Steps.{of_line}
+use Rattle.node_rules.specs.NodeSteps.{of_line}
 use Rattle.line_laws.specs.Stores.{IsHeld, IsReadable}
 use Rattle.line_laws.specs.Sizes.{IsSized}
 use Rattle.line_laws.specs.Owed.{AreOctets, KeepsRanges}

@@ -26,7 +26,7 @@ use Rattle.node_rules.specs.declared.heard.Way.{Way}
 use Rattle.node_rules.specs.declared.heard.Way.TheVariants.{Air, Near, Mesh}
 use Rattle.node_rules.specs.declared.refusal.Dropped.{Dropped}
 use Rattle.node_rules.specs.declared.refusal.Dropped.TheVariants as drops
-use Rattle.node_rules.specs.Answers.{SentGrant, CompletedJoining}
+use Rattle.line_rules.specs.Answers.{SentGrant, CompletedJoining}
 use Rattle.node_rules.specs.Memory.{Line, Memory, CoordinatorSession}
 use Rattle.node_rules.specs.Plans.{Plan, resting}
 use Rattle.node_rules.specs.Doings.{Doing, Ends, alone, begun}

@@ -20,7 +20,7 @@ use Rattle.joining_messages.proofs.GrantLaws.{one_grant}
 use Rattle.eap_psk.specs.Messages.{granting_text}
 use Rattle.eap_psk.specs.Tags.{granting_tag}
 use Rattle.eap_psk.specs.declared.server.Agreed.{Agreed}
-use Rattle.node_rules.specs.Answers.{SentGrant}
+use Rattle.line_rules.specs.Answers.{SentGrant}
 use Rattle.node_rules.specs.Memory.{Memory, Coordinator, Node}
 use Rattle.node_rules.specs.Plans.{Plan, Outcome, carry_out}
 use Rattle.node_rules.specs.Laws.{IsWhole, IsCutOff}
@@ -33,8 +33,9 @@ use Rattle.node_rules.specs.Doings.{Doing, begun, choose, refused, ringed, seali
 use Rattle.node_rules.specs.Holding.{in_memory}
 use Rattle.node_rules.specs.Meters.{provision}
 use Rattle.node_rules.specs.Coordinators.{grant_for, depot, depot_by, changed, entered, orders}
-use Rattle.node_rules.specs.Worlds.{Issued, same_tag, is_forged_tag}
-use Rattle.node_rules.specs.Steps.{Did, acts, stays, left_by, issued_at, issued_by, issued_of}
+use Rattle.line_rules.specs.Worlds.{Issued, same_tag, is_forged_tag}
+use Rattle.node_rules.specs.NodeSteps.{Did, acts, stays, left_by}
+use Rattle.line_rules.specs.Steps.{issued_at, issued_by, issued_of}
 use Rattle.node_rules.proofs.Writing.{clean}
 use Rattle.line_laws.specs.Stores.{IsHeld, IsReadable, IsBookKept, IsKept}
 use Rattle.line_laws.proofs.Keeping.{Left, Leads, carried}

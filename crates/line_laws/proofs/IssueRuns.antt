@@ -11,11 +11,11 @@ use Rattle.plc_base.specs.declared.key.Key.{Key}
 use Rattle.group_keys.specs.KeyRing as ring
 use Rattle.group_keys.specs.KeyBook as books
 use Rattle.node_rules.specs.Ciphers.{Ciphers}
-use Rattle.node_rules.specs.Events.{IsEvent, IsEui}
+use Rattle.line_rules.specs.Events.{IsEvent, IsEui}
 use Rattle.node_rules.specs.Memory.{Memory, Role, Coordinator, Meter, Node}
-use Rattle.node_rules.specs.Worlds.{World, Issued, Deeds, node_at, start}
-use Rattle.node_rules.specs.Steps.{Step}
-use Rattle.node_rules.specs.Runs.{Entry, IsRun, all_of, issued, IsIssued, HoldsIssued, HasIssuedKeys, HasOnlyIssuedKeys}
+use Rattle.line_rules.specs.Worlds.{World, Issued, Deeds, node_at, start}
+use Rattle.line_rules.specs.Steps.{Step}
+use Rattle.line_rules.specs.Runs.{Entry, IsRun, all_of, issued, IsIssued, HoldsIssued, HasIssuedKeys, HasOnlyIssuedKeys}
 use Rattle.line_laws.specs.Stores.{IsKept}
 use Rattle.line_laws.specs.Owed.{KeepsRanges}
 use Rattle.line_laws.specs.Laws.{AreSaid, FlightsAreOctets}

@@ -15,18 +15,18 @@ use Rattle.plc_base.specs.declared.key.Rand.{Rand}
 use Rattle.plc_base.specs.Grant.{Granted}
 use Rattle.group_keys.specs.KeyRing as ring
 use Rattle.group_keys.specs.KeyBook as book
-use Rattle.node_rules.specs.declared.event.Event.{Event}
-use Rattle.node_rules.specs.declared.event.Event.TheVariants as events
-use Rattle.node_rules.specs.declared.event.Answer.{Answer}
-use Rattle.node_rules.specs.declared.event.StepFault.{StepFault}
-use Rattle.node_rules.specs.declared.event.StepFault.TheVariants as faults
+use Rattle.line_rules.specs.declared.event.Event.{Event}
+use Rattle.line_rules.specs.declared.event.Event.TheVariants as events
+use Rattle.line_rules.specs.declared.event.Answer.{Answer}
+use Rattle.line_rules.specs.declared.event.StepFault.{StepFault}
+use Rattle.line_rules.specs.declared.event.StepFault.TheVariants as faults
 use Rattle.node_rules.specs.declared.heard.Accepted.{Accepted}
 use Rattle.node_rules.specs.declared.refusal.CoordinatorRefusal.{CoordinatorRefusal}
 use Rattle.node_rules.specs.declared.refusal.CoordinatorRefusal.TheVariants as orders
 use Rattle.node_rules.specs.declared.refusal.Dropped.TheVariants as drops
 use Rattle.node_rules.specs.declared.refusal.FrameRefusal.{FrameRefusal}
 use Rattle.node_rules.specs.declared.refusal.FrameRefusal.TheVariants as frames
-use Rattle.node_rules.specs.declared.event.Answer.TheVariants as said
+use Rattle.line_rules.specs.declared.event.Answer.TheVariants as said
 use Rattle.node_rules.specs.declared.refusal.RandomFault.TheVariants as randoms
 use Rattle.node_rules.specs.declared.refusal.JoinRefusal.TheVariants as joins
 use Rattle.node_rules.specs.declared.refusal.LeaveRefusal.TheVariants as leaves
@@ -40,13 +40,14 @@ use Rattle.node_rules.specs.Calls as calls
 use Rattle.node_rules.specs.Meters as meters
 use Rattle.node_rules.specs.Coordinators as coordinator_rules
 use Rattle.node_rules.specs.Opening.{first_grant, remembering, memory_of}
-use Rattle.node_rules.specs.Answers.{Reception, meter_reception, coordinator_reception, random_word, join_word, leave_word, sent_word, ordered_word, frame_word}
+use Rattle.line_rules.specs.Answers.{Reception, meter_reception, coordinator_reception, random_word, join_word, leave_word, sent_word, ordered_word, frame_word}
 use Rattle.group_keys.specs.declared.fault.RingFault.TheVariants.{Store as RingStore}
 use Rattle.node_rules.specs.Doings.{choose, begun, ringed}
 use Rattle.node_rules.specs.Holding.{with_line}
-use Rattle.node_rules.specs.Events.{IsEvent}
-use Rattle.node_rules.specs.Worlds.{World, Flight, Deeds, node_at, flight_at, is_forged_tag}
-use Rattle.node_rules.specs.Steps.{Step, Did, acts, stays, answering, of_line, set_up, ran, told, acted, once_begun, in_setup, has_begun, takes_setup, on_node, on_meter, blank_node, identity, hears, restarts, memory_by, ticked, rand, join, joins_by, leave, send, sends_by, sent_if, breaks, breaks_by, lose, tick, restart, cut, show, psk_of, deeds, happened, coordinator, coordinator_node, meter, is_known, depot, depot_by, near, near_by, keeps_rank, ranks_full, offered_near, preset, allow, allowed, deliver, inject, arrives, accepted_by, received, by_coordinator, forged_by, note_by, rekey, challenge, activate, kick, step}
+use Rattle.line_rules.specs.Events.{IsEvent}
+use Rattle.line_rules.specs.Worlds.{World, Flight, Deeds, node_at, flight_at, is_forged_tag}
+use Rattle.line_rules.specs.Steps.{Step, set_up, ran, told, acted, once_begun, in_setup, has_begun, takes_setup, on_node, on_meter, blank_node, identity, hears, restarts, memory_by, ticked, rand, join, joins_by, leave, send, sends_by, sent_if, breaks, breaks_by, lose, tick, restart, cut, show, psk_of, deeds, happened, coordinator, coordinator_node, meter, is_known, depot, depot_by, near, near_by, keeps_rank, ranks_full, offered_near, preset, allow, allowed, deliver, inject, arrives, accepted_by, received, by_coordinator, forged_by, note_by, rekey, challenge, activate, kick, step}
+use Rattle.node_rules.specs.NodeSteps.{Did, acts, stays, answering, of_line}
 use Rattle.plc_base.specs.declared.tags.PairTag.{PairTag}
 use Rattle.std.proofs.Common.{append-nil}
 use Rattle.node_rules.specs.declared.heard.Heard.{Heard}
@@ -56,9 +57,9 @@ use Rattle.node_rules.specs.declared.heard.MeterHeard.TheVariants as meter_heard
 use Rattle.node_rules.specs.declared.heard.CoordinatorHeard.{CoordinatorHeard}
 use Rattle.node_rules.specs.declared.heard.CoordinatorHeard.TheVariants as coordinator_heard
 use Rattle.node_rules.specs.declared.refusal.Dropped.{Dropped}
-use Rattle.node_rules.specs.Answers.{line_reception}
-use Rattle.node_rules.specs.Worlds.{Issued}
-use Rattle.node_rules.specs.Steps.{issued_of, issued_by}
+use Rattle.line_rules.specs.Answers.{line_reception}
+use Rattle.line_rules.specs.Worlds.{Issued}
+use Rattle.line_rules.specs.Steps.{issued_of, issued_by}
 use Rattle.plc_base.specs.declared.keeper.BadStore.{BadStore}
 use Rattle.node_rules.specs.Opening.{line_of, reading}
 use Rattle.node_rules.specs.Hearing.{dropped}
@@ -86,7 +87,7 @@ use Rattle.line_laws.proofs.IssueNodes.{RingOk, TagOk, MeterOk, MeterDid, Nought
 use Rattle.line_laws.proofs.IssueCalls.{Quietly, quiet_center, send_quietly, near_quietly, counter_quietly, number_quietly, broke_quietly, random_quietly, accept_quietly, hears_center, allow_center, depot_center, rekey_center, activate_self_center, challenge_center, activate_center, kick_center}
 use Rattle.line_laws.proofs.IssueWorlds.{Keyed, IsMeter, same_keyed, told_meter, told_center, told_here, keyed_more}
 use Rattle.node_rules.specs.Accepting.{same_eui}
-use Rattle.node_rules.specs.Events.{IsEui}
+use Rattle.line_rules.specs.Events.{IsEui}
 
 pub data StepKeyed (w : World) (given : List Issued) : Step → Type 0 where
   Fails : (fault : StepFault) → StepKeyed w given (Err fault)

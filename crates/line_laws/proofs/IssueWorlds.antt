@@ -8,9 +8,10 @@ use Rattle.plc_base.proofs.SlotTables.{slice_get-set, slice_get-set_other}
 use Rattle.group_keys.specs.KeyBook as books
 use Rattle.node_rules.specs.Ciphers.{Ciphers}
 use Rattle.node_rules.specs.Memory.{Role, Coordinator, Meter, Node}
-use Rattle.node_rules.specs.Worlds.{World, Issued, node_at}
-use Rattle.node_rules.specs.Steps.{Did, told}
-use Rattle.node_rules.specs.Events.{IsEui}
+use Rattle.line_rules.specs.Worlds.{World, Issued, node_at}
+use Rattle.node_rules.specs.NodeSteps.{Did}
+use Rattle.line_rules.specs.Steps.{told}
+use Rattle.line_rules.specs.Events.{IsEui}
 use Rattle.line_laws.proofs.Worlds.{within as place_within}
 use Rattle.line_laws.proofs.IssueWords.{Each, each_append, each_weaker}
 use Rattle.line_laws.proofs.IssueNodes.{TagOk, MeterOk, MeterDid, CenterOk, CenterDid, ring_later, tag_later}

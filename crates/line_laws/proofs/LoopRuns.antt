@@ -9,10 +9,10 @@ use Rattle.loadng_messages.specs.declared.message.Message.TheVariants.{Rreq, Rre
 use Rattle.routing_set.specs.declared.rank.Rank.{Rank}
 use Rattle.routing_set.specs.RoutingSet as routing
 use Rattle.node_rules.specs.Ciphers.{Ciphers}
-use Rattle.node_rules.specs.Events.{IsEvent}
-use Rattle.node_rules.specs.Worlds.{World, Flight, start}
-use Rattle.node_rules.specs.Runs.{Entry, IsRun}
-use Rattle.node_rules.specs.Steps.{Step}
+use Rattle.line_rules.specs.Events.{IsEvent}
+use Rattle.line_rules.specs.Worlds.{World, Flight, start}
+use Rattle.line_rules.specs.Runs.{Entry, IsRun}
+use Rattle.line_rules.specs.Steps.{Step}
 use Rattle.line_laws.specs.Laws.{AreSaid, FlightsAreOctets}
 use Rattle.line_laws.specs.Owed.{KeepsRanges}
 use Rattle.line_laws.proofs.Worlds.{WorldOk, FlightFits}

@@ -33,7 +33,7 @@ use Rattle.node_rules.specs.Hearing.{dropped}
 use Rattle.node_rules.specs.Holding.{in_memory, with_line, give_random, given_ends}
 use Rattle.node_rules.specs.Calls as calls
 use Rattle.node_rules.specs.Meters as meters
-use Rattle.node_rules.specs.Steps.{of_line}
+use Rattle.node_rules.specs.NodeSteps.{of_line}
 use Rattle.node_rules.proofs.HoldingShapes.{whole}
 use Rattle.line_laws.specs.Stores.{IsHeld, IsReadable, IsLineKept, IsKept}
 use Rattle.line_laws.specs.Sizes.{IsSized}

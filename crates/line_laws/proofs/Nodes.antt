@@ -16,7 +16,7 @@ use Rattle.node_rules.specs.Memory.{Memory, Role, Coordinator, Node}
 use Rattle.node_rules.specs.Plans.{Plan, Outcome, carry_out, resting}
 use Rattle.node_rules.specs.Doings.{Ends, Outgoing, letters, sealed_by, sealing_key}
 use Rattle.node_rules.specs.Holding.{in_memory}
-use Rattle.node_rules.specs.Steps.{Did, acts, stays, left_by}
+use Rattle.node_rules.specs.NodeSteps.{Did, acts, stays, left_by}
 use Rattle.node_rules.specs.Laws.{IsWhole, IsCutOff}
 use Rattle.node_rules.proofs.Sizes.{pending, pending_bound}
 use Rattle.node_rules.proofs.Writing.{clean}

@@ -20,7 +20,7 @@ use Rattle.node_rules.specs.Calls as calls
 use Rattle.node_rules.specs.Coordinators as coordinators
 use Rattle.node_rules.specs.Coordinators.{entered, changed, changes, without_session}
 use Rattle.node_rules.specs.Laws.{IsWhole, IsCutOff}
-use Rattle.node_rules.specs.Steps.{acts, stays, left_by}
+use Rattle.node_rules.specs.NodeSteps.{acts, stays, left_by}
 use Rattle.node_rules.proofs.Writing.{clean}
 use Rattle.line_laws.proofs.StoreMarks.{Accepts, Turned, Plain, Marked}
 

@@ -12,11 +12,12 @@ use Rattle.node_rules.specs.Ciphers.{Ciphers}
 use Rattle.node_rules.specs.Frames.{arrived}
 use Rattle.node_rules.specs.Memory.{Memory, Node, Role, Coordinator, Meter, Load}
 use Rattle.node_rules.specs.Accepting.{accept}
-use Rattle.node_rules.specs.Answers.{Reception, meter_reception, coordinator_reception, frame_word}
+use Rattle.line_rules.specs.Answers.{Reception, meter_reception, coordinator_reception, frame_word}
 use Rattle.node_rules.specs.Meters as meters
 use Rattle.node_rules.specs.Coordinators as coordinators
-use Rattle.node_rules.specs.Steps.{Did, acts, of_line, answering, identity, hears, note_by, forged_by, told, ran, deeds, happened, flights_of, heard, arrives}
-use Rattle.node_rules.specs.Worlds.{Deeds, World}
+use Rattle.node_rules.specs.NodeSteps.{Did, acts, of_line, answering}
+use Rattle.line_rules.specs.Steps.{identity, hears, note_by, forged_by, told, ran, deeds, happened, flights_of, heard, arrives}
+use Rattle.line_rules.specs.Worlds.{Deeds, World}
 use Rattle.line_laws.specs.Letters.{OpensWhatItSeals, IsFlight, AreFlights}
 use Rattle.line_laws.specs.Ranges.{IsLoad, IsLineRanged}
 use Rattle.line_laws.proofs.Made.{RingWord, Carry}

@@ -12,7 +12,7 @@ use Rattle.node_rules.specs.Accepting.{Accepting, accept, marking}
 use Rattle.node_rules.specs.Calls as calls
 use Rattle.node_rules.specs.Doings.{Ends, alone, begun}
 use Rattle.node_rules.specs.Holding.{in_memory, with_line}
-use Rattle.node_rules.specs.Steps.{of_line}
+use Rattle.node_rules.specs.NodeSteps.{of_line}
 use Rattle.node_rules.proofs.HoldingShapes.{whole}
 use Rattle.line_laws.specs.Ranges.{IsLoad, IsLineRanged, IsBody}
 use Rattle.line_laws.proofs.Planned.{Planned, Refuses, Keeps, Ended}

@@ -14,7 +14,8 @@ use Rattle.node_rules.specs.Memory.{Line, Memory}
 use Rattle.node_rules.specs.Doings.{Doing, Outgoing, begun, letters, sealed_by, sealing_key, ranked, numbered, tagged, ringed, rerouted, goes, body_goes, waits, leave}
 use Rattle.node_rules.specs.Holding.{on_line, line_part, remembered, tagged_with, goes_up, goes_down}
 use Rattle.node_rules.specs.Coordinators.{entered}
-use Rattle.node_rules.specs.Steps.{Did, flight_by, flights_of}
+use Rattle.node_rules.specs.NodeSteps.{Did}
+use Rattle.line_rules.specs.Steps.{flight_by, flights_of}
 use Rattle.line_laws.specs.Stores.{IsReadable}
 use Rattle.line_laws.specs.Letters.{IsLetter, GoesUp, GoesDown, IsFlight, AreFlights}
 use Rattle.line_laws.specs.Ranges.{IsLineRanged, IsOut}

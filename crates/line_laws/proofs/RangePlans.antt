@@ -13,7 +13,8 @@ use Rattle.node_rules.specs.Plans.{Plan, Outcome, carry_out, resting}
 use Rattle.node_rules.specs.Doings.{Doing, Ends, counters_left}
 use Rattle.node_rules.specs.Holding.{in_memory}
 use Rattle.node_rules.specs.Laws.{IsWhole, IsCutOff}
-use Rattle.node_rules.specs.Steps.{Did, acts, stays, left_by, flights_of}
+use Rattle.node_rules.specs.NodeSteps.{Did, acts, stays, left_by}
+use Rattle.line_rules.specs.Steps.{flights_of}
 use Rattle.node_rules.proofs.Writing.{clean}
 use Rattle.line_laws.specs.Letters.{AreFlights}
 use Rattle.line_laws.specs.Ranges.{IsLineRanged}

@@ -33,7 +33,7 @@ use Rattle.node_rules.specs.Calls as calls
 use Rattle.node_rules.specs.Meters as meters
 use Rattle.node_rules.specs.Coordinators as coordinators
 use Rattle.node_rules.specs.Opening.{first_grant}
-use Rattle.node_rules.specs.Steps.{of_line}
+use Rattle.node_rules.specs.NodeSteps.{of_line}
 use Rattle.node_rules.proofs.HoldingShapes.{whole, reading}
 use Rattle.line_laws.proofs.StoreMarks.{Accepts, Turned, Plain, Marked, accept_is}
 use Rattle.line_laws.proofs.Planned.{Planned, Refuses, Keeps, Ended}

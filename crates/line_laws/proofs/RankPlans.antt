@@ -20,7 +20,7 @@ use Rattle.node_rules.specs.Plans.{Plan, Outcome, carry_out, resting}
 use Rattle.node_rules.specs.Doings.{Doing, Ends}
 use Rattle.node_rules.specs.Holding.{in_memory}
 use Rattle.node_rules.specs.Laws.{all_put, IsWhole, IsCutOff}
-use Rattle.node_rules.specs.Steps.{Did, acts, stays, left_by}
+use Rattle.node_rules.specs.NodeSteps.{Did, acts, stays, left_by}
 use Rattle.node_rules.proofs.Writing.{clean}
 use Rattle.line_laws.specs.Stores.{IsKept}
 use Rattle.line_laws.proofs.Keeping.{Reads, Left, Leads, leads_beside, leads_append, front_reads}

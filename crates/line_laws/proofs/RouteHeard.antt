@@ -26,8 +26,8 @@ use Rattle.node_rules.specs.Ciphers.{Ciphers}
 use Rattle.node_rules.specs.Frames.{Sealed, Letter, spelled, arrived, to_all}
 use Rattle.node_rules.specs.Hearing.{rank_over}
 use Rattle.node_rules.specs.Memory.{Line, Node}
-use Rattle.node_rules.specs.Worlds.{World, Flight, node_at, has_octets}
-use Rattle.node_rules.specs.Steps.{forged_by}
+use Rattle.line_rules.specs.Worlds.{World, Flight, node_at, has_octets}
+use Rattle.line_rules.specs.Steps.{forged_by}
 use Rattle.node_rules.specs.Accepting.{Accepting, marking}
 use Rattle.node_rules.specs.Plans.{resting}
 use Rattle.line_laws.proofs.StoreMarks.{IsAdmitted, IsPlain, Accepts, Turned, Plain, Marked}

@@ -29,7 +29,8 @@ use Rattle.node_rules.specs.Plans.{Plan, carry_out}
 use Rattle.node_rules.specs.Opening.{memory_of, line_of, remembering, reading, tag_in, blank_routing, first_grant}
 use Rattle.node_rules.specs.Doings.{tag_slot}
 use Rattle.node_rules.specs.Laws.{IsWhole, IsCutOff}
-use Rattle.node_rules.specs.Steps.{Did, acts, stays, left_by, restarts, memory_by, ticked, blank_node, coordinator_node}
+use Rattle.node_rules.specs.NodeSteps.{Did, acts, stays, left_by}
+use Rattle.line_rules.specs.Steps.{restarts, memory_by, ticked, blank_node, coordinator_node}
 use Rattle.node_rules.specs.Coordinators as coordinator_rules
 use Rattle.node_rules.proofs.Writing.{clean}
 use Rattle.line_laws.specs.Stores.{IsKept}

@@ -11,8 +11,9 @@ use Rattle.routing_set.specs.RoutingSet as routing
 use Rattle.node_rules.specs.Ciphers.{Ciphers}
 use Rattle.node_rules.specs.Frames.{Sent, Sealed, Up, Down, Letter, spelled}
 use Rattle.node_rules.specs.Memory.{Node}
-use Rattle.node_rules.specs.Worlds.{World, Flight, node_at}
-use Rattle.node_rules.specs.Steps.{Did, told, flights_of, flight_by}
+use Rattle.line_rules.specs.Worlds.{World, Flight, node_at}
+use Rattle.node_rules.specs.NodeSteps.{Did}
+use Rattle.line_rules.specs.Steps.{told, flights_of, flight_by}
 use Rattle.line_laws.proofs.RankOrder.{at_least_trans, beats_at_least}
 use Rattle.line_laws.proofs.RankSaid.{UnitBacked, unit_rises, FrameBacked}
 use Rattle.line_laws.proofs.RankPlans.{via, NodeCause, Stood, Came, NodeRanks, same_ranks}

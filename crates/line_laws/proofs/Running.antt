@@ -4,17 +4,17 @@ use Rattle.std.specs.Prelude.{All, AllPairs, IfSome, if◌then◌else◌}
 use Rattle.std.specs.Option.{option_map_or}
 use Rattle.std.proofs.lemmas.List.Elements.{All-nil, All-cons, All-head, All-tail, All-weaker}
 use Rattle.plc_base.specs.Keeper.{Records}
-use Rattle.node_rules.specs.declared.event.Event.{Event}
-use Rattle.node_rules.specs.declared.event.Event.TheVariants as events
-use Rattle.node_rules.specs.declared.event.Answer.TheVariants as said
-use Rattle.node_rules.specs.declared.event.StepFault.TheVariants as faults
+use Rattle.line_rules.specs.declared.event.Event.{Event}
+use Rattle.line_rules.specs.declared.event.Event.TheVariants as events
+use Rattle.line_rules.specs.declared.event.Answer.TheVariants as said
+use Rattle.line_rules.specs.declared.event.StepFault.TheVariants as faults
 use Rattle.node_rules.specs.Ciphers.{Ciphers}
-use Rattle.node_rules.specs.Events.{IsEvent}
+use Rattle.line_rules.specs.Events.{IsEvent}
 use Rattle.node_rules.specs.Memory.{Memory, Role, Coordinator, Meter, Node}
-use Rattle.node_rules.specs.Worlds.{World, node_at, start}
-use Rattle.node_rules.specs.Runs as runs
-use Rattle.node_rules.specs.Runs.{Entry, IsRun, IsAlwaysSized, is_restart, RestartsAreAnswered}
-use Rattle.node_rules.specs.Steps.{Step, step, restart, restarts, restart_word, acted, has_begun}
+use Rattle.line_rules.specs.Worlds.{World, node_at, start}
+use Rattle.line_rules.specs.Runs as runs
+use Rattle.line_rules.specs.Runs.{Entry, IsRun, IsAlwaysSized, is_restart, RestartsAreAnswered}
+use Rattle.line_rules.specs.Steps.{Step, step, restart, restarts, restart_word, acted, has_begun}
 use Rattle.line_laws.specs.Stores.{IsKept}
 use Rattle.line_laws.specs.Sizes.{IsSized}
 use Rattle.line_laws.specs.Owed.{KeepsRanges}

@@ -25,18 +25,18 @@ use Rattle.routing_set.specs.OwnNumber as own_number
 use Rattle.fragment_buffers.specs.Taking as pieces
 use Rattle.fragment_buffers.specs.Reassembly.{Reassembly}
 use Rattle.std.proofs.lemmas.List.Filters.{length-filter_both, sum_by-filter_both}
-use Rattle.node_rules.specs.declared.event.Event.{Event}
-use Rattle.node_rules.specs.declared.event.Event.TheVariants as events
-use Rattle.node_rules.specs.declared.event.Answer.{Answer}
-use Rattle.node_rules.specs.declared.event.StepFault.{StepFault}
-use Rattle.node_rules.specs.declared.event.StepFault.TheVariants as faults
+use Rattle.line_rules.specs.declared.event.Event.{Event}
+use Rattle.line_rules.specs.declared.event.Event.TheVariants as events
+use Rattle.line_rules.specs.declared.event.Answer.{Answer}
+use Rattle.line_rules.specs.declared.event.StepFault.{StepFault}
+use Rattle.line_rules.specs.declared.event.StepFault.TheVariants as faults
 use Rattle.node_rules.specs.declared.heard.Accepted.{Accepted}
 use Rattle.node_rules.specs.declared.refusal.CoordinatorRefusal.{CoordinatorRefusal}
 use Rattle.node_rules.specs.declared.refusal.CoordinatorRefusal.TheVariants as orders
 use Rattle.node_rules.specs.declared.refusal.Dropped.TheVariants as drops
 use Rattle.node_rules.specs.declared.refusal.FrameRefusal.{FrameRefusal}
 use Rattle.node_rules.specs.declared.refusal.FrameRefusal.TheVariants as frames
-use Rattle.node_rules.specs.declared.event.Answer.TheVariants as said
+use Rattle.line_rules.specs.declared.event.Answer.TheVariants as said
 use Rattle.node_rules.specs.declared.refusal.RandomFault.TheVariants as randoms
 use Rattle.node_rules.specs.declared.refusal.JoinRefusal.TheVariants as joins
 use Rattle.node_rules.specs.declared.refusal.LeaveRefusal.TheVariants as leaves
@@ -50,14 +50,15 @@ use Rattle.node_rules.specs.Calls as calls
 use Rattle.node_rules.specs.Meters as meters
 use Rattle.node_rules.specs.Coordinators as coordinator_rules
 use Rattle.node_rules.specs.Opening.{first_grant, blank_line, blank_routing, tag_in}
-use Rattle.node_rules.specs.Answers.{Reception, meter_reception, coordinator_reception, random_word, join_word, leave_word, sent_word, ordered_word, frame_word}
+use Rattle.line_rules.specs.Answers.{Reception, meter_reception, coordinator_reception, random_word, join_word, leave_word, sent_word, ordered_word, frame_word}
 use Rattle.group_keys.specs.declared.fault.RingFault.TheVariants.{Store as RingStore}
 use Rattle.node_rules.specs.Doings.{choose}
 use Rattle.node_rules.specs.Holding.{with_line}
 use Rattle.node_rules.specs.Laws.{IsShort}
-use Rattle.node_rules.specs.Events.{IsEvent}
-use Rattle.node_rules.specs.Worlds.{World, Flight, Deeds, node_at, flight_at, is_forged_tag}
-use Rattle.node_rules.specs.Steps.{Step, Did, acts, stays, answering, of_line, set_up, ran, told, flights_of, acted, once_begun, in_setup, has_begun, takes_setup, on_node, on_meter, made_node, blank_node, identity, hears, restarts, memory_by, ticked, rand, join, joins_by, leave, send, sends_by, sent_if, breaks, breaks_by, lose, tick, restart, cut, show, psk_of, deeds, happened, coordinator, coordinator_node, meter, is_known, depot, depot_by, provisioned, near, near_by, keeps_rank, ranks_full, offered_near, preset, allow, allowed, deliver, inject, arrives, accepted_by, received, by_coordinator, forged_by, note_by, rekey, challenge, activate, kick, step}
+use Rattle.line_rules.specs.Events.{IsEvent}
+use Rattle.line_rules.specs.Worlds.{World, Flight, Deeds, node_at, flight_at, is_forged_tag}
+use Rattle.line_rules.specs.Steps.{Step, set_up, ran, told, flights_of, acted, once_begun, in_setup, has_begun, takes_setup, on_node, on_meter, made_node, blank_node, identity, hears, restarts, memory_by, ticked, rand, join, joins_by, leave, send, sends_by, sent_if, breaks, breaks_by, lose, tick, restart, cut, show, psk_of, deeds, happened, coordinator, coordinator_node, meter, is_known, depot, depot_by, provisioned, near, near_by, keeps_rank, ranks_full, offered_near, preset, allow, allowed, deliver, inject, arrives, accepted_by, received, by_coordinator, forged_by, note_by, rekey, challenge, activate, kick, step}
+use Rattle.node_rules.specs.NodeSteps.{Did, acts, stays, answering, of_line}
 use Rattle.line_laws.specs.Stores.{IsReadable, IsLineKept, BookKept, IsNamed, IsKept}
 use Rattle.line_laws.specs.Sizes.{IsLineSized, IsSized}
 use Rattle.line_laws.specs.Owed.{AreOctets, KeepsRanges}

@@ -11,9 +11,10 @@ use Rattle.plc_base.specs.declared.key.Key.{Key}
 use Rattle.node_rules.specs.Ciphers.{Ciphers}
 use Rattle.node_rules.specs.Frames.{spelled}
 use Rattle.node_rules.specs.Memory.{Memory, Coordinator, Meter, Node}
-use Rattle.node_rules.specs.Worlds.{World, Flight, node_at}
-use Rattle.node_rules.specs.Steps.{Did, told, flights_of, flight_by}
-use Rattle.node_rules.specs.Runs.{CounterRises}
+use Rattle.line_rules.specs.Worlds.{World, Flight, node_at}
+use Rattle.node_rules.specs.NodeSteps.{Did}
+use Rattle.line_rules.specs.Steps.{told, flights_of, flight_by}
+use Rattle.line_rules.specs.Runs.{CounterRises}
 use Rattle.frame_counters.proofs.Limits.{stored_limit-kept}
 use Rattle.line_laws.proofs.Frontiers.{next_of, frontier}
 use Rattle.line_laws.specs.Laws.{IsSpelled}

@@ -1,9 +1,9 @@
 -- A joined meter holds only keys that were issued to it.
 use Rattle.std.specs.Prelude.{◌≡◌, All, false, List, [], ◌∷◌, ◌++◌}
 use Rattle.node_rules.specs.Ciphers.{Ciphers}
-use Rattle.node_rules.specs.Events.{IsEui}
-use Rattle.node_rules.specs.Worlds.{Issued, start}
-use Rattle.node_rules.specs.Runs.{Entry, IsRun, issued, HasOnlyIssuedKeys, Agrees}
+use Rattle.line_rules.specs.Events.{IsEui}
+use Rattle.line_rules.specs.Worlds.{Issued, start}
+use Rattle.line_rules.specs.Runs.{Entry, IsRun, issued, HasOnlyIssuedKeys, Agrees}
 use Rattle.line_laws.specs.Owed.{KeepsRanges}
 use Rattle.line_laws.specs.Laws.{AreSaid, FlightsAreOctets}
 

@@ -1,9 +1,9 @@
 -- What holds of every run, forged or not.
 use Rattle.std.specs.Prelude.{Some, None, true, is_some, ◌≡◌, ◌+◌, All, List, [], ◌∷◌, length}
 use Rattle.node_rules.specs.Ciphers.{Ciphers}
-use Rattle.node_rules.specs.Events.{IsEvent}
-use Rattle.node_rules.specs.Worlds.{World, Flight, start}
-use Rattle.node_rules.specs.Runs.{Entry, IsRun, IsAlwaysSized, RestartsAreAnswered, CountersRise, nonce_parts}
+use Rattle.line_rules.specs.Events.{IsEvent}
+use Rattle.line_rules.specs.Worlds.{World, Flight, start}
+use Rattle.line_rules.specs.Runs.{Entry, IsRun, IsAlwaysSized, RestartsAreAnswered, CountersRise, nonce_parts}
 use Rattle.plc_base.specs.declared.key.Key.{Key}
 use Rattle.line_laws.specs.Owed.{AreOctets, KeepsRanges}
 

@@ -13,7 +13,7 @@ use Rattle.loadng_messages.specs.Grammar as messages
 use Rattle.joining_messages.specs.declared.message.JoinMessage.{JoinMessage}
 use Rattle.node_rules.specs.Ciphers.{Ciphers}
 use Rattle.node_rules.specs.Frames.{Letter, Sealed, Up, Down, spelled}
-use Rattle.node_rules.specs.Worlds.{Flight}
+use Rattle.line_rules.specs.Worlds.{Flight}
 
 -- What a key sealed, the same key opens: with the same head, behind the octets of that head. A tag has four octets.
 pub record OpensWhatItSeals (ciphers : Ciphers) : Type 0 where

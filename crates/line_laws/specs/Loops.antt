@@ -18,8 +18,8 @@ use Rattle.mesh_header.specs.declared.unit.Unit.TheVariants as units
 use Rattle.mesh_header.specs.Reading.{unit_in}
 use Rattle.routing_set.specs.Ranks.{IsAtLeast}
 use Rattle.routing_set.specs.RoutingSet as routing
-use Rattle.node_rules.specs.declared.event.Event.{Event}
-use Rattle.node_rules.specs.declared.event.Event.TheVariants as events
+use Rattle.line_rules.specs.declared.event.Event.{Event}
+use Rattle.line_rules.specs.declared.event.Event.TheVariants as events
 use Rattle.node_rules.specs.declared.heard.Accepted.{Accepted}
 use Rattle.node_rules.specs.declared.heard.MeterHeard.TheVariants as meter_heard
 use Rattle.node_rules.specs.declared.refusal.CoordinatorRefusal.TheVariants as orders
@@ -29,7 +29,7 @@ use Rattle.node_rules.specs.Accepting.{accept}
 use Rattle.node_rules.specs.Calls as calls
 use Rattle.node_rules.specs.Ciphers.{Ciphers}
 use Rattle.node_rules.specs.Coordinators as coordinator_rules
-use Rattle.node_rules.specs.Events.{IsLineOctets}
+use Rattle.line_rules.specs.Events.{IsLineOctets}
 use Rattle.node_rules.specs.Frames.{Sent, Sealed, Up, Down, Letter, Arrived, spelled, arrived}
 use Rattle.node_rules.specs.Hearing.{hear}
 use Rattle.node_rules.specs.Holding.{unread, Unread}
@@ -37,9 +37,10 @@ use Rattle.node_rules.specs.Memory.{Memory, MeterSession, Meter, Node, node_addr
 use Rattle.node_rules.specs.Meters as meters
 use Rattle.node_rules.specs.Meters.{Identity}
 use Rattle.node_rules.specs.Plans.{Plan}
-use Rattle.node_rules.specs.Runs.{Entry, IsRun, HasNoLoop}
-use Rattle.node_rules.specs.Steps.{Did, acts, of_line, identity, hears, psk_of, note_by, forged_by}
-use Rattle.node_rules.specs.Worlds.{World, node_at, is_forged_tag, start}
+use Rattle.line_rules.specs.Runs.{Entry, IsRun, HasNoLoop}
+use Rattle.node_rules.specs.NodeSteps.{Did, acts, of_line}
+use Rattle.line_rules.specs.Steps.{identity, hears, psk_of, note_by, forged_by}
+use Rattle.line_rules.specs.Worlds.{World, node_at, is_forged_tag, start}
 use Rattle.line_laws.specs.Laws.{AreSaid, FlightsAreOctets}
 use Rattle.line_laws.specs.Owed.{AreOctets, KeepsRanges}
 

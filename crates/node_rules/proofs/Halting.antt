@@ -1,6 +1,6 @@
 -- What a halted node has, and does.
 use Rattle.std.proofs.Common.{refl}
-use Rattle.node_rules.specs.Steps.{acts}
+use Rattle.node_rules.specs.NodeSteps.{acts}
 use Rattle.node_rules.specs.Laws.{HaltedHasNoAddress, RinglessHasNoAddress, HaltedDoesNothing}
 
 pub halted : HaltedHasNoAddress

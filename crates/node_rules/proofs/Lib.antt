@@ -1,4 +1,3 @@
-pub mod Witness
 pub mod Writing
 pub mod Halting
 pub mod Sizes
@@ -11,5 +10,4 @@ pub mod MeterShapes
 pub mod CoordinatorShapes
 pub mod Refusals
 pub mod Bounds
-pub mod StepsOn
 pub mod Readings

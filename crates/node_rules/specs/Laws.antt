@@ -24,9 +24,7 @@ use Rattle.node_rules.specs.declared.refusal.SendRefusal.TheVariants as sends
 use Rattle.node_rules.specs.declared.refusal.JoinRefusal.TheVariants as joins
 use Rattle.node_rules.specs.declared.refusal.LeaveRefusal.TheVariants as leaves
 use Rattle.node_rules.specs.declared.refusal.CoordinatorRefusal.TheVariants as orders
-use Rattle.node_rules.specs.declared.event.Event.{Event}
 use Rattle.plc_base.specs.declared.tags.PairTag.{PairTag}
-use Rattle.node_rules.specs.Worlds.{World, Flight, Deeds}
 use Rattle.node_rules.specs.Ciphers.{Ciphers}
 use Rattle.node_rules.specs.Frames.{Arrived}
 use Rattle.node_rules.specs.Accepting.{accept}
@@ -37,7 +35,7 @@ use Rattle.node_rules.specs.Coordinators as coordinator_rules
 use Rattle.node_rules.specs.Doings.{blocks_waiting}
 use Rattle.node_rules.specs.Memory.{Line, Body, Load, Datagram, Command, Memory, Node, node_address, node_route}
 use Rattle.node_rules.specs.Plans.{Plan, Outcome, carry_out}
-use Rattle.node_rules.specs.Steps.{acts, stays, step}
+use Rattle.node_rules.specs.NodeSteps.{acts, stays}
 
 -- # Store writes that fail
 
@@ -255,35 +253,6 @@ pub record OnlyMarks {M A : Type 0} (p : Plan M A) : Type 0 where
 -- accepting a frame stores at most the mark of its sender, at a table of at most 64 senders
 abbrev pub AcceptingOnlyMarks : Type 0
 AcceptingOnlyMarks = (l : Line) (own : Eui) (a : Option Arrived) → length l.marks ≤ 64 → OnlyMarks (accept l own a)
-
--- # Steps of the world
-
--- A flight as it was, lost or not; one that was lost stays so.
-pub record SameFlight (f g : Flight) : Type 0 where
-  pub from : g.from ≡ f.from
-  pub octets : g.octets ≡ f.octets
-  pub key : g.key ≡ f.key
-  pub note : g.note ≡ f.note
-  pub lost : f.lost ≡ true → g.lost ≡ true
-
--- the flights of the one list stand in front of the other, but for what was lost since
-abbrev pub KeepsFlights : List Flight → List Flight → Type 0
-KeepsFlights [] later = Unit {0}
-KeepsFlights (f ∷ flights) [] = ⊥
-KeepsFlights (f ∷ flights) (g ∷ later) = SameFlight f g × KeepsFlights flights later
-
--- A world one event later: nothing that was sent or made is taken back, no node goes, and the clock does not fall.
-pub record GoesOn (w v : World) : Type 0 where
-  pub events : v.events ≡ w.events + 1
-  pub clock : w.clock ≤ v.clock
-  pub running : w.running ≡ true → v.running ≡ true
-  pub nodes : length w.nodes ≤ length v.nodes
-  pub flights : KeepsFlights w.flights v.flights
-  pub made : (more : List PairTag) × (v.made ≡ w.made ++ more)
-
--- every event that is taken leads one event on
-abbrev pub StepsGoOn : Type 0
-StepsGoOn = (ciphers : Ciphers) (w v : World) (event : Event) (d : Deeds) → step ciphers w event ≡ Ok (v, d) → GoesOn w v
 
 -- # Readings
 

@@ -11,12 +11,6 @@ pub mod Holding
 pub mod Meters
 pub mod Coordinators
 pub mod Opening
-pub mod Answers
-pub mod Events
-pub mod Worlds
+pub mod NodeSteps
 pub mod Showing
-pub mod Steps
-pub mod Runs
 pub mod Laws
-pub mod Scripts
-pub mod Rows

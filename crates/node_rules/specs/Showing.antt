@@ -5,7 +5,9 @@ use Rattle.plc_base.specs.Grant.{Granted}
 use Rattle.frame_counters.specs.declared.peer_marks.Peer.{Peer}
 use Rattle.routing_set.specs.declared.entry.RoutingEntry.{RoutingEntry}
 use Rattle.node_rules.specs.Memory.{Line, Node, address_of}
-use Rattle.node_rules.specs.Worlds.{Shown, ShownRoute, ShownPeer}
+use Rattle.node_rules.specs.declared.shown.Shown.{Shown}
+use Rattle.node_rules.specs.declared.shown.ShownRoute.{ShownRoute}
+use Rattle.node_rules.specs.declared.shown.ShownPeer.{ShownPeer}
 
 -- # In the order of addresses
 

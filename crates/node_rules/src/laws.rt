@@ -1,5 +1,5 @@
 //! Laws of the rules: each carried by a function that does nothing.
-ghost use Rattle.node_rules.specs.Laws.{WritesFailCleanly, NoCutNoFailure, HaltedHasNoAddress, RinglessHasNoAddress, HaltedDoesNothing, AFrameRefusedChangesNothing, ADropChangesNothing, AMetersDropChangesNothing, ACoordinatorsDropChangesNothing, ASendRefusedChangesNothing, AJoinRefusedChangesNothing, AnOrderRefusedChangesNothing, HearingIsBounded, AMetersHearingIsBounded, ACoordinatorsHearingIsBounded, ASendIsBounded, AJoinIsBounded, AnOrderIsBounded, AcceptingOnlyMarks, StepsGoOn, MessagesAreRead, JoinsAreRead, UnitsAreRead, GrantsAreRead};
+ghost use Rattle.node_rules.specs.Laws.{WritesFailCleanly, NoCutNoFailure, HaltedHasNoAddress, RinglessHasNoAddress, HaltedDoesNothing, AFrameRefusedChangesNothing, ADropChangesNothing, AMetersDropChangesNothing, ACoordinatorsDropChangesNothing, ASendRefusedChangesNothing, AJoinRefusedChangesNothing, AnOrderRefusedChangesNothing, HearingIsBounded, AMetersHearingIsBounded, ACoordinatorsHearingIsBounded, ASendIsBounded, AJoinIsBounded, AnOrderIsBounded, AcceptingOnlyMarks, MessagesAreRead, JoinsAreRead, UnitsAreRead, GrantsAreRead};
 
 /// Where the write of a plan fails, the writes in front of it are stored and those behind it are not; the failed one is stored as the
 /// loss of power says. The node answers the word of a failed write, and nothing is sent, made or kept in memory. A plan whose writes are
@@ -117,13 +117,6 @@ pub fn an_order_is_bounded()
 #[tactic(auto)]
 pub fn accepting_only_marks()
     ensures { AcceptingOnlyMarks }
-{}
-
-/// An event that is taken counts one event on, and takes back no flight and no tag that was made; no node goes, and the clock does not
-/// fall.
-#[tactic(auto)]
-pub fn steps_go_on()
-    ensures { StepsGoOn }
 {}
 
 /// The message that is read out of octets is the one that they spell.

@@ -1,6 +1,6 @@
 -- What is shown of a station besides its lists.
 use Rattle.std.specs.Prelude.{◌≡◌}
-use Rattle.node_rules.specs.Worlds.{Shown}
+use Rattle.node_rules.specs.declared.shown.Shown.{Shown}
 use Rattle.plc_station.specs.declared.showing.ShownHead.{ShownHead}
 
 -- it is that of what the rules show

@@ -15,14 +15,17 @@ use Rattle.eap_psk.specs.declared.fault.EapFault.{EapFault}
 use Rattle.eap_psk.specs.declared.fault.EapFault.TheVariants.{Form, OtherSession, BadMac, BadChannel, NoSuccess}
 use Rattle.eap_psk.specs.declared.server.Server.{Server}
 use Rattle.eap_psk.specs.declared.peer.Peer.{Peer}
-use Rattle.node_rules.specs.declared.event.Answer.{Answer}
-use Rattle.node_rules.specs.declared.event.Event.{Event}
-use Rattle.node_rules.specs.declared.event.Event.TheVariants.{Coordinator, Meter, Depot}
+use Rattle.line_rules.specs.declared.event.Answer.{Answer}
+use Rattle.line_rules.specs.declared.event.Event.{Event}
+use Rattle.line_rules.specs.declared.event.Event.TheVariants.{Coordinator, Meter, Depot}
 use Rattle.node_rules.specs.Ciphers.{Ciphers}
-use Rattle.node_rules.specs.Worlds.{World, Handed, Shown, Admission, start}
-use Rattle.node_rules.specs.declared.event.StepFault.{StepFault}
-use Rattle.node_rules.specs.Steps.{Step, step}
-use Rattle.node_rules.specs.Runs.{Entry, run, one_of}
+use Rattle.line_rules.specs.Worlds.{World, start}
+use Rattle.line_rules.specs.declared.happenings.Handed.{Handed}
+use Rattle.line_rules.specs.declared.happenings.Admission.{Admission}
+use Rattle.node_rules.specs.declared.shown.Shown.{Shown}
+use Rattle.line_rules.specs.declared.event.StepFault.{StepFault}
+use Rattle.line_rules.specs.Steps.{Step, step}
+use Rattle.line_rules.specs.Runs.{Entry, run, one_of}
 
 -- # Plain ciphers
 

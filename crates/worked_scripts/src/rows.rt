@@ -1,5 +1,5 @@
 //! Runs of small scripts, computed: each carried by a function that does nothing.
-ghost use Rattle.node_rules.specs.Rows.{ARepeatIsRefused, DatagramsOfEverySize, DiscoveryOverTwoRelays, ABrokenRouteStaysBroken, ALostFlightComesNoMore, CostsAreSpent, NothingIsSentWhenSpent, AForgedFrameIsNamed, MaliciousFramesAreRefused, RotationAndKick, AMeterJoinsOverTheAir, AnOldThirdPacketIsRefused, AMeterJoinsThroughAnAgent, AKickedMeterMayNotKnow, FramesAreSpelled, AFailedWriteHalts, BadLinesHaveTheirReasons};
+ghost use Rattle.worked_scripts.specs.Rows.{ARepeatIsRefused, DatagramsOfEverySize, DiscoveryOverTwoRelays, ABrokenRouteStaysBroken, ALostFlightComesNoMore, CostsAreSpent, NothingIsSentWhenSpent, AForgedFrameIsNamed, MaliciousFramesAreRefused, RotationAndKick, AMeterJoinsOverTheAir, AnOldThirdPacketIsRefused, AMeterJoinsThroughAnAgent, AKickedMeterMayNotKnow, FramesAreSpelled, AFailedWriteHalts, BadLinesHaveTheirReasons};
 
 /// A datagram over one hop is handed up, and its repeat is refused.
 #[tactic(auto, using(crate::proofs::Witness::a_repeat_is_refused))]

@@ -1,15 +1,12 @@
-//! The events of a line, and what is said of them.
-use plc_base::{Eui, Key, LinkCost, Octets, Rand};
+//! The events of a line, and their answers.
+use plc_base::{Eui, Key, LinkCost, OctetRef, Rand};
 use thiserror::Error;
-
-/// The octets that a line of a script can hold in hexadecimal: at most 2,048.
-pub type LineOctets = Octets<2048>;
 
 /// What a line of a script asks for, with the fields of the line in their order.
 ///
 /// Nodes are numbered from 0, flights from 1.
-#[derive(Debug, Drop)]
-pub enum Event {
+#[derive(Drop)]
+pub enum Event<'a> {
     /// Makes node 0, the coordinator, with its group key.
     Coordinator {
         eui: Eui,
@@ -62,7 +59,7 @@ pub enum Event {
     Send {
         from: u32,
         to: u32,
-        datagram: LineOctets,
+        datagram: OctetRef<'a>,
     },
     /// Brings a flight to a node over a link of this cost.
     Deliver {
@@ -74,7 +71,7 @@ pub enum Event {
     Inject {
         node: u32,
         cost: LinkCost,
-        octets: LineOctets,
+        octets: OctetRef<'a>,
     },
     /// Takes a flight away.
     Lose {

@@ -6,15 +6,15 @@ use Rattle.plc_base.specs.declared.key.Rand.{Rand as RandomValue}
 use Rattle.mesh_header.specs.declared.unit.Unit.TheVariants.{Whole, Local}
 use Rattle.loadng_messages.specs.declared.message.Message.TheVariants.{Rreq, Rerr}
 use Rattle.loadng_messages.specs.Grammar as messages
-use Rattle.node_rules.specs.declared.event.Answer.TheVariants as said
-use Rattle.node_rules.specs.declared.event.Event.{Event}
-use Rattle.node_rules.specs.declared.event.Event.TheVariants.{Coordinator, Meter, Depot, Near, Counter, Number, Allow, Rand, Join, Send, Deliver, Inject, Lose, Break, Tick, Cut, Rekey, Activate, Challenge, Kick, Show}
-use Rattle.node_rules.specs.declared.event.StepFault.TheVariants as faults
+use Rattle.line_rules.specs.declared.event.Answer.TheVariants as said
+use Rattle.line_rules.specs.declared.event.Event.{Event}
+use Rattle.line_rules.specs.declared.event.Event.TheVariants.{Coordinator, Meter, Depot, Near, Counter, Number, Allow, Rand, Join, Send, Deliver, Inject, Lose, Break, Tick, Cut, Rekey, Activate, Challenge, Kick, Show}
+use Rattle.line_rules.specs.declared.event.StepFault.TheVariants as faults
 use Rattle.node_rules.specs.Frames.{Sealed, spelled}
-use Rattle.node_rules.specs.Worlds.{Flight, start, flight_at}
-use Rattle.node_rules.specs.Runs.{run}
+use Rattle.line_rules.specs.Worlds.{Flight, start, flight_at}
+use Rattle.line_rules.specs.Runs.{run}
 use Rattle.std.specs.Option.{option_map}
-use Rattle.node_rules.specs.Scripts.{plain, eui, group_key, pair_key, two_meters, three_meters, four_meters, answers_after, counts_of, fault_after, world_behind, handed_at_last, shown_at_last, forged_at_last, takers, doers, admissions}
+use Rattle.worked_scripts.specs.Scripts.{plain, eui, group_key, pair_key, two_meters, three_meters, four_meters, answers_after, counts_of, fault_after, world_behind, handed_at_last, shown_at_last, forged_at_last, takers, doers, admissions}
 
 -- # One hop
 

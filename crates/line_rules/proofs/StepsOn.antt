@@ -8,11 +8,11 @@ use Rattle.plc_base.specs.declared.address.Eui.{Eui}
 use Rattle.plc_base.specs.declared.key.Key.{Key}
 use Rattle.plc_base.specs.declared.key.Rand.{Rand}
 use Rattle.plc_base.specs.Grant.{Granted}
-use Rattle.node_rules.specs.declared.event.Event.{Event}
-use Rattle.node_rules.specs.declared.event.Event.TheVariants as events
-use Rattle.node_rules.specs.declared.event.Answer.{Answer}
-use Rattle.node_rules.specs.declared.event.StepFault.{StepFault}
-use Rattle.node_rules.specs.declared.event.StepFault.TheVariants as faults
+use Rattle.line_rules.specs.declared.event.Event.{Event}
+use Rattle.line_rules.specs.declared.event.Event.TheVariants as events
+use Rattle.line_rules.specs.declared.event.Answer.{Answer}
+use Rattle.line_rules.specs.declared.event.StepFault.{StepFault}
+use Rattle.line_rules.specs.declared.event.StepFault.TheVariants as faults
 use Rattle.node_rules.specs.declared.heard.Accepted.{Accepted}
 use Rattle.node_rules.specs.declared.refusal.CoordinatorRefusal.{CoordinatorRefusal}
 use Rattle.node_rules.specs.declared.refusal.CoordinatorRefusal.TheVariants as orders
@@ -21,10 +21,11 @@ use Rattle.node_rules.specs.Ciphers.{Ciphers}
 use Rattle.node_rules.specs.Memory.{Line, Node, node_address}
 use Rattle.node_rules.specs.Calls as calls
 use Rattle.node_rules.specs.Coordinators as coordinator_rules
-use Rattle.node_rules.specs.Answers.{Reception}
-use Rattle.node_rules.specs.Worlds.{World, Flight, Deeds, node_at, flight_at}
-use Rattle.node_rules.specs.Steps.{provisioned, ticked, Step, Did, acts, set_up, ran, told, acted, has_begun, takes_setup, once_begun, in_setup, on_node, on_meter, made_node, is_known, coordinator, meter, depot, depot_by, psk_of, near, near_by, preset, allow, allowed, rand, join, joins_by, leave, send, sends_by, sent_if, breaks, breaks_by, deliver, inject, arrives, accepted_by, received, on_flight, lose, tick, restart, cut, show, rekey, challenge, activate, activate_at, kick, step}
-use Rattle.node_rules.specs.Laws.{SameFlight, KeepsFlights, GoesOn, StepsGoOn}
+use Rattle.line_rules.specs.Answers.{Reception}
+use Rattle.line_rules.specs.Worlds.{World, Flight, Deeds, node_at, flight_at}
+use Rattle.line_rules.specs.Steps.{provisioned, ticked, Step, set_up, ran, told, acted, has_begun, takes_setup, once_begun, in_setup, on_node, on_meter, made_node, is_known, coordinator, meter, depot, depot_by, psk_of, near, near_by, preset, allow, allowed, rand, join, joins_by, leave, send, sends_by, sent_if, breaks, breaks_by, deliver, inject, arrives, accepted_by, received, on_flight, lose, tick, restart, cut, show, rekey, challenge, activate, activate_at, kick, step}
+use Rattle.node_rules.specs.NodeSteps.{Did, acts}
+use Rattle.line_rules.specs.Laws.{SameFlight, KeepsFlights, GoesOn, StepsGoOn}
 
 -- # Flights
 

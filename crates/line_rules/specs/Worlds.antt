@@ -9,7 +9,7 @@ use Rattle.plc_base.specs.declared.key.Rand.{Rand}
 use Rattle.plc_base.specs.declared.tags.PairTag.{PairTag}
 use Rattle.plc_base.specs.declared.tags.PairTag.TheVariants as tags
 use Rattle.eap_psk.specs.declared.server.Agreed.{Agreed}
-use Rattle.node_rules.specs.declared.event.Answer.{Answer}
+use Rattle.line_rules.specs.declared.happenings.Happenings.{Happenings}
 use Rattle.group_keys.specs.KeyBook.{same_key}
 use Rattle.node_rules.specs.Memory.{Node}
 use Rattle.node_rules.specs.Accepting.{same_eui}
@@ -93,60 +93,6 @@ abbrev pub is_forged_tag : List PairTag → PairTag → Bool
 is_forged_tag made tag = not (list_any (same_tag tag) made)
 
 -- # What happens at an event
-
--- A datagram that a node handed up: the number of the send, or 0.
-pub record Handed : Type 0 where
-  pub node : ℕ
-  pub note : ℕ
-  pub octets : List ℕ
-
--- A meter and the address that the book gives it.
-pub record Admission : Type 0 where
-  pub node : ℕ
-  pub address : ℕ
-
--- A rank that a node shows, and its next hop where the route is valid.
-pub record ShownRoute : Type 0 where
-  pub dest : ℕ
-  pub number : ℕ
-  pub cost : ℕ
-  pub next : Option ℕ
-
--- A mark that a node shows.
-pub record ShownPeer : Type 0 where
-  pub from : ℕ
-  pub mark : ℕ
-
--- What is shown of a node; of a halted one the other fields are empty.
-pub record Shown : Type 0 where
-  pub halted : Bool
-  pub address : Option ℕ
-  pub active : Option ℕ
-  pub next_counter : ℕ
-  pub last_number : ℕ
-  pub key0 : Option Key
-  pub key1 : Option Key
-  -- by address
-  pub routes : List ShownRoute
-  -- by class, 0 first
-  pub floors : List ℕ
-  -- by address
-  pub peers : List ShownPeer
-
--- What the report says of an event.
-pub record Happenings : Type 0 where
-  pub answer : Answer
-  -- whether a tag that was found right was made by nobody
-  pub forged : Bool
-  pub up : Option Handed
-  pub grant : Option Admission
-  -- the meter that took its grant, and the one whose joining is done
-  pub took : Option ℕ
-  pub done : Option ℕ
-  pub shown : Option Shown
-  -- one more than the number of flights before the event, and how many are new
-  pub first_flight : ℕ
-  pub flights : ℕ
 
 -- A datagram that was sent: by which node, to which.
 pub record Sending : Type 0 where

@@ -11,12 +11,12 @@ use Rattle.plc_base.specs.declared.out_frame.OutFrame.{OutFrame}
 use Rattle.plc_base.specs.declared.tags.PairTag.{PairTag}
 use Rattle.plc_base.specs.Grant.{Granted}
 use Rattle.routing_set.specs.RoutingSet as routing
-use Rattle.node_rules.specs.declared.event.Event.{Event}
-use Rattle.node_rules.specs.declared.event.Event.TheVariants as events
-use Rattle.node_rules.specs.declared.event.Answer.{Answer}
-use Rattle.node_rules.specs.declared.event.Answer.TheVariants as said
-use Rattle.node_rules.specs.declared.event.StepFault.{StepFault}
-use Rattle.node_rules.specs.declared.event.StepFault.TheVariants as faults
+use Rattle.line_rules.specs.declared.event.Event.{Event}
+use Rattle.line_rules.specs.declared.event.Event.TheVariants as events
+use Rattle.line_rules.specs.declared.event.Answer.{Answer}
+use Rattle.line_rules.specs.declared.event.Answer.TheVariants as said
+use Rattle.line_rules.specs.declared.event.StepFault.{StepFault}
+use Rattle.line_rules.specs.declared.event.StepFault.TheVariants as faults
 use Rattle.node_rules.specs.declared.heard.Accepted.{Accepted}
 use Rattle.node_rules.specs.declared.heard.Path.{Path}
 use Rattle.node_rules.specs.declared.heard.Path.TheVariants as paths
@@ -32,60 +32,24 @@ use Rattle.node_rules.specs.declared.refusal.SendRefusal.TheVariants as sends
 use Rattle.node_rules.specs.Ciphers.{Ciphers}
 use Rattle.node_rules.specs.Frames.{Sent, spelled, arrived}
 use Rattle.node_rules.specs.Memory.{Line, Memory, Node, Role, Coordinator, Meter, node_address}
-use Rattle.node_rules.specs.Plans.{Plan, Outcome, carry_out, resting, within}
+use Rattle.node_rules.specs.Plans.{Plan}
+use Rattle.node_rules.specs.NodeSteps.{Did, acts, stays, of_line, answering, changing}
 use Rattle.node_rules.specs.Accepting.{accept, same_eui}
 use Rattle.node_rules.specs.Calls as calls
 use Rattle.node_rules.specs.Holding.{with_line, give_random}
 use Rattle.node_rules.specs.Meters as meters
 use Rattle.node_rules.specs.Coordinators as coordinator_rules
 use Rattle.node_rules.specs.Opening.{memory_of, remembering, blank_line, first_grant}
-use Rattle.node_rules.specs.Answers.{Reception, Up, SentGrant, CompletedJoining, frame_word, sent_word, random_word, join_word, leave_word, ordered_word, meter_reception, coordinator_reception}
+use Rattle.line_rules.specs.Answers.{Reception, Up, SentGrant, CompletedJoining, frame_word, sent_word, random_word, join_word, leave_word, ordered_word, meter_reception, coordinator_reception}
 use Rattle.node_rules.specs.Showing.{shown_of}
-use Rattle.node_rules.specs.Worlds.{Flight, World, node_at, flight_at, note_of, is_forged_frame, is_forged_tag, Handed, Admission, Happenings, Issued, Pairing, Deeds}
+use Rattle.line_rules.specs.Worlds.{Flight, World, node_at, flight_at, note_of, is_forged_frame, is_forged_tag, Issued, Pairing, Deeds}
+use Rattle.line_rules.specs.declared.happenings.Handed.{Handed}
+use Rattle.line_rules.specs.declared.happenings.Admission.{Admission}
+use Rattle.line_rules.specs.declared.happenings.Happenings.{Happenings}
 
 -- what an event gives: the world after it and what it was, or why it was not taken
 abbrev pub Step : Type 0
 Step = Result (World × Deeds) StepFault
-
--- # What a node did
-
--- What a node did: the node that is left, its answer, its frames, and the pair tags that it made and opened.
-pub record Did (A : Type 0) : Type 0 where
-  pub node : Node
-  pub answer : A
-  pub frames : List Sent
-  pub made : List PairTag
-  pub opened : List PairTag
-
--- the node is left as it is
-abbrev pub stays : {A : Type 0} → Node → A → Did A
-stays x answer = record { node = x; answer = answer; frames = []; made = []; opened = [] }
-
--- the node with the store and the memory that a plan left
-abbrev pub left_by : {A : Type 0} → Node → Outcome Memory A → Did A
-left_by x o = record {
-  node = record x { store = record { records = o.records; cut = o.cut }; memory = o.memory };
-  answer = o.answer;
-  frames = o.frames;
-  made = o.made;
-  opened = o.opened;
-}
-
--- a node carries out a plan over its memory; a halted one answers so, and nothing changes
-unfoldable pub acts : {A : Type 0} → Node → A → (Memory → Plan Memory A) → Did A
-acts x halted plan = option_map_or (λ m. left_by x (carry_out x.store.records x.store.cut (plan m))) x.memory (stays x halted)
-
--- a plan of the line as one of the memory
-abbrev pub of_line : {A : Type 0} → Memory → Plan Line A → Plan Memory A
-of_line m p = within (λ l. with_line l m) (λ a. a) p
-
--- what a node did, its answer read as another
-abbrev pub answering : {A B : Type 0} → (A → B) → Did A → Did B
-answering reads d = record { node = d.node; answer = reads d.answer; frames = d.frames; made = d.made; opened = d.opened }
-
--- a memory that changes without a store write
-abbrev pub changing : {A : Type 0} → A → Memory → Plan Memory A
-changing answer m = resting m answer answer
 
 -- # What it does to the world
 

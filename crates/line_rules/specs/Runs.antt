@@ -7,14 +7,15 @@ use Rattle.fragment_buffers.specs.Taking.{blocks_held}
 use Rattle.mac_frames.specs.declared.head.MacHead.{MacHead}
 use Rattle.mac_frames.specs.declared.head.MacHead.TheVariants as heads
 use Rattle.mac_frames.specs.Reading.{head_in}
-use Rattle.node_rules.specs.declared.event.Answer.TheVariants as said
-use Rattle.node_rules.specs.declared.event.Event.{Event}
-use Rattle.node_rules.specs.declared.event.Event.TheVariants as events
+use Rattle.line_rules.specs.declared.event.Answer.TheVariants as said
+use Rattle.line_rules.specs.declared.event.Event.{Event}
+use Rattle.line_rules.specs.declared.event.Event.TheVariants as events
 use Rattle.node_rules.specs.Ciphers.{Ciphers}
 use Rattle.node_rules.specs.Memory.{Memory, Node, Role, Coordinator, Meter, node_address, node_route}
 use Rattle.node_rules.specs.Doings.{blocks_waiting}
-use Rattle.node_rules.specs.Worlds.{Flight, World, node_at, Handed, Sending, Issued, Pairing, Deeds}
-use Rattle.node_rules.specs.Steps.{Step, step}
+use Rattle.line_rules.specs.Worlds.{Flight, World, node_at, Sending, Issued, Pairing, Deeds}
+use Rattle.line_rules.specs.declared.happenings.Handed.{Handed}
+use Rattle.line_rules.specs.Steps.{Step, step}
 
 -- # Runs
 

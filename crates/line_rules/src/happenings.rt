@@ -1,0 +1,47 @@
+//! What happens at an event, as the report says it.
+use crate::Answer;
+use node_rules::ShownRef;
+use plc_base::{OctetRef, Short};
+
+/// A datagram that a node handed up.
+#[derive(Drop)]
+pub struct Handed<'a> {
+    /// The node.
+    pub node: u32,
+    /// The number of the send, from 1, or 0 where no node sent the frame that brought it.
+    pub note: u32,
+    /// The datagram: 1 to 1,280 octets.
+    pub octets: OctetRef<'a>,
+}
+
+/// A meter that was allowed, and the address that the book gives it.
+#[derive(Clone, Copy, Debug, PartialEq, Eq)]
+pub struct Admission {
+    /// The meter's node.
+    pub node: u32,
+    /// Its short address.
+    pub address: Short,
+}
+
+/// What the report says of an event that was taken.
+#[derive(Drop)]
+pub struct Happenings<'a> {
+    /// How it ended.
+    pub answer: Answer,
+    /// Whether a tag that a node found right was made by nobody.
+    pub forged: bool,
+    /// The datagram that was handed up, if one was.
+    pub up: Option<Handed<'a>>,
+    /// The meter that was allowed, if one was.
+    pub grant: Option<Admission>,
+    /// The node of the meter that took its grant, if one did.
+    pub took: Option<u32>,
+    /// The node of the meter whose joining is done, if one is.
+    pub done: Option<u32>,
+    /// What was shown of a node, if one was.
+    pub shown: Option<ShownRef<'a>>,
+    /// One more than the number of flights before the event.
+    pub first_flight: u32,
+    /// How many flights are new: at most 24.
+    pub flights: u8,
+}

@@ -1,0 +1,13 @@
+//! The line, as definitions: what each event of a script does to the nodes and to what flies between them, and what a run is.
+//!
+//! The definitions stand in `specs/`; here are the events, their answers and what happens at them, which they name, and the laws of
+//! one step. There is no other machine: the code of the line is proved against this one.
+#![tactic(auto)]
+
+mod event;
+mod happenings;
+mod laws;
+
+pub use event::{Answer, Event, StepFault};
+pub use happenings::{Admission, Handed, Happenings};
+pub use laws::steps_go_on;
