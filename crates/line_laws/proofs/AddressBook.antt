@@ -14,11 +14,11 @@ use Rattle.group_keys.specs.KeyBook as book
 use Rattle.group_keys.proofs.Books.{address_kept}
 use Rattle.routing_set.specs.declared.rank.Rank.{Rank}
 use Rattle.routing_set.specs.RoutingSet as routing
-use Rattle.node_rules.specs.Memory.{Line, Memory, Coordinator}
+use Rattle.node_rules.specs.Memory.{StationMemory, Memory, Coordinator}
 use Rattle.node_rules.specs.Plans.{Plan, resting}
-use Rattle.node_rules.specs.Doings.{Doing, Ends, begun, counters_left, counted}
-use Rattle.node_rules.specs.Holding.{in_memory, with_line, on_line, line_part, remembered, tagged_with, goes_up, goes_down}
-use Rattle.node_rules.specs.Coordinators.{entered}
+use Rattle.node_rules.specs.Drafts.{Draft, Ends, empty_draft, counters_left, counted}
+use Rattle.node_rules.specs.MemoryDrafts.{in_memory, with_station, on_station, station_part, with_memory_by, with_pair_tags, goes_up, goes_down}
+use Rattle.node_rules.specs.Coordinators.{with_book_entry}
 use Rattle.node_rules.proofs.Sizes.{pending}
 use Rattle.line_laws.specs.Stores.{IsHeld, IsReadableEntry, IsBookKept, IsNamed, IsKept}
 use Rattle.line_laws.proofs.Keeping.{Leads, leads_beside, leads_one, leads_append, leads_when, leads_map}
@@ -30,7 +30,7 @@ use Rattle.line_laws.proofs.StoreBook.{Rest, rest_lasts, holds_same, kept_with, 
 use Rattle.line_laws.proofs.StorePlans.{made_in_counter}
 use Rattle.line_laws.proofs.Planned.{Planned, Refuses, Keeps, Ended}
 use Rattle.line_laws.proofs.Made.{RingWord, Given, Offered}
-use Rattle.line_laws.proofs.MadeIn.{unheard, EntryChange, MadeIn, Begins, Station, OnLine, Remembers, Tags as TagsIn, Enters, Up, Down, Beside, Ends as EndsIn, Asks, Replies, Opens, Answers, Closes, Gives}
+use Rattle.line_laws.proofs.MadeIn.{unheard, EntryChange, MadeIn, Begins, Station, OnStation, Remembers, Tags as TagsIn, Enters, Up, Down, Beside, Ends as EndsIn, Asks, Replies, Opens, Answers, Closes, Gives}
 use Rattle.line_laws.proofs.CallForms.{Few}
 
 -- every address stays
@@ -56,12 +56,12 @@ beside_book E n k (Gives value room) = refl
 
 module _ (b : book.Book) where
   -- a line's writes
-  pub line_grown : (n : Memory) (l k : Line) (ps : List Write) → Leads (With (Rest Coordinator n)) l ps k → Leads (Grown b) (with_line l n) ps (with_line k n)
+  pub station_grown : (n : Memory) (l k : StationMemory) (ps : List Write) → Leads (With (Rest Coordinator n)) l ps k → Leads (Grown b) (with_station l n) ps (with_station k n)
   unfolding Rest
-  line_grown n l k ps x = leads_when (Grown b) (with_line l n) (with_line k n) ps (λ s t.
-      leads_map (With (Rest Coordinator n)) (Grown b) (λ (j : Line). with_line j n)
-      (λ j r q. record { kept = record { line = q.kept; book = q.rest.0; sessions = q.rest.1 }; grows = t.grows })
-      (λ j r q. record { kept = q.kept.line; rest = (q.kept.book, q.kept.sessions) }) l k ps x)
+  station_grown n l k ps x = leads_when (Grown b) (with_station l n) (with_station k n) ps (λ s t.
+      leads_map (With (Rest Coordinator n)) (Grown b) (λ (j : StationMemory). with_station j n)
+      (λ j r q. record { kept = record { station = q.kept; book = q.rest.0; sessions = q.rest.1 }; grows = t.grows })
+      (λ j r q. record { kept = q.kept.station; rest = (q.kept.book, q.kept.sessions) }) l k ps x)
 
   -- an entry is stored where it changes
   entry_grown : (m : Memory) (e : BookEntry) → ((r : Records) → IsBookKept m.book r → IsReadableEntry e) → book.has_room m.book e.eui ≡ true
@@ -76,40 +76,40 @@ module _ (b : book.Book) where
       (words : (w : RingWord) → W w → WordFits w)
       (offers : (address : Option ℕ) (by origin : ℕ) (rank : Rank) → Offered g address by origin rank → EntryFits (routing.offered_entry origin rank by g.now))
       (known : (eui : Eui) → E eui → length eui.0 ≡ 8) (pairs : (eui : Eui) (psk : Key) → P eui psk → length psk.0 ≡ 16) where
-    abbrev center : (x : book.Book) (e : BookEntry) → EntryChange L P E m x e → Coordinator ≡ Coordinator
-    center x e change = refl
+    abbrev coordinator : (x : book.Book) (e : BookEntry) → EntryChange L P E m x e → Coordinator ≡ Coordinator
+    coordinator x e change = refl
 
-    made_in_grown : (grants : (granted : Granted) → L granted → IsHeld granted.key0 × IsHeld granted.key1) (sessions : All IsNamed m.sessions) (d : Doing Memory) → MadeIn W L P E g m d → Adds (Grown b) (begun m) d
-    unfolding begun on_line remembered tagged_with entered goes_up goes_down
-    made_in_grown grants sessions d Begins = adds_none (Grown b) (begun m)
+    made_in_grown : (grants : (granted : Granted) → L granted → IsHeld granted.key0 × IsHeld granted.key1) (sessions : All IsNamed m.sessions) (d : Draft Memory) → MadeIn W L P E g m d → Adds (Grown b) (empty_draft m) d
+    unfolding empty_draft on_station with_memory_by with_pair_tags with_book_entry goes_up goes_down
+    made_in_grown grants sessions d Begins = adds_none (Grown b) (empty_draft m)
     made_in_grown grants sessions d (Station e made) =
-        let a = made_adds (Rest Coordinator m) (rest_lasts Coordinator m) W g words offers (begun m.line) e made in
-        record { more = a.more; puts = a.puts; leads = line_grown m m.line e.memory a.more a.leads }
-    made_in_grown grants sessions d (OnLine word e made step) =
-        let a = made_adds (Rest Coordinator e.memory) (rest_lasts Coordinator e.memory) W (unheard g) words (unheard_offers Coordinator W L P E g m words offers known pairs center grants sessions g) (line_part e) (word (line_part e)) step in
-        adds_then (Grown b) (begun m) e d a.more (made_in_grown grants sessions e made) a.puts (line_grown e.memory e.memory.line (word (line_part e)).memory a.more a.leads)
-    made_in_grown grants sessions d (Remembers change e made beside) = adds_beside (Grown b) (begun m) e d (made_in_grown grants sessions e made) refl (λ r k.
-        record { kept = beside_stays Coordinator W L P E g m words offers known pairs center grants sessions e.memory (change e.memory) r beside k.kept; grows = subst (Grows b) (sym (beside_book E e.memory (change e.memory) beside)) k.grows })
-    made_in_grown grants sessions d (TagsIn made opened e x) = adds_beside (Grown b) (begun m) e d (made_in_grown grants sessions e x) refl (λ r k. record { kept = k.kept; grows = k.grows })
-    made_in_grown grants sessions d (Enters x e made change) = adds_then (Grown b) (begun m) e d _ (made_in_grown grants sessions e made) refl
-        (entry_grown e.memory x (entry_fits Coordinator W L P E g m words offers known pairs center grants sessions e.memory.book x change) (entry_room Coordinator W L P E g m words offers known pairs center grants sessions e.memory.book x change))
-    made_in_grown grants sessions d (Up agent own message e made) = adds_beside (Grown b) (begun m) e d (made_in_grown grants sessions e made) refl (λ r k. record { kept = k.kept; grows = k.grows })
-    made_in_grown grants sessions d (Down own message e made) = adds_beside (Grown b) (begun m) e d (made_in_grown grants sessions e made) refl (λ r k. record { kept = k.kept; grows = k.grows })
+        let a = made_adds (Rest Coordinator m) (rest_lasts Coordinator m) W g words offers (empty_draft m.station) e made in
+        record { more = a.more; puts = a.puts; leads = station_grown m m.station e.memory a.more a.leads }
+    made_in_grown grants sessions d (OnStation word e made step) =
+        let a = made_adds (Rest Coordinator e.memory) (rest_lasts Coordinator e.memory) W (unheard g) words (unheard_offers Coordinator W L P E g m words offers known pairs coordinator grants sessions g) (station_part e) (word (station_part e)) step in
+        adds_then (Grown b) (empty_draft m) e d a.more (made_in_grown grants sessions e made) a.puts (station_grown e.memory e.memory.station (word (station_part e)).memory a.more a.leads)
+    made_in_grown grants sessions d (Remembers change e made beside) = adds_beside (Grown b) (empty_draft m) e d (made_in_grown grants sessions e made) refl (λ r k.
+        record { kept = beside_stays Coordinator W L P E g m words offers known pairs coordinator grants sessions e.memory (change e.memory) r beside k.kept; grows = subst (Grows b) (sym (beside_book E e.memory (change e.memory) beside)) k.grows })
+    made_in_grown grants sessions d (TagsIn made opened e x) = adds_beside (Grown b) (empty_draft m) e d (made_in_grown grants sessions e x) refl (λ r k. record { kept = k.kept; grows = k.grows })
+    made_in_grown grants sessions d (Enters x e made change) = adds_then (Grown b) (empty_draft m) e d _ (made_in_grown grants sessions e made) refl
+        (entry_grown e.memory x (entry_fits Coordinator W L P E g m words offers known pairs coordinator grants sessions e.memory.book x change) (entry_room Coordinator W L P E g m words offers known pairs coordinator grants sessions e.memory.book x change))
+    made_in_grown grants sessions d (Up agent own message e made) = adds_beside (Grown b) (empty_draft m) e d (made_in_grown grants sessions e made) refl (λ r k. record { kept = k.kept; grows = k.grows })
+    made_in_grown grants sessions d (Down own message e made) = adds_beside (Grown b) (empty_draft m) e d (made_in_grown grants sessions e made) refl (λ r k. record { kept = k.kept; grows = k.grows })
 
-    counted_grown : (d : Doing Memory) (count : ℕ) → count ≤ 24 → count ≤ counters_left m.line → d.memory.line.counter ≡ m.line.counter
-        → Leads (Grown b) d.memory (puts_of (counter.reserve_write d.memory.line.counter count)) (counted in_memory count d.memory)
+    counted_grown : (d : Draft Memory) (count : ℕ) → count ≤ 24 → count ≤ counters_left m.station → d.memory.station.counter ≡ m.station.counter
+        → Leads (Grown b) d.memory (puts_of (counter.reserve_write d.memory.station.counter count)) (counted in_memory count d.memory)
     counted_grown d count few left same =
-        line_grown d.memory d.memory.line (record d.memory.line { counter = counter.reserved d.memory.line.counter count }) _
+        station_grown d.memory d.memory.station (record d.memory.station { counter = counter.reserved d.memory.station.counter count }) _
         (low_when (Rest Coordinator d.memory) (rest_lasts Coordinator d.memory) _ _ _ (λ r k.
         let below = k.counter.below in
         let fits = k.range.counter in
         let next = ap (λ (c : counter.Counting). c.next) same in
-        counter_leads (Rest Coordinator d.memory) (rest_lasts Coordinator d.memory) d.memory.line count (omega arith) (omega arith)))
+        counter_leads (Rest Coordinator d.memory) (rest_lasts Coordinator d.memory) d.memory.station count (omega arith) (omega arith)))
 
     pub plan_grown : (grants : (r : Records) → IsKept Coordinator m r → (granted : Granted) → L granted → IsHeld granted.key0 × IsHeld granted.key1) {H F : Type 0} (ends : Ends F) (K : Memory → H → Type 0)
         → ((n : Memory) (answer : H) → K n answer → (r : Records) → Grown b m r → Grown b n r)
-        → (p : Plan Memory (Result H F)) → Planned in_memory ends m K (λ d (a : H). MadeIn W L P E g m d × Few m.line d) p → pending m.line ≤ 21 → Leads (Grown b) m p.puts p.memory
-    unfolding resting begun
+        → (p : Plan Memory (Result H F)) → Planned in_memory ends m K (λ d (a : H). MadeIn W L P E g m d × Few m.station d) p → pending m.station ≤ 21 → Leads (Grown b) m p.puts p.memory
+    unfolding resting empty_draft
     plan_grown grants ends K beside p (Refuses reason) waits = leads_beside (Grown b) m m (λ r k. k)
     plan_grown grants ends K beside p (Keeps n answer k) waits = leads_beside (Grown b) m n (beside n answer k)
     plan_grown grants ends K beside p (Ended d answer done left) waits = leads_when (Grown b) m _ _ (λ r k.

@@ -16,9 +16,9 @@ use Rattle.routing_set.specs.declared.rank.Rank.{Rank}
 use Rattle.routing_set.specs.declared.entry.RoutingEntry.{RoutingEntry}
 use Rattle.routing_set.specs.RoutingSet as routing
 use Rattle.routing_set.specs.OwnNumber as own_number
-use Rattle.node_rules.specs.Memory.{Line}
+use Rattle.node_rules.specs.Memory.{StationMemory}
 use Rattle.node_rules.specs.Plans.{Plan, carry_out}
-use Rattle.node_rules.specs.Doings.{Doing, ranked, numbered, tagged, ringed, rerouted, goes, body_goes, waits, leave}
+use Rattle.node_rules.specs.Drafts.{Draft, with_rank, with_own_number, with_next_tag, with_ring, with_routing_by, goes, body_goes, waits, leave}
 use Rattle.node_rules.specs.Laws.{all_put, IsWhole, IsCutOff}
 use Rattle.node_rules.proofs.Writing.{clean}
 use Rattle.line_laws.specs.Stores.{IsReadable}
@@ -129,15 +129,15 @@ module _ (S : ring.Ring → Type 0) where
 -- # The words of a line
 
 -- of the rings that are put and of the one in memory S holds
-pub record Rung (S : ring.Ring → Type 0) (d : Doing Line) : Type 0 where
+pub record Rung (S : ring.Ring → Type 0) (d : Draft StationMemory) : Type 0 where
   pub puts : RingWrites S d.puts
   pub ring : S d.memory.ring
   pub reads : IfSome d.memory.ring IsReadable
 
 module _ (S : ring.Ring → Type 0) (W : RingWord → Type 0) (g : Given)
     (changes : (r x : ring.Ring) → RingChange W r x → IfSome r IsReadable → S r → S x × IfSome x IsReadable) where
-  pub made_rung : (s d : Doing Line) → Made W g s d → Rung S s → Rung S d
-  unfolding ranked numbered tagged ringed rerouted goes body_goes waits leave
+  pub made_rung : (s d : Draft StationMemory) → Made W g s d → Rung S s → Rung S d
+  unfolding with_rank with_own_number with_next_tag with_ring with_routing_by goes body_goes waits leave
   made_rung s d Starts h = h
   made_rung s d (Ranks by origin rank e made o fits) h = let x = made_rung s e made h in record { puts = writes_append S e.puts _ x.puts (offer_away S e.memory.routing origin rank by g.now); ring = x.ring; reads = x.reads }
   made_rung s d (Numbers e made left) h = let x = made_rung s e made h in record { puts = writes_append S e.puts _ x.puts (number_away S e.memory.own_number); ring = x.ring; reads = x.reads }

@@ -63,17 +63,17 @@ module _ (w : World) (given : List Issued) (ok : WorldOk w) (k : Keyed w given) 
       by_ring None s e = absurd (cc)
       by_ring (Some g) s e = subst T (same_Some _ _ e) (f g s)
 
-      by_memory : (o : Option Memory) → Left (IsKept x.role) x.store.records o → option_and_then (λ (m : Memory). address_of m.line) o ≡ Some a → T a
+      by_memory : (o : Option Memory) → Left (IsKept x.role) x.store.records o → option_and_then (λ (m : Memory). address_of m.station) o ≡ Some a → T a
       by_memory None q e = absurd (cc)
-      by_memory (Some m) q e = by_ring m.line.ring (rings m.line.ring q.line.ring.stored) e
+      by_memory (Some m) q e = by_ring m.station.ring (rings m.station.ring q.station.ring.stored) e
 
   -- a meter has the address that the book gives it
   pub meter_address : (n : ℕ) (x : Node) (a : ℕ) → n ≢ 0 → node_at w n ≡ Some x → node_address x ≡ Some a → books.address_of k.book x.eui ≡ Some a
   meter_address n x a ne there = ring_address (RingOk k.book given x.eui) (λ c. books.address_of k.book x.eui ≡ Some c) (λ g h. h.address) n x there (k.meters n x ne there).ring a
 
   -- the coordinator's is 0000
-  pub center_address : (c : Node) (a : ℕ) → node_at w 0 ≡ Some c → node_address c ≡ Some a → a ≡ 0
-  center_address c a there = ring_address Nought (λ b. b ≡ 0) (λ g h. h) 0 c there (k.center c there).ring a
+  pub coordinator_address : (c : Node) (a : ℕ) → node_at w 0 ≡ Some c → node_address c ≡ Some a → a ≡ 0
+  coordinator_address c a there = ring_address Nought (λ b. b ≡ 0) (λ g h. h) 0 c there (k.coordinator c there).ring a
 
   -- a meter that the book does not know has none
   pub outsider_address : (n : ℕ) (x : Node) → n ≢ 0 → node_at w n ≡ Some x → books.address_of k.book x.eui ≡ None → node_address x ≡ None
@@ -91,10 +91,10 @@ module _ (w : World) (given : List Issued) (ok : WorldOk w) (k : Keyed w given) 
   addresses_differ i j x y a hx hy ex ey = ⊎_elim
       (λ (e : i ≡ 0). ⊎_elim
       (λ (f : j ≡ 0). e ∙ sym f)
-      (λ (g : j ≢ 0). absurd (let low = center_address x a (ap (slice_get w.nodes) (sym e) ∙ hx) ex in let high = above_nought k.book y.eui a (meter_address j y a g hy ey) in omega arith))
+      (λ (g : j ≢ 0). absurd (let low = coordinator_address x a (ap (slice_get w.nodes) (sym e) ∙ hx) ex in let high = above_nought k.book y.eui a (meter_address j y a g hy ey) in omega arith))
       (cases_eq j 0))
       (λ (g : i ≢ 0). ⊎_elim
-      (λ (f : j ≡ 0). absurd (let low = center_address y a (ap (slice_get w.nodes) (sym f) ∙ hy) ey in let high = above_nought k.book x.eui a (meter_address i x a g hx ex) in omega arith))
+      (λ (f : j ≡ 0). absurd (let low = coordinator_address y a (ap (slice_get w.nodes) (sym f) ∙ hy) ey in let high = above_nought k.book x.eui a (meter_address i x a g hx ex) in omega arith))
       (λ (h : j ≢ 0). k.apart i j x y hx hy (one_meter k.book x.eui y.eui a (meter_address i x a g hx ex) (meter_address j y a h hy ey)))
       (cases_eq j 0))
       (cases_eq i 0)

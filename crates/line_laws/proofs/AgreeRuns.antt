@@ -40,12 +40,12 @@ agrees_from ciphers fits w ok flown before k c [] says fly run = tt
 agrees_from ciphers fits w ok flown before k c (x ∷ xs) says fly run = λ honest.
     let event = All-head (λ (y : Entry). IsEvent y.event) x xs says in
     let g = taken_good ciphers fits w ok flown x event run.2 in
-    let next : Keyed x.after (issued before ++ x.deeds.issued) = subst (Kept (issued before)) run.2 (kept w (issued before) _ (step_keyed ciphers fits w ok flown (issued before) k x.event event)) honest in
+    let next : Keyed x.after (issued before ++ x.trace.issued) = subst (Kept (issued before)) run.2 (kept w (issued before) _ (step_keyed ciphers fits w ok flown (issued before) k x.event event)) honest in
     let k' : Keyed x.after (issued (before ++ x ∷ [])) = subst (Keyed x.after) (sym (all_of_one (λ d. d.issued) before x)) next in
-    let both : Confirmed x.after (takings before ++ one_of x.deeds.taken) × IfSome x.deeds.done (λ p. Among p (takings before))
+    let both : Confirmed x.after (takings before ++ one_of x.trace.taken) × IfSome x.trace.done (λ p. Among p (takings before))
     = subst (Agreed_in (takings before)) run.2 (agreed w (takings before) _ (step_agrees ciphers fits w ok flown (issued before) k (takings before) c x.event event)) honest in
     let c' : Confirmed x.after (takings (before ++ x ∷ [])) = subst (Confirmed x.after) (sym (all_of_one (λ d. one_of d.taken) before x)) both.0 in (
-      if_taken x.deeds.done (takings before) both.1,
+      if_taken x.trace.done (takings before) both.1,
       agrees_from ciphers fits x.after g.0 (All-head EntryFlies x xs fly) (before ++ x ∷ []) k' c' xs (All-tail (λ (y : Entry). IsEvent y.event) x xs says) (All-tail EntryFlies x xs fly) run.3,
     )
 

@@ -29,7 +29,7 @@ use Rattle.node_rules.specs.declared.refusal.LeaveRefusal.TheVariants as leaves
 use Rattle.node_rules.specs.declared.refusal.SendRefusal.TheVariants as sends
 use Rattle.node_rules.specs.Ciphers.{Ciphers}
 use Rattle.node_rules.specs.Frames.{arrived}
-use Rattle.node_rules.specs.Memory.{Line, Memory, Role, Coordinator, Meter, Node, node_address}
+use Rattle.node_rules.specs.Memory.{StationMemory, Memory, Role, Coordinator, Meter, Node, node_address}
 use Rattle.node_rules.specs.Plans.{Plan, resting}
 use Rattle.node_rules.specs.Accepting.{accept}
 use Rattle.node_rules.specs.Calls as calls
@@ -37,19 +37,19 @@ use Rattle.node_rules.specs.Meters as meters
 use Rattle.node_rules.specs.Coordinators as coordinator_rules
 use Rattle.line_rules.specs.Answers.{Reception, meter_reception, coordinator_reception, random_word, join_word, leave_word, sent_word, ordered_word, frame_word}
 use Rattle.line_rules.specs.Events.{IsEvent}
-use Rattle.line_rules.specs.Worlds.{World, Deeds, node_at, flight_at, is_forged_tag}
-use Rattle.line_rules.specs.Steps.{Step, set_up, ran, told, acted, once_begun, in_setup, has_begun, takes_setup, on_node, on_meter, made_node, blank_node, identity, hears, restarts, ticked, rand, join, joins_by, leave, send, sends_by, sent_if, breaks, breaks_by, lose, tick, restart, cut, show, psk_of, deeds, happened, coordinator, coordinator_node, meter, is_known, depot, depot_by, provisioned, near, near_by, keeps_rank, ranks_full, offered_near, preset, allow, allowed, deliver, inject, arrives, accepted_by, received, by_coordinator, forged_by, note_by, rekey, challenge, activate, kick, step}
-use Rattle.node_rules.specs.NodeSteps.{Did, acts, stays, answering, of_line}
+use Rattle.line_rules.specs.Worlds.{World, Trace, node_at, flight_at, is_forged_tag}
+use Rattle.line_rules.specs.Steps.{Step, set_up, ran, told, acted, once_begun, in_setup, has_begun, takes_setup, on_node, on_meter, made_node, blank_node, identity, hears, restarts, ticked, rand, join, joins_by, leave, send, sends_by, sent_if, breaks, breaks_by, lose, tick, restart, cut, show, psk_of, trace_of, happened, coordinator, coordinator_node, meter, is_known, depot, depot_by, provisioned, near, near_by, keeps_rank, ranks_full, offered_near, preset, allow, allowed, deliver, inject, arrives, accepted_by, received, by_coordinator, forged_by, note_by, rekey, challenge, activate, kick, step}
+use Rattle.node_rules.specs.NodeSteps.{NodeStep, acts, stays, answering, of_station}
 use Rattle.plc_base.specs.declared.tags.PairTag.{PairTag}
 use Rattle.std.proofs.Common.{append-nil}
 use Rattle.node_rules.specs.declared.heard.Heard.{Heard}
-use Rattle.node_rules.specs.declared.heard.Heard.TheVariants as line_heard
+use Rattle.node_rules.specs.declared.heard.Heard.TheVariants as station_heard
 use Rattle.node_rules.specs.declared.heard.MeterHeard.{MeterHeard}
 use Rattle.node_rules.specs.declared.heard.MeterHeard.TheVariants as meter_heard
 use Rattle.node_rules.specs.declared.heard.CoordinatorHeard.{CoordinatorHeard}
 use Rattle.node_rules.specs.declared.heard.CoordinatorHeard.TheVariants as coordinator_heard
 use Rattle.node_rules.specs.declared.refusal.Dropped.{Dropped}
-use Rattle.line_rules.specs.Answers.{line_reception, SentGrant, CompletedJoining}
+use Rattle.line_rules.specs.Answers.{station_reception, SentGrant, CompletedJoining}
 use Rattle.line_rules.specs.Worlds.{Issued}
 use Rattle.node_rules.specs.Hearing.{dropped}
 use Rattle.line_laws.specs.Stores.{IsKept}
@@ -59,12 +59,12 @@ use Rattle.line_laws.proofs.Readings.{join_ranges}
 use Rattle.line_laws.proofs.Keeping.{Left}
 use Rattle.line_laws.proofs.Nodes.{NodeOk}
 use Rattle.line_laws.proofs.NodeCalls.{heard_given}
-use Rattle.line_laws.proofs.CenterCalls.{accept_ok}
+use Rattle.line_laws.proofs.CoordinatorCalls.{accept_ok}
 use Rattle.line_laws.proofs.Nodes.{DidOk, acts_ok}
 use Rattle.line_laws.proofs.Worlds.{FlightFits, WorldOk, at_place}
 use Rattle.line_laws.proofs.IssueWords.{Among, Each}
 use Rattle.line_laws.proofs.IssueMeters.{PeerIs, took_in, meter_plan, meter_hears}
-use Rattle.line_laws.proofs.IssueCenter.{done_in}
+use Rattle.line_laws.proofs.IssueCoordinator.{done_in}
 use Rattle.line_laws.proofs.IssueNodes.{all_made, installs_rest}
 use Rattle.line_laws.proofs.IssueCalls.{send_quietly, near_quietly, broke_quietly, random_quietly, accept_quietly}
 use Rattle.line_laws.proofs.IssueWorlds.{Keyed}
@@ -85,7 +85,7 @@ use Rattle.line_laws.proofs.Worlds.{within as place_within}
 use Rattle.line_laws.proofs.IssueNodes.{AllMade}
 use Rattle.line_laws.proofs.IssueWords.{Here, among_left, among_right, each_append, each_weaker}
 use Rattle.line_laws.proofs.IssueMeters.{MeterTag, Second, Fourth, joins_made, leaves_made}
-use Rattle.line_laws.proofs.IssueCenter.{CenterTag, ServerMac, Third, IsDoneBy}
+use Rattle.line_laws.proofs.IssueCoordinator.{CoordinatorTag, ServerMac, Third, IsDoneBy}
 use Rattle.line_laws.proofs.IssueCalls.{allow_made, depot_made, rekey_made, activate_self_made, challenge_made, activate_made, kick_made}
 use Rattle.line_laws.proofs.IssueSteps.{took_same, keyed_same, or_false, address_low, other_there, flight_octets, quiet_meter_did}
 use Rattle.std.specs.List.{position_or_len}
@@ -95,7 +95,7 @@ use Rattle.std.proofs.lemmas.Option.{slice_get-get_or}
 use Rattle.std.proofs.lemmas.Bool.{eq-eqb, lt-ltb}
 use Rattle.std.proofs.Common.{cond}
 use Rattle.line_laws.proofs.Planned.{planned_failed}
-use Rattle.line_laws.proofs.IssueCenter.{center_hears, says_tags, CenterTags}
+use Rattle.line_laws.proofs.IssueCoordinator.{coordinator_hears, says_tags, CoordinatorTags}
 use Rattle.line_laws.proofs.AgreeTags.{TagTaken, done_taken}
 
 abbrev pub Confirmed : World → List Pairing → Type 0
@@ -132,7 +132,7 @@ set_lasts nodes number x y there eui n z is = ⊎_elim
     (λ (e : n ≢ number). record { node = z; is = slice_get-set_other nodes number n y e ∙ is; eui = refl })
     (cases_eq n number)
 
-module _ {A : Type 0} (ciphers : Ciphers) (w : World) (number : ℕ) (x : Node) (d : Did A) (there : node_at w number ≡ Some x) (eui : d.node.eui ≡ x.eui) where
+module _ {A : Type 0} (ciphers : Ciphers) (w : World) (number : ℕ) (x : Node) (d : NodeStep A) (there : node_at w number ≡ Some x) (eui : d.node.eui ≡ x.eui) where
   pub told_confirmed : (taken more : List Pairing) → Confirmed w taken → Each (TagTaken (slice_set w.nodes number d.node) (taken ++ more)) d.made → Confirmed (told ciphers w number d) (taken ++ more)
   unfolding told
   told_confirmed taken more c new = each_append (TagTaken (slice_set w.nodes number d.node) (taken ++ more)) w.made d.made
@@ -154,7 +154,7 @@ pub acts_makes : {A : Type 0} (P : A → PairTag → Type 0) (x : Node) (halted 
 unfolding acts
 acts_makes {A = A} P x halted plan f = by_memory x.memory refl
   where
-    by_memory : (o : Option Memory) → x.memory ≡ o → let d : Did A = option_map_or (λ m. left_by x (carry_out x.store.records x.store.cut (plan m))) o (stays x halted) in Each (P d.answer) d.made
+    by_memory : (o : Option Memory) → x.memory ≡ o → let d : NodeStep A = option_map_or (λ m. left_by x (carry_out x.store.records x.store.cut (plan m))) o (stays x halted) in Each (P d.answer) d.made
     by_memory None there = tt
     by_memory (Some m) there = ⊎_elim
         (λ (w : IsWhole x.store.records x.store.cut (plan m) (carry_out x.store.records x.store.cut (plan m))). rw (w.answer, w.made) (f m there))
@@ -173,9 +173,9 @@ acts_nothing x halted plan f = no_each _ (acts_makes (λ a t. ⊥) x halted plan
 
 -- # Tags
 
-pub center_taken : (m : Memory) (keyed : Option SentGrant) (nodes : List Node) (taken : List Pairing) (t : PairTag) → CenterTag m keyed t → TagTaken nodes taken t
-center_taken m keyed nodes taken t (ServerMac eui octets) = tt
-center_taken m keyed nodes taken t (Third eui i s p granted is grant) = λ e. absurd (cc)
+pub coordinator_taken : (m : Memory) (keyed : Option SentGrant) (nodes : List Node) (taken : List Pairing) (t : PairTag) → CoordinatorTag m keyed t → TagTaken nodes taken t
+coordinator_taken m keyed nodes taken t (ServerMac eui octets) = tt
+coordinator_taken m keyed nodes taken t (Third eui i s p granted is grant) = λ e. absurd (cc)
 
 taken_by : ℕ → Agreed → Pairing
 taken_by number agreed = record { node = number; agreed = agreed }
@@ -199,7 +199,7 @@ meter_taken number y nodes taken took there t (Fourth i s p is) = λ e. record {
 
 pub data StepAgrees (w : World) (taken : List Pairing) : Step → Type 0 where
   Refused : (fault : StepFault) → StepAgrees w taken (Err fault)
-  Happened : (r : World × Deeds) → (r.1.happened.forged ≡ false → Confirmed r.0 (taken ++ one_of r.1.taken) × IfSome r.1.done (λ p. Among p taken)) → StepAgrees w taken (Ok r)
+  Happened : (r : World × Trace) → (r.1.happened.forged ≡ false → Confirmed r.0 (taken ++ one_of r.1.taken) × IfSome r.1.done (λ p. Among p taken)) → StepAgrees w taken (Ok r)
 
 module _ (ciphers : Ciphers) (fits : KeepsRanges ciphers) (w : World) (ok : WorldOk w) (flown : All FlightFits w.flights) (given : List Issued) (k : Keyed w given) (taken : List Pairing) (c : Confirmed w taken) where
   abbrev Good : Step → Type 0
@@ -228,13 +228,13 @@ module _ (ciphers : Ciphers) (fits : KeepsRanges ciphers) (w : World) (ok : Worl
   node_ok : (number : ℕ) (x : Node) → node_at w number ≡ Some x → NodeOk x
   node_ok number x e = at_place NodeOk w.nodes number x e ok.nodes
 
-  quiet : (r : World × Deeds) → r.1.taken ≡ None → r.1.done ≡ None → Confirmed r.0 taken → Good (Ok r)
+  quiet : (r : World × Trace) → r.1.taken ≡ None → r.1.done ≡ None → Confirmed r.0 taken → Good (Ok r)
   quiet r none undone h = Happened r (λ honest. (subst (Confirmed r.0) (sym (append-nil taken) ∙ ap (λ o. taken ++ one_of o) (sym none)) h, subst (λ o. IfSome o (λ p. Among p taken)) (sym undone) tt))
 
   ran_confirmed : Confirmed (ran w) taken
   ran_confirmed = c
 
-  rests : (d : Deeds) → d.taken ≡ None → d.done ≡ None → Good (Ok (ran w, d))
+  rests : (d : Trace) → d.taken ≡ None → d.done ≡ None → Good (Ok (ran w, d))
   rests d none undone = quiet (ran w, d) none undone c
 
   sized_of : (x : Node) (m : Memory) → NodeOk x → x.memory ≡ Some m → IsSized m
@@ -251,15 +251,15 @@ module _ (ciphers : Ciphers) (fits : KeepsRanges ciphers) (w : World) (ok : Worl
   unfolding rand
   rand_agrees number value = once _ (at_node number _ (λ x there. quiet _ refl refl (plain_told (ran w) c number x there random_word (Err randoms.Halted) _ (λ m here. (random_quietly m (sized_of x m (node_ok number x there) here) value).made))))
 
-  sent_agrees : (from to : ℕ) (datagram : List ℕ) (tag : ℕ) (b : Bool) (r : World × Deeds) → r.1.taken ≡ None → r.1.done ≡ None → Confirmed r.0 taken → Good (Ok (sent_if w from to datagram tag b r))
+  sent_agrees : (from to : ℕ) (datagram : List ℕ) (tag : ℕ) (b : Bool) (r : World × Trace) → r.1.taken ≡ None → r.1.done ≡ None → Confirmed r.0 taken → Good (Ok (sent_if w from to datagram tag b r))
   sent_agrees from to datagram tag false r none undone h = quiet r none undone h
   sent_agrees from to datagram tag true r none undone h = quiet _ none undone h
 
   sends_agrees : (from to : ℕ) (datagram : List ℕ) (x : Node) (address : Option ℕ) → node_at w from ≡ Some x → Good (Ok (sends_by ciphers w from to datagram x address))
   sends_agrees from to datagram x None there = rests _ refl refl
   sends_agrees from to datagram x (Some a) there =
-      let plan : Memory → Plan Memory (Result _ _) = λ m. of_line m (calls.send m.line a datagram (w.sends + 1) w.clock) in
-      let d : Did Answer = answering sent_word (acts x (Err sends.Halted) plan) in
+      let plan : Memory → Plan Memory (Result _ _) = λ m. of_station m (calls.send m.station a datagram (w.sends + 1) w.clock) in
+      let d : NodeStep Answer = answering sent_word (acts x (Err sends.Halted) plan) in
       sent_agrees from to datagram (tag_of x) (is_taken d.answer) (acted ciphers w from d) refl refl (plain_told (ran w) c from x there sent_word (Err sends.Halted) plan (λ m here. (send_quietly m (sized_of x m (node_ok from x there) here) a datagram (w.sends + 1) w.clock).made))
 
   send_agrees : (from to : ℕ) (datagram : List ℕ) → Good (send ciphers w from to datagram)
@@ -295,7 +295,7 @@ module _ (ciphers : Ciphers) (fits : KeepsRanges ciphers) (w : World) (ok : Worl
   unfolding show
   show_agrees number = once _ (at_node number _ (λ x there. rests _ refl refl))
 
-  same_agrees : (number : ℕ) (x : Node) (d : Did Answer) → node_at w number ≡ Some x → d.node.eui ≡ x.eui → d.made ≡ [] → Good (Ok (acted ciphers w number d))
+  same_agrees : (number : ℕ) (x : Node) (d : NodeStep Answer) → node_at w number ≡ Some x → d.node.eui ≡ x.eui → d.made ≡ [] → Good (Ok (acted ciphers w number d))
   same_agrees number x d there eui none = quiet _ refl refl (told_nothing ciphers (ran w) number x d there eui taken c none)
 
   restart_agrees : (number : ℕ) → Good (restart ciphers w number)
@@ -342,13 +342,13 @@ module _ (ciphers : Ciphers) (fits : KeepsRanges ciphers) (w : World) (ok : Worl
       by_option (λ psk. Ok (allowed ciphers w number (acts y (Err orders.Halted) (λ m. coordinator_rules.allow m x.eui psk)))) (psk_of x) (Err faults.Node)
       (λ psk pair. quiet _ refl refl (plain_acts (ran w) c 0 y there (Err orders.Halted) _ (λ m here. allow_made m x.eui psk))) (Refused faults.Node))))
 
-  preset_agrees : (number : ℕ) (plan : Line → calls.Presetting) → ((m : Memory) → (of_line m (plan m.line)).made ≡ []) → Good (preset ciphers w number plan)
+  preset_agrees : (number : ℕ) (plan : StationMemory → calls.Presetting) → ((m : Memory) → (of_station m (plan m.station)).made ≡ []) → Good (preset ciphers w number plan)
   preset_agrees number plan none = setup _ (at_node number _ (λ x there. quiet _ refl refl (plain_acts (set_up w) c number x there (Ok tt) _ (λ m here. none m))))
 
   -- # Setup
 
   offered_agrees : (v : World) → Confirmed v taken → (number : ℕ) (x : Node) → node_at v number ≡ Some x → NodeOk x → (to cost : ℕ) → to < 0xFFFE → cost ≤ 255 → Confirmed (told ciphers v number (offered_near x to cost w.clock)) taken
-  offered_agrees v cv number x there good to cost short low = plain_told v cv number x there (λ _. tt) (Ok tt) (λ m. of_line m (calls.preset_near m.line to cost w.clock)) (λ m here. (near_quietly m (sized_of x m good here) to cost w.clock short (omega arith)).made)
+  offered_agrees v cv number x there good to cost short low = plain_told v cv number x there (λ _. tt) (Ok tt) (λ m. of_station m (calls.preset_near m.station to cost w.clock)) (λ m here. (near_quietly m (sized_of x m good here) to cost w.clock short (omega arith)).made)
 
   push_lasts : (x : Node) → Lasts w.nodes (w.nodes ++ x ∷ [])
   push_lasts x n y is = record { node = y; is = slice_get-push_other w.nodes n x (λ e. let inside = place_within w.nodes n y is in omega arith) ∙ is; eui = refl }
@@ -385,7 +385,7 @@ module _ (ciphers : Ciphers) (fits : KeepsRanges ciphers) (w : World) (ok : Worl
       by_answer : (r : Result Granted CoordinatorRefusal) → (acts y (Err orders.Halted) plan).answer ≡ r → Good (depot_by ciphers w number x (acts y (Err orders.Halted) plan))
       by_answer (Err reason) e = rw e (Refused faults.Setup)
       by_answer (Ok g) e =
-          let d : Did (Result Granted CoordinatorRefusal) = record (acts y (Err orders.Halted) plan) { answer = Ok g } in
+          let d : NodeStep (Result Granted CoordinatorRefusal) = record (acts y (Err orders.Halted) plan) { answer = Ok g } in
           let first : Confirmed (told ciphers (set_up w) 0 d) taken = told_nothing ciphers (set_up w) 0 y d hy (acts_eui y (Err orders.Halted) plan) taken c (acts_nothing y (Err orders.Halted) plan (λ m here. depot_made m x.eui psk)) in
           rw e (quiet (provisioned ciphers (told ciphers (set_up w) 0 d) number x g) refl refl (plain_acts (told ciphers (set_up w) 0 d) first number x (other_there ciphers fits w ok flown given k 0 number d x ne hx) (Ok tt) (λ m. meters.provision m g) (λ m here. (installs_rest m g).1)))
 
@@ -401,7 +401,7 @@ module _ (ciphers : Ciphers) (fits : KeepsRanges ciphers) (w : World) (ok : Worl
   paired number took = option_map (λ (a : Agreed). record { node = number; agreed = a }) took
 
   meter_told : (number : ℕ) (x y : Node) (psk : Key) (got : Accepted) (cost note now : ℕ) → node_at w number ≡ Some x → NodeOk y → y.eui ≡ x.eui → IfSome y.memory (λ m. PeerIs y.eui m.session)
-      → let d : Did (Result MeterHeard Dropped) = acts y (Err drops.Store) (λ m. meters.hear_meter (identity ciphers y psk) m got cost note now) in Confirmed (told ciphers (ran w) number d) (taken ++ one_of (paired number (meter_reception d.answer).took))
+      → let d : NodeStep (Result MeterHeard Dropped) = acts y (Err drops.Store) (λ m. meters.hear_meter (identity ciphers y psk) m got cost note now) in Confirmed (told ciphers (ran w) number d) (taken ++ one_of (paired number (meter_reception d.answer).took))
   meter_told number x y psk got cost note now there good eui peer =
       let plan : Memory → Plan Memory (Result MeterHeard Dropped) = λ m. meters.hear_meter (identity ciphers y psk) m got cost note now in
       let d = acts y (Err drops.Store) plan in
@@ -409,8 +409,8 @@ module _ (ciphers : Ciphers) (fits : KeepsRanges ciphers) (w : World) (ok : Worl
       let tags : Each (MeterTag y.eui (meter_reception d.answer).took) d.made = acts_makes (λ a t. MeterTag y.eui (meter_reception a).took t) y (Err drops.Store) plan (λ m here.
       let kept : IsKept y.role m y.store.records = subst (λ o. Left (IsKept y.role) y.store.records o) here good.kept in
       let session : PeerIs y.eui m.session = subst (λ o. IfSome o (λ (n : Memory). PeerIs y.eui n.session)) here peer in
-      (meter_plan y.eui m dropped took_in (λ r. (meter_reception r).took) took_same kept.line.range.ring session _
-      (meter_hears (identity ciphers y psk) m (heard_given got cost note now) kept.line.range.ring session (λ p packet granted right is. fits.granted psk p packet granted right is) (λ octets join index read e. (join_ranges octets join read).1 index e) got refl)).made) in
+      (meter_plan y.eui m dropped took_in (λ r. (meter_reception r).took) took_same kept.station.range.ring session _
+      (meter_hears (identity ciphers y psk) m (heard_given got cost note now) kept.station.range.ring session (λ p packet granted right is. fits.granted psk p packet granted right is) (λ octets join index read e. (join_ranges octets join read).1 index e) got refl)).made) in
       let here : slice_get (slice_set w.nodes number d.node) number ≡ Some d.node = slice_get-set w.nodes number d.node (place_within w.nodes number x there) in
       told_confirmed ciphers (ran w) number x d there (same ∙ eui) taken (one_of (paired number (meter_reception d.answer).took)) c
       (each_weaker (MeterTag y.eui (meter_reception d.answer).took) (TagTaken (slice_set w.nodes number d.node) (taken ++ one_of (paired number (meter_reception d.answer).took)))
@@ -459,11 +459,11 @@ module _ (ciphers : Ciphers) (fits : KeepsRanges ciphers) (w : World) (ok : Worl
       subst (λ m. Among (record { node = m; agreed = d.agreed }) taken) (sym (number_is d.eui t.number t.node t.there t.names)) t.among
 
   acts_done : (y : Node) (plan : Memory → Plan Memory (Result CoordinatorHeard Dropped)) → ((m : Memory) → (plan m).failed ≡ Err drops.Store) → ((m : Memory) → IfSome ((coordinator_reception (plan m).answer).done) (IsDoneBy (plan m).opened))
-      → let d : Did (Result CoordinatorHeard Dropped) = acts y (Err drops.Store) plan in IfSome ((coordinator_reception d.answer).done) (IsDoneBy d.opened)
+      → let d : NodeStep (Result CoordinatorHeard Dropped) = acts y (Err drops.Store) plan in IfSome ((coordinator_reception d.answer).done) (IsDoneBy d.opened)
   unfolding acts
   acts_done y plan failed f = by_memory y.memory
     where
-      by_memory : (o : Option Memory) → let d : Did (Result CoordinatorHeard Dropped) = option_map_or (λ m. left_by y (carry_out y.store.records y.store.cut (plan m))) o (stays y (Err drops.Store)) in IfSome ((coordinator_reception d.answer).done) (IsDoneBy d.opened)
+      by_memory : (o : Option Memory) → let d : NodeStep (Result CoordinatorHeard Dropped) = option_map_or (λ m. left_by y (carry_out y.store.records y.store.cut (plan m))) o (stays y (Err drops.Store)) in IfSome ((coordinator_reception d.answer).done) (IsDoneBy d.opened)
       by_memory None = tt
       by_memory (Some m) = ⊎_elim
           (λ (x : IsWhole y.store.records y.store.cut (plan m) (carry_out y.store.records y.store.cut (plan m))). rw (x.answer, x.opened) (f m))
@@ -471,18 +471,18 @@ module _ (ciphers : Ciphers) (fits : KeepsRanges ciphers) (w : World) (ok : Worl
           (clean y.store.records y.store.cut (plan m))
 
   meter_done : (r : Result MeterHeard Dropped) → (meter_reception r).done ≡ None
-  meter_done (Ok (meter_heard.Line h)) = line_done h
+  meter_done (Ok (meter_heard.Station h)) = station_done h
     where
-      line_done : (h : Heard) → (line_reception h).done ≡ None
-      line_done (line_heard.Up from note octets) = refl
-      line_done line_heard.Held = refl
-      line_done line_heard.Relayed = refl
-      line_done line_heard.Answered = refl
-      line_done line_heard.Learned = refl
-      line_done line_heard.Broken = refl
-      line_done line_heard.Reported = refl
-      line_done (line_heard.Joining way body) = refl
-      line_done (line_heard.Local from all code body) = refl
+      station_done : (h : Heard) → (station_reception h).done ≡ None
+      station_done (station_heard.Up from note octets) = refl
+      station_done station_heard.Held = refl
+      station_done station_heard.Relayed = refl
+      station_done station_heard.Answered = refl
+      station_done station_heard.Learned = refl
+      station_done station_heard.Broken = refl
+      station_done station_heard.Reported = refl
+      station_done (station_heard.Joining way body) = refl
+      station_done (station_heard.Local from all code body) = refl
   meter_done (Ok meter_heard.Carried) = refl
   meter_done (Ok meter_heard.Replied) = refl
   meter_done (Ok (meter_heard.Took agreed)) = refl
@@ -492,7 +492,7 @@ module _ (ciphers : Ciphers) (fits : KeepsRanges ciphers) (w : World) (ok : Worl
   meter_done (Ok meter_heard.Activated) = refl
   meter_done (Err reason) = refl
 
-  Agreeing : (number : ℕ) → Did Reception → Type 0
+  Agreeing : (number : ℕ) → NodeStep Reception → Type 0
   Agreeing number d = Confirmed (told ciphers (ran w) number d) (taken ++ one_of (paired number d.answer.took)) × IfSome (done_by w d.answer.done) (λ p. Among p taken)
 
   hears_agree : (number : ℕ) (x y : Node) (got : Accepted) (cost note now : ℕ) → node_at w number ≡ Some x → NodeOk y → y.eui ≡ x.eui → y.role ≡ x.role → (number ≢ 0 → IfSome y.memory (λ m. PeerIs y.eui m.session))
@@ -500,7 +500,7 @@ module _ (ciphers : Ciphers) (fits : KeepsRanges ciphers) (w : World) (ok : Worl
   unfolding Agreeing told
   hears_agree number x y got cost note now there good eui role peer = by_role y.role refl
     where
-      hears_as : Role → Did Reception
+      hears_as : Role → NodeStep Reception
       hears_as Coordinator = answering coordinator_reception (acts y (Err drops.Store) (λ m. coordinator_rules.hear_coordinator (record { eui = y.eui; ciphers = ciphers }) m got cost note now))
       hears_as (Meter psk) = answering meter_reception (acts y (Err drops.Store) (λ m. meters.hear_meter (identity ciphers y psk) m got cost note now))
 
@@ -510,25 +510,25 @@ module _ (ciphers : Ciphers) (fits : KeepsRanges ciphers) (w : World) (ok : Worl
       plan : Memory → Plan Memory (Result CoordinatorHeard Dropped)
       plan m = coordinator_rules.hear_coordinator own m got cost note now
 
-      says : (m : Memory) → CenterTags m (coordinator_reception (plan m).answer).keyed (coordinator_reception (plan m).answer).done (plan m)
-      says m = says_tags m dropped (λ n a. done_in a ≡ None) (λ r. (coordinator_reception r).keyed) (λ r. (coordinator_reception r).done) (λ a. (keyed_same a).0) (λ a. (keyed_same a).1) (λ f. refl) (λ a n h. h) (plan m) (center_hears own m (heard_given got cost note now) got refl)
+      says : (m : Memory) → CoordinatorTags m (coordinator_reception (plan m).answer).keyed (coordinator_reception (plan m).answer).done (plan m)
+      says m = says_tags m dropped (λ n a. done_in a ≡ None) (λ r. (coordinator_reception r).keyed) (λ r. (coordinator_reception r).done) (λ a. (keyed_same a).0) (λ a. (keyed_same a).1) (λ f. refl) (λ a n h. h) (plan m) (coordinator_hears own m (heard_given got cost note now) got refl)
 
       not_meter : (psk : Key) → Coordinator ≡ Meter psk → ⊥
       not_meter psk e = cc
 
       took_none : (r : Result CoordinatorHeard Dropped) → (coordinator_reception r).took ≡ None
-      took_none (Ok (coordinator_heard.Line h)) = line_none h
+      took_none (Ok (coordinator_heard.Station h)) = station_none h
         where
-          line_none : (h : Heard) → (line_reception h).took ≡ None
-          line_none (line_heard.Up from note octets) = refl
-          line_none line_heard.Held = refl
-          line_none line_heard.Relayed = refl
-          line_none line_heard.Answered = refl
-          line_none line_heard.Learned = refl
-          line_none line_heard.Broken = refl
-          line_none line_heard.Reported = refl
-          line_none (line_heard.Joining way body) = refl
-          line_none (line_heard.Local from all code body) = refl
+          station_none : (h : Heard) → (station_reception h).took ≡ None
+          station_none (station_heard.Up from note octets) = refl
+          station_none station_heard.Held = refl
+          station_none station_heard.Relayed = refl
+          station_none station_heard.Answered = refl
+          station_none station_heard.Learned = refl
+          station_none station_heard.Broken = refl
+          station_none station_heard.Reported = refl
+          station_none (station_heard.Joining way body) = refl
+          station_none (station_heard.Local from all code body) = refl
       took_none (Ok coordinator_heard.Challenged) = refl
       took_none (Ok (coordinator_heard.Keyed eui granted)) = refl
       took_none (Ok (coordinator_heard.Done eui agreed)) = refl
@@ -539,13 +539,13 @@ module _ (ciphers : Ciphers) (fits : KeepsRanges ciphers) (w : World) (ok : Worl
       by_role Coordinator is honest =
           let d = acts y (Err drops.Store) plan in
           let made : Each (TagTaken (slice_set w.nodes number d.node) (taken ++ [])) d.made = acts_makes (λ a t. TagTaken (slice_set w.nodes number d.node) (taken ++ []) t) y (Err drops.Store) plan
-          (λ m here. each_weaker (CenterTag m (coordinator_reception (plan m).answer).keyed) (TagTaken (slice_set w.nodes number d.node) (taken ++ [])) (center_taken m _ _ _) (plan m).made (says m).made) in (
+          (λ m here. each_weaker (CoordinatorTag m (coordinator_reception (plan m).answer).keyed) (TagTaken (slice_set w.nodes number d.node) (taken ++ [])) (coordinator_taken m _ _ _) (plan m).made (says m).made) in (
             subst (λ o. Confirmed (told ciphers (ran w) number d) (taken ++ one_of (paired number o))) (sym (took_none d.answer)) (told_confirmed ciphers (ran w) number x d there (acts_eui y (Err drops.Store) plan ∙ eui) taken [] c made),
-            was_among (coordinator_reception d.answer).done d.opened (acts_done y plan (λ m. planned_failed (plan m) (center_hears own m (heard_given got cost note now) got refl)) (λ m. (says m).right)) (all_made w.made d.opened honest),
+            was_among (coordinator_reception d.answer).done d.opened (acts_done y plan (λ m. planned_failed (plan m) (coordinator_hears own m (heard_given got cost note now) got refl)) (λ m. (says m).right)) (all_made w.made d.opened honest),
           )
       by_role (Meter psk) is honest =
           let d = acts y (Err drops.Store) (λ m. meters.hear_meter (identity ciphers y psk) m got cost note now) in
-          let ne : number ≢ 0 = λ e. not_meter psk (sym (k.center x (ap (slice_get w.nodes) (sym e) ∙ there)).role ∙ sym role ∙ is) in
+          let ne : number ≢ 0 = λ e. not_meter psk (sym (k.coordinator x (ap (slice_get w.nodes) (sym e) ∙ there)).role ∙ sym role ∙ is) in
           (meter_told number x y psk got cost note now there good eui (peer ne), subst (λ o. IfSome (done_by w o) (λ p. Among p taken)) (sym (meter_done d.answer)) tt)
 
   arrives_agrees : (number : ℕ) (x : Node) (octets : List ℕ) (cost : ℕ) → node_at w number ≡ Some x → AreOctets octets → Good (Ok (arrives ciphers w number x octets cost))
@@ -553,15 +553,15 @@ module _ (ciphers : Ciphers) (fits : KeepsRanges ciphers) (w : World) (ok : Worl
   arrives_agrees number x octets cost there are = by_answer (acts x (Err frames.Halted) plan).answer refl
     where
       plan : Memory → Plan Memory (Result Accepted FrameRefusal)
-      plan m = of_line m (accept m.line x.eui (arrived ciphers octets))
+      plan m = of_station m (accept m.station x.eui (arrived ciphers octets))
 
       did : DidOk x (acts x (Err frames.Halted) plan)
       did = acts_ok x (Err frames.Halted) plan (node_ok number x there) (λ m here kept sized. accept_ok ciphers fits octets are x.role m x.eui sized)
 
       by_answer : (r : Result Accepted FrameRefusal) → (acts x (Err frames.Halted) plan).answer ≡ r → Good (Ok (accepted_by ciphers w number octets cost (acts x (Err frames.Halted) plan)))
       by_answer (Err reason) e =
-          let d : Did (Result Accepted FrameRefusal) = record (acts x (Err frames.Halted) plan) { answer = Err reason } in
-          rw e (quiet (told ciphers (ran w) number d, deeds (happened w (frame_word reason))) refl refl
+          let d : NodeStep (Result Accepted FrameRefusal) = record (acts x (Err frames.Halted) plan) { answer = Err reason } in
+          rw e (quiet (told ciphers (ran w) number d, trace_of (happened w (frame_word reason))) refl refl
           (told_nothing ciphers (ran w) number x d there (acts_eui x (Err frames.Halted) plan) taken c (acts_nothing x (Err frames.Halted) plan (λ m here. (accept_quietly ciphers fits octets are m x.eui).made))))
       by_answer (Ok got) e =
           let y = (acts x (Err frames.Halted) plan).node in
@@ -580,17 +580,17 @@ module _ (ciphers : Ciphers) (fits : KeepsRanges ciphers) (w : World) (ok : Worl
   unfolding inject
   inject_agrees number cost octets are = once _ (at_node number _ (λ x there. arrives_agrees number x octets cost there are))
 
-  none_line : (m : Memory) (value : ℕ) → ((of_line m (calls.preset_counter m.line value)).made ≡ []) × ((of_line m (calls.preset_number m.line value)).made ≡ [])
+  none_station : (m : Memory) (value : ℕ) → ((of_station m (calls.preset_counter m.station value)).made ≡ []) × ((of_station m (calls.preset_number m.station value)).made ≡ [])
   unfolding resting
-  none_line m value = (refl, refl)
+  none_station m value = (refl, refl)
 
   pub step_agrees : (event : Event) → IsEvent event → Good (step ciphers w event)
   step_agrees (events.Coordinator eui key) e = coordinator_agrees eui key
   step_agrees (events.Meter eui psk) e = meter_agrees eui psk
   step_agrees (events.Depot node) e = depot_agrees node
   step_agrees (events.Near a b cost) e = near_agrees a b cost e.2.1
-  step_agrees (events.Counter node value) e = preset_agrees node _ (λ m. (none_line m value).0)
-  step_agrees (events.Number node value) e = preset_agrees node _ (λ m. (none_line m value).1)
+  step_agrees (events.Counter node value) e = preset_agrees node _ (λ m. (none_station m value).0)
+  step_agrees (events.Number node value) e = preset_agrees node _ (λ m. (none_station m value).1)
   step_agrees (events.Allow node) e = allow_agrees node
   step_agrees (events.Rand node value) e = rand_agrees node value
   step_agrees (events.Join node agent) e = join_agrees node agent

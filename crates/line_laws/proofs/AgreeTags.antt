@@ -16,7 +16,7 @@ use Rattle.node_rules.specs.Memory.{Node}
 use Rattle.line_rules.specs.Worlds.{Pairing, same_tag}
 use Rattle.line_laws.proofs.IssueWords.{Among, Each, Found, any_found}
 use Rattle.line_laws.proofs.IssueNodes.{AllMade}
-use Rattle.line_laws.proofs.IssueCenter.{IsDoneBy}
+use Rattle.line_laws.proofs.IssueCoordinator.{IsDoneBy}
 
 rand_of : List ℕ → Rand
 rand_of octets = record { 0 = octets }

@@ -16,11 +16,11 @@ use Rattle.node_rules.specs.Memory.{Memory, Node}
 use Rattle.node_rules.specs.Plans.{Plan, carry_out, resting}
 use Rattle.node_rules.specs.Laws.{IsWhole, IsCutOff}
 use Rattle.node_rules.specs.NodeSteps.{acts, stays, left_by}
-use Rattle.node_rules.specs.Doings.{Doing, begun, choose, sealing, refused}
-use Rattle.node_rules.specs.Holding.{in_memory, remembered}
+use Rattle.node_rules.specs.Drafts.{Draft, empty_draft, choose, sealing, refused}
+use Rattle.node_rules.specs.MemoryDrafts.{in_memory, with_memory_by}
 use Rattle.node_rules.specs.declared.refusal.CoordinatorRefusal.{CoordinatorRefusal}
 use Rattle.node_rules.specs.declared.refusal.CoordinatorRefusal.TheVariants as refusal
-use Rattle.node_rules.specs.Coordinators.{entered, changed, changes, without_session, grant_for, depot, depot_by, orders}
+use Rattle.node_rules.specs.Coordinators.{with_book_entry, changed, changes, without_session, grant_for, depot, depot_by, orders}
 use Rattle.node_rules.proofs.Writing.{clean}
 use Rattle.line_laws.specs.Stores.{IsReadable}
 use Rattle.line_laws.proofs.NodeCalls.{no_some}
@@ -77,7 +77,7 @@ refused_not : (m : Memory) (x : CoordinatorRefusal) (g : Granted) → (refused {
 unfolding resting
 refused_not m x g e = err_not_ok x g e
 
-module _ (m : Memory) (eui : Eui) (psk : Key) (g : Granted) (readable : IfSome m.line.ring IsReadable) (short : length m.book ≤ 999) where
+module _ (m : Memory) (eui : Eui) (psk : Key) (g : Granted) (readable : IfSome m.station.ring IsReadable) (short : length m.book ≤ 999) where
   entry : BookEntry
   entry = book.allowed_entry eui psk (book.entry_for m.book eui)
 
@@ -86,27 +86,27 @@ module _ (m : Memory) (eui : Eui) (psk : Key) (g : Granted) (readable : IfSome m
   entry_eui (Some e) = refl
 
   -- the ring and the size of the book after the meter was allowed
-  changed_line : book.has_room m.book eui ≡ true → ((changed m entry).memory.line.ring ≡ m.line.ring) × (length (changed m entry).memory.book ≤ 999)
-  unfolding begun remembered entered entry
-  changed_line room = by_change (changes m entry)
+  changed_station : book.has_room m.book eui ≡ true → ((changed m entry).memory.station.ring ≡ m.station.ring) × (length (changed m entry).memory.book ≤ 999)
+  unfolding empty_draft with_memory_by with_book_entry entry
+  changed_station room = by_change (changes m entry)
     where
       fits : book.has_room m.book entry.eui ≡ true
       fits = ap (book.has_room m.book) (entry_eui (book.entry_for m.book eui)) ∙ room
 
-      by_change : (b : Bool) → let d : Doing Memory = (if b then remembered (without_session entry.eui) (entered entry (begun m)) else begun m) in (d.memory.line.ring ≡ m.line.ring) × (length d.memory.book ≤ 999)
+      by_change : (b : Bool) → let d : Draft Memory = (if b then with_memory_by (without_session entry.eui) (with_book_entry entry (empty_draft m)) else empty_draft m) in (d.memory.station.ring ≡ m.station.ring) × (length d.memory.book ≤ 999)
       by_change true = (refl, with_short m.book entry short fits)
       by_change false = (refl, short)
 
-  by_answer : (d : Doing Memory) → d.memory.line.ring ≡ m.line.ring → length d.memory.book ≤ 999 → (depot_by m eui psk d).answer ≡ Ok g → IsReadable g
+  by_answer : (d : Draft Memory) → d.memory.station.ring ≡ m.station.ring → length d.memory.book ≤ 999 → (depot_by m eui psk d).answer ≡ Ok g → IsReadable g
   by_answer d same few = by_grant (grant_for d.memory eui) refl
     where
       by_entry : (granted : Granted) (o : Option BookEntry) → grant_for d.memory eui ≡ Some granted
-          → (option_map_or (λ e. sealing in_memory orders (entered (book.issued_entry eui granted e) d) granted) o (refused orders m refusal.MetersFull)).answer ≡ Ok g → IsReadable g
+          → (option_map_or (λ e. sealing in_memory orders (with_book_entry (book.issued_entry eui granted e) d) granted) o (refused orders m refusal.MetersFull)).answer ≡ Ok g → IsReadable g
       by_entry granted None is e = absurd (refused_not m _ g e)
-      by_entry granted (Some x) is e = let this : granted ≡ g = cc in subst IsReadable this (granted_readable d.memory.line.ring d.memory.book eui granted (rw same readable) few is)
+      by_entry granted (Some x) is e = let this : granted ≡ g = cc in subst IsReadable this (granted_readable d.memory.station.ring d.memory.book eui granted (rw same readable) few is)
 
       by_grant : (o : Option Granted) → grant_for d.memory eui ≡ o
-          → (option_map_or (λ granted. option_map_or (λ e. sealing in_memory orders (entered (book.issued_entry eui granted e) d) granted) (book.allowed_one d.memory.book eui) (refused orders m refusal.MetersFull)) o (refused orders m refusal.MetersFull)).answer ≡ Ok g → IsReadable g
+          → (option_map_or (λ granted. option_map_or (λ e. sealing in_memory orders (with_book_entry (book.issued_entry eui granted e) d) granted) (book.allowed_one d.memory.book eui) (refused orders m refusal.MetersFull)) o (refused orders m refusal.MetersFull)).answer ≡ Ok g → IsReadable g
       by_grant None is e = absurd (refused_not m _ g e)
       by_grant (Some granted) is e = by_entry granted (book.allowed_one d.memory.book eui) is e
 
@@ -115,5 +115,5 @@ module _ (m : Memory) (eui : Eui) (psk : Key) (g : Granted) (readable : IfSome m
   depot_grants = by_room (book.has_room m.book eui) refl
     where
       by_room : (b : Bool) → book.has_room m.book eui ≡ b → (if b then depot_by m eui psk (changed m entry) else refused orders m refusal.MetersFull).answer ≡ Ok g → IsReadable g
-      by_room true room e = let line = changed_line room in by_answer (changed m entry) line.0 line.1 e
+      by_room true room e = let station = changed_station room in by_answer (changed m entry) station.0 station.1 e
       by_room false room e = absurd (refused_not m _ g e)

@@ -30,26 +30,26 @@ use Rattle.node_rules.specs.declared.heard.Way.TheVariants.{Air, Near, Mesh}
 use Rattle.node_rules.specs.declared.refusal.Dropped.{Dropped}
 use Rattle.node_rules.specs.declared.refusal.Dropped.TheVariants as drops
 use Rattle.node_rules.specs.declared.refusal.CoordinatorRefusal.TheVariants as refusal
-use Rattle.node_rules.specs.Memory.{Line, Memory, Command, CoordinatorSession, address_of, next_hop}
+use Rattle.node_rules.specs.Memory.{StationMemory, Memory, Command, CoordinatorSession, address_of, next_hop}
 use Rattle.node_rules.specs.Plans.{Plan}
-use Rattle.node_rules.specs.Doings.{Doing, Lack, alone, begun, ringed, lack, counters_left, sealing, refused, checked, choose, sets_out}
-use Rattle.node_rules.specs.Hearing as station
-use Rattle.node_rules.specs.Doings as doings
+use Rattle.node_rules.specs.Drafts.{Draft, Lack, alone, empty_draft, with_ring, lack, counters_left, sealing, refused, checked, choose, sets_out}
+use Rattle.node_rules.specs.Hearing as station_rules
+use Rattle.node_rules.specs.Drafts as drafts
 use Rattle.node_rules.specs.Hearing.{dropped}
 use Rattle.node_rules.specs.Joining.{message, first_packet, server_for, rand_p_in, command_of}
-use Rattle.node_rules.specs.Holding.{in_memory, on_line, line_part, remembered, tagged_with, is_commanded, oldest, without_oldest, Unread, unread}
-use Rattle.node_rules.specs.Coordinators.{Hearing, CoordinatorIdentity, drop_it, is_of, session_of, sessions_full, session_fault, with_session, without_session, grant_for, says, say_lack, entered, declines, opens, challenges, open_session, asked, keys_for, take_second, accepts, take_fourth, take_packet, answered, hear_join, hear_join_in, heard_by, hear_coordinator, Ordering, orders, allowed_entry, order_lack, lacking, changes, changed, allow, depot_by, depot, rekey, activate_self, challenge_by, challenge_at, challenge, allowed_address, activate_by, activate, kick_goes, kick_by, kick}
+use Rattle.node_rules.specs.MemoryDrafts.{in_memory, on_station, station_part, with_memory_by, with_pair_tags, is_commanded, oldest, without_oldest, Unread, unread}
+use Rattle.node_rules.specs.Coordinators.{Hearing, CoordinatorIdentity, drop_it, is_of, session_of, sessions_full, session_fault, with_session, without_session, grant_for, says, say_lack, with_book_entry, declines, opens, challenges, open_session, asked, keys_for, take_second, accepts, take_fourth, take_packet, answered, hear_join, hear_join_in, heard_by, hear_coordinator, Ordering, orders, allowed_entry, order_lack, lacking, changes, changed, allow, depot_by, depot, rekey, activate_self, challenge_by, challenge_at, challenge, allowed_address, activate_by, activate, kick_goes, kick_by, kick}
 use Rattle.node_rules.proofs.Words.{IsDone, Fits, looser, sets_out_fits, begun_fits, on_ring, remembered_fits, entered_fits, down_done, commanded_done, quiet_done, quiet}
 use Rattle.line_laws.proofs.Planned.{Planned, Refuses, checked_planned, choose_planned, sealed_planned, option_planned, sealing_planned}
 use Rattle.line_laws.proofs.Made.{RingWord, Carry, Draw, Activate, Given, Starts, Rings, RingChange, Draws, Activates}
-use Rattle.line_laws.proofs.MadeIn.{EntryChange, MadeIn, Begins, OnLine, Remembers, Tags, Enters, Down, Opens, Answers, Closes, Known, OfSession, Allows, Issues, Kicks}
+use Rattle.line_laws.proofs.MadeIn.{EntryChange, MadeIn, Begins, OnStation, Remembers, Tags, Enters, Down, Opens, Answers, Closes, Known, OfSession, Allows, Issues, Kicks}
 use Rattle.line_laws.proofs.HearingForms.{IsNoUp, Handed, MadeOf, hear_is}
 use Rattle.line_laws.proofs.SetsOut.{LacksNothing, lacks_nothing, commanded_made}
-use Rattle.line_laws.proofs.HoldingForms.{HandedIn, commands_well, AnyAnswer, MadeBy, within_planned}
+use Rattle.line_laws.proofs.MemoryDraftForms.{HandedIn, commands_well, AnyAnswer, MadeBy, within_planned}
 
 -- where the coordinator sends a command: back over the mesh as it heard or as a session runs, or to an address of the book
 pub data IsReached (g : Given) (m : Memory) : ℕ → Type 0 where
-  AsHeard : (origin : ℕ) (got : Accepted) (u : Unread) → g.got ≡ Some got → unread (station.hear m.line got g.cost g.note g.now).answer ≡ Some u → u.way ≡ Mesh origin → IsReached g m origin
+  AsHeard : (origin : ℕ) (got : Accepted) (u : Unread) → g.got ≡ Some got → unread (station_rules.hear m.station got g.cost g.note g.now).answer ≡ Some u → u.way ≡ Mesh origin → IsReached g m origin
   AsSession : (origin : ℕ) (eui : Eui) (s : CoordinatorSession) → session_of m eui ≡ Some s → s.way ≡ Mesh origin → IsReached g m origin
   AsBooked : (eui : Eui) (to : ℕ) → book.address_of m.book eui ≡ Some to → IsReached g m to
 
@@ -69,7 +69,7 @@ pub data IsSaidDown (E : Eui → Type 0) (own : CoordinatorIdentity) (m : Memory
 
 -- the coordinator hands no datagram up
 abbrev pub HandsNothingUp : CoordinatorHeard → Type 0
-HandsNothingUp (heard.Line h) = IsNoUp h
+HandsNothingUp (heard.Station h) = IsNoUp h
 HandsNothingUp _ = Unit {0}
 
 -- A grant that the coordinator has for a meter.
@@ -92,11 +92,11 @@ no_full_fault m eui = by_full (sessions_full m eui)
     by_full true e = absurd (cc)
     by_full false e = refl
 
-orders_well : (m : Memory) (to : ℕ) (join : JoinMessage) → order_lack m to join ≡ None → LacksNothing m.line to (length (command_of join))
-orders_well m to join e = by_lack (lack m.line to (length (command_of join))) refl e
+orders_well : (m : Memory) (to : ℕ) (join : JoinMessage) → order_lack m to join ≡ None → LacksNothing m.station to (length (command_of join))
+orders_well m to join e = by_lack (lack m.station to (length (command_of join))) refl e
   where
-    by_lack : (o : Option Lack) → lack m.line to (length (command_of join)) ≡ o → option_map lacking o ≡ None → LacksNothing m.line to (length (command_of join))
-    by_lack None is e = lacks_nothing m.line to (length (command_of join)) is
+    by_lack : (o : Option Lack) → lack m.station to (length (command_of join)) ≡ o → option_map lacking o ≡ None → LacksNothing m.station to (length (command_of join))
+    by_lack None is e = lacks_nothing m.station to (length (command_of join)) is
     by_lack (Some x) is e = absurd (cc)
 
 no_route : (o : Option ℕ) → o ≡ None → is_some o ≡ true → ⊥
@@ -108,54 +108,54 @@ module _ (W : RingWord → Type 0) (P : Eui → Key → Type 0) (E : Eui → Typ
   abbrev pub L : Granted → Type 0
   L granted = IsGranted m granted
 
-  abbrev MadeHere : Doing Memory → Type 0
+  abbrev MadeHere : Draft Memory → Type 0
   MadeHere d = MadeIn W L P E g m d
 
-  abbrev Done : Doing Memory → Type 0
-  Done d = IsDone m.line d
+  abbrev Done : Draft Memory → Type 0
+  Done d = IsDone m.station d
 
   abbrev pub Is : Hearing → Type 0
-  Is p = Planned in_memory dropped m (HandedIn heard.Line g m) (MadeBy W L P E g m HandsNothingUp) p
+  Is p = Planned in_memory dropped m (HandedIn heard.Station g m) (MadeBy W L P E g m HandsNothingUp) p
 
   -- # What is heard
 
-  opens_made : (s : CoordinatorSession) (value : Rand) → oldest m ≡ Some value → sessions_full m s.server.eui ≡ false → E s.server.eui → MadeHere (opens s (begun m))
-  unfolding begun
-  opens_made s value here room known = Remembers (λ n. with_session s (without_oldest n)) (begun m) Begins (Opens s value here room known)
+  opens_made : (s : CoordinatorSession) (value : Rand) → oldest m ≡ Some value → sessions_full m s.server.eui ≡ false → E s.server.eui → MadeHere (opens s (empty_draft m))
+  unfolding empty_draft
+  opens_made s value here room known = Remembers (λ n. with_session s (without_oldest n)) (empty_draft m) Begins (Opens s value here room known)
 
-  opens_lacks : (s : CoordinatorSession) (to octets : ℕ) → LacksNothing m.line to octets → LacksNothing (opens s (begun m)).memory.line to octets
-  unfolding begun remembered
+  opens_lacks : (s : CoordinatorSession) (to octets : ℕ) → LacksNothing m.station to octets → LacksNothing (opens s (empty_draft m)).memory.station to octets
+  unfolding empty_draft with_memory_by
   opens_lacks s to octets f = f
 
-  begun_lacks : (to octets : ℕ) → LacksNothing m.line to octets → LacksNothing (begun m).memory.line to octets
-  unfolding begun
+  begun_lacks : (to octets : ℕ) → LacksNothing m.station to octets → LacksNothing (empty_draft m).memory.station to octets
+  unfolding empty_draft
   begun_lacks to octets f = f
 
   -- what is said goes the session's way
-  says_made : (way : Way) (join : JoinMessage) (d : Doing Memory) → WayIsReached g m way → IsSaidDown E own m join → MadeHere d → say_lack m way join ≡ None → ((to octets : ℕ) → LacksNothing m.line to octets → LacksNothing d.memory.line to octets)
+  says_made : (way : Way) (join : JoinMessage) (d : Draft Memory) → WayIsReached g m way → IsSaidDown E own m join → MadeHere d → say_lack m way join ≡ None → ((to octets : ℕ) → LacksNothing m.station to octets → LacksNothing d.memory.station to octets)
       → MadeHere (says way join g.now d)
   says_made (Air eui) join d there said made lacks same = Down 0 join d made
   says_made (Near agent) join d there said made lacks same = made
   says_made (Mesh origin) join d there said made lacks same = commanded_made origin join g.now d made (same origin (length (command_of join)) (commands_well m origin join lacks)) (says_to origin (there origin refl) join said)
 
-  says_done : (way : Way) (join : JoinMessage) (d : Doing Memory) → Fits m.line 0 1 d → Done (says way join g.now d)
-  says_done (Air eui) join d f = down_done m.line 0 join d f
-  says_done (Near agent) join d f = quiet_done m.line d f
-  says_done (Mesh origin) join d f = commanded_done m.line origin join g.now d f
+  says_done : (way : Way) (join : JoinMessage) (d : Draft Memory) → Fits m.station 0 1 d → Done (says way join g.now d)
+  says_done (Air eui) join d f = down_done m.station 0 join d f
+  says_done (Near agent) join d f = quiet_done m.station d f
+  says_done (Mesh origin) join d f = commanded_done m.station origin join g.now d f
 
   declines_is : (way : Way) (join : JoinMessage) → WayIsReached g m way → IsSaidDown E own m join → Is (declines m way join g.now)
-  declines_is way join there said = checked_planned (λ lacks. sealed_planned _ _ (says_made way join (begun m) there said Begins lacks begun_lacks, says_done way join (begun m) (begun_fits m.line 1 m), tt))
+  declines_is way join there said = checked_planned (λ lacks. sealed_planned _ _ (says_made way join (empty_draft m) there said Begins lacks begun_lacks, says_done way join (empty_draft m) (begun_fits m.station 1 m), tt))
 
   abbrev asking : Way → Server → CoordinatorSession
   asking way server = record { server = server; way = way; since = g.now }
 
-  opens_fits : (s : CoordinatorSession) → Fits m.line 0 1 (opens s (begun m))
-  opens_fits s = remembered_fits m.line _ _ (begun_fits m.line 1 m)
+  opens_fits : (s : CoordinatorSession) → Fits m.station 0 1 (opens s (empty_draft m))
+  opens_fits s = remembered_fits m.station _ _ (begun_fits m.station 1 m)
 
   challenges_is : (way : Way) (server : Server) (value : Rand) → WayIsReached g m way → IsSaidDown E own m (message server.eui (body.Challenge (first_packet server))) → oldest m ≡ Some value → sessions_full m server.eui ≡ false → E server.eui → Is (challenges m way server g.now)
   challenges_is way server value there said here room known =
       let join = message server.eui (body.Challenge (first_packet server)) in
-      checked_planned (λ lacks. sealed_planned _ _ (says_made way join (opens (asking way server) (begun m)) there said (opens_made (asking way server) value here room known) lacks (opens_lacks (asking way server)), says_done way join _ (opens_fits (asking way server)), tt))
+      checked_planned (λ lacks. sealed_planned _ _ (says_made way join (opens (asking way server) (empty_draft m)) there said (opens_made (asking way server) value here room known) lacks (opens_lacks (asking way server)), says_done way join _ (opens_fits (asking way server)), tt))
 
   open_is : (way : Way) (eui : Eui) → WayIsReached g m way → E eui → Is (open_session own m way eui g.now)
   open_is way eui there known = checked_planned (λ e.
@@ -166,27 +166,27 @@ module _ (W : RingWord → Type 0) (P : Eui → Key → Type 0) (E : Eui → Typ
   asked_is way eui there known = choose_planned (λ allowed. open_is way eui there known) (λ other. declines_is way _ there (SaysDecline eui known))
 
   -- the keys of a grant go to a meter whose session is there and which is allowed
-  abbrev noted : CoordinatorSession → BookEntry → Rand → Granted → Doing Memory
-  noted s e rand_p granted = tagged_with (mac_s_tag s.server.eui s.server.id_s rand_p ∷ granting_tag s.server.eui 2 s.server.rand_s rand_p (granting_text granted) ∷ [])
+  abbrev noted : CoordinatorSession → BookEntry → Rand → Granted → Draft Memory
+  noted s e rand_p granted = with_pair_tags (mac_s_tag s.server.eui s.server.id_s rand_p ∷ granting_tag s.server.eui 2 s.server.rand_s rand_p (granting_text granted) ∷ [])
       (mac_p_tag s.server.eui s.server.id_s s.server.rand_s rand_p ∷ [])
-      (entered (book.issued_entry s.server.eui granted e)
-      (remembered (with_session (record s { server = record s.server { rand_p = Some rand_p } })) (begun m)))
+      (with_book_entry (book.issued_entry s.server.eui granted e)
+      (with_memory_by (with_session (record s { server = record s.server { rand_p = Some rand_p } })) (empty_draft m)))
 
-  answered_made : (s : CoordinatorSession) (eui : Eui) (rand_p : Rand) → session_of m eui ≡ Some s → MadeHere (remembered (with_session (record s { server = record s.server { rand_p = Some rand_p } })) (begun m))
-  unfolding begun
-  answered_made s eui rand_p there = Remembers (with_session (record s { server = record s.server { rand_p = Some rand_p } })) (begun m) Begins (Answers (record s { server = record s.server { rand_p = Some rand_p } }) s eui there refl)
+  answered_made : (s : CoordinatorSession) (eui : Eui) (rand_p : Rand) → session_of m eui ≡ Some s → MadeHere (with_memory_by (with_session (record s { server = record s.server { rand_p = Some rand_p } })) (empty_draft m))
+  unfolding empty_draft
+  answered_made s eui rand_p there = Remembers (with_session (record s { server = record s.server { rand_p = Some rand_p } })) (empty_draft m) Begins (Answers (record s { server = record s.server { rand_p = Some rand_p } }) s eui there refl)
 
   issues : (s : CoordinatorSession) (e : BookEntry) (eui : Eui) (rand_p : Rand) (granted : Granted) → session_of m eui ≡ Some s → book.allowed_one m.book s.server.eui ≡ Some e → grant_for m s.server.eui ≡ Some granted
-      → EntryChange L P E m (remembered (with_session (record s { server = record s.server { rand_p = Some rand_p } })) (begun m)).memory.book (book.issued_entry s.server.eui granted e)
-  unfolding begun remembered
+      → EntryChange L P E m (with_memory_by (with_session (record s { server = record s.server { rand_p = Some rand_p } })) (empty_draft m)).memory.book (book.issued_entry s.server.eui granted e)
+  unfolding empty_draft with_memory_by
   issues s e eui rand_p granted there allowed is = Issues s.server.eui granted e (OfSession eui s there) (record { eui = s.server.eui; book = m.book; is = is }) allowed
 
   noted_made : (s : CoordinatorSession) (e : BookEntry) (eui : Eui) (rand_p : Rand) (granted : Granted) → session_of m eui ≡ Some s → book.allowed_one m.book s.server.eui ≡ Some e → grant_for m s.server.eui ≡ Some granted
       → MadeHere (noted s e rand_p granted)
   noted_made s e eui rand_p granted there allowed is = Tags _ _ _ (Enters _ _ (answered_made s eui rand_p there) (issues s e eui rand_p granted there allowed is))
 
-  noted_lacks : (s : CoordinatorSession) (e : BookEntry) (rand_p : Rand) (granted : Granted) (to octets : ℕ) → LacksNothing m.line to octets → LacksNothing (noted s e rand_p granted).memory.line to octets
-  unfolding begun remembered entered tagged_with
+  noted_lacks : (s : CoordinatorSession) (e : BookEntry) (rand_p : Rand) (granted : Granted) (to octets : ℕ) → LacksNothing m.station to octets → LacksNothing (noted s e rand_p granted).memory.station to octets
+  unfolding empty_draft with_memory_by with_book_entry with_pair_tags
   noted_lacks s e rand_p granted to octets f = f
 
   keys_is : (s : CoordinatorSession) (e : BookEntry) (eui : Eui) (rand_p : Rand) (granted : Granted) → session_of m eui ≡ Some s → book.allowed_one m.book s.server.eui ≡ Some e → grant_for m s.server.eui ≡ Some granted
@@ -204,15 +204,15 @@ module _ (W : RingWord → Type 0) (P : Eui → Key → Type 0) (E : Eui → Typ
       option_planned (λ granted. keys_for own m s e (rand_p_in packet) granted g.now) (grant_for m s.server.eui) (drop_it m drops.NotAllowed)
       (λ granted is. keys_is s e eui _ granted there allowed is) (λ none. Refuses _))
 
-  abbrev closed : CoordinatorSession → Rand → Doing Memory
-  closed s rand_p = tagged_with [] (success_tag s.server.eui 2 s.server.rand_s rand_p ∷ []) (remembered (without_session s.server.eui) (begun m))
+  abbrev closed : CoordinatorSession → Rand → Draft Memory
+  closed s rand_p = with_pair_tags [] (success_tag s.server.eui 2 s.server.rand_s rand_p ∷ []) (with_memory_by (without_session s.server.eui) (empty_draft m))
 
   closed_made : (s : CoordinatorSession) (rand_p : Rand) → MadeHere (closed s rand_p)
-  unfolding begun
-  closed_made s rand_p = Tags _ _ _ (Remembers (without_session s.server.eui) (begun m) Begins (Closes s.server.eui))
+  unfolding empty_draft
+  closed_made s rand_p = Tags _ _ _ (Remembers (without_session s.server.eui) (empty_draft m) Begins (Closes s.server.eui))
 
-  closed_lacks : (s : CoordinatorSession) (rand_p : Rand) (to octets : ℕ) → LacksNothing m.line to octets → LacksNothing (closed s rand_p).memory.line to octets
-  unfolding begun remembered tagged_with
+  closed_lacks : (s : CoordinatorSession) (rand_p : Rand) (to octets : ℕ) → LacksNothing m.station to octets → LacksNothing (closed s rand_p).memory.station to octets
+  unfolding empty_draft with_memory_by with_pair_tags
   closed_lacks s rand_p to octets f = f
 
   accepts_is : (s : CoordinatorSession) (rand_p : Rand) (eui : Eui) → session_of m eui ≡ Some s → Is (accepts m s rand_p g.now)
@@ -255,13 +255,13 @@ module _ (W : RingWord → Type 0) (P : Eui → Key → Type 0) (E : Eui → Typ
   join_in_is octets way None there read = Refuses _
   join_in_is octets way (Some join) there read = choose_planned (λ may. join_is way join.eui join.body there (heard_eui octets join read)) (λ other. Refuses _)
 
-  heard_by_is : (p : Plan Line (Result Heard Dropped)) (u : Option Unread) → ((x : Unread) → u ≡ Some x → WayIsReached g m x.way) → Planned alone dropped m.line (Handed g m.line) (MadeOf W g m.line) p → Is (heard_by own m g.now p u)
-  heard_by_is p None there s = within_planned W L P E g m HandsNothingUp heard.Line p (λ h k. k) s
+  heard_by_is : (p : Plan StationMemory (Result Heard Dropped)) (u : Option Unread) → ((x : Unread) → u ≡ Some x → WayIsReached g m x.way) → Planned alone dropped m.station (Handed g m.station) (MadeOf W g m.station) p → Is (heard_by own m g.now p u)
+  heard_by_is p None there s = within_planned W L P E g m HandsNothingUp heard.Station p (λ h k. k) s
   heard_by_is p (Some u) there s = join_in_is u.body u.way (join_in u.body) (there u refl) refl
 
   pub coordinator_is : (got : Accepted) → g.got ≡ Some got → Is (hear_coordinator own m got g.cost g.note g.now)
   coordinator_is got is =
-      let p = station.hear m.line got g.cost g.note g.now in heard_by_is p (unread p.answer) (λ u e origin way. AsHeard origin got u is e way) (hear_is W g m.line got is)
+      let p = station_rules.hear m.station got g.cost g.note g.now in heard_by_is p (unread p.answer) (λ u e origin way. AsHeard origin got u is e way) (hear_is W g m.station got is)
 
   -- # Orders
 
@@ -271,8 +271,8 @@ module _ (W : RingWord → Type 0) (P : Eui → Key → Type 0) (E : Eui → Typ
   abbrev pub IsOrder : {A : Type 0} → Ordering A → Type 0
   IsOrder p = Planned in_memory orders m Nothing (MadeBy W L P E g m AnyAnswer) p
 
-  allows : (eui : Eui) (psk : Key) → E eui → P eui psk → book.has_room m.book eui ≡ true → EntryChange L P E m (begun m).memory.book (book.allowed_entry eui psk (book.entry_for m.book eui))
-  unfolding begun
+  allows : (eui : Eui) (psk : Key) → E eui → P eui psk → book.has_room m.book eui ≡ true → EntryChange L P E m (empty_draft m).memory.book (book.allowed_entry eui psk (book.entry_for m.book eui))
+  unfolding empty_draft
   allows eui psk is known room = Allows eui psk is known room
 
   changed_made : (eui : Eui) (psk : Key) → E eui → P eui psk → book.has_room m.book eui ≡ true → MadeHere (changed m (book.allowed_entry eui psk (book.entry_for m.book eui)))
@@ -281,27 +281,27 @@ module _ (W : RingWord → Type 0) (P : Eui → Key → Type 0) (E : Eui → Typ
       entry : BookEntry
       entry = book.allowed_entry eui psk (book.entry_for m.book eui)
 
-      by_change : (b : Bool) → MadeHere (if b then remembered (without_session entry.eui) (entered entry (begun m)) else begun m)
-      by_change true = Remembers (without_session entry.eui) _ (Enters _ (begun m) Begins (allows eui psk is known room)) (Closes entry.eui)
+      by_change : (b : Bool) → MadeHere (if b then with_memory_by (without_session entry.eui) (with_book_entry entry (empty_draft m)) else empty_draft m)
+      by_change true = Remembers (without_session entry.eui) _ (Enters _ (empty_draft m) Begins (allows eui psk is known room)) (Closes entry.eui)
       by_change false = Begins
 
-  changed_fits : (e : BookEntry) → Fits m.line 0 1 (changed m e)
+  changed_fits : (e : BookEntry) → Fits m.station 0 1 (changed m e)
   changed_fits e = by_change (changes m e)
     where
-      by_change : (b : Bool) → Fits m.line 0 1 (if b then remembered (without_session e.eui) (entered e (begun m)) else begun m)
-      by_change true = remembered_fits m.line _ _ (entered_fits m.line e _ (begun_fits m.line 1 m))
-      by_change false = begun_fits m.line 1 m
+      by_change : (b : Bool) → Fits m.station 0 1 (if b then with_memory_by (without_session e.eui) (with_book_entry e (empty_draft m)) else empty_draft m)
+      by_change true = remembered_fits m.station _ _ (entered_fits m.station e _ (begun_fits m.station 1 m))
+      by_change false = begun_fits m.station 1 m
 
   -- nothing is sent
   changed_units : (e : BookEntry) → (changed m e).units ≡ []
-  unfolding begun entered remembered
+  unfolding empty_draft with_book_entry with_memory_by
   changed_units e = by_change (changes m e)
     where
-      by_change : (b : Bool) → (if b then remembered (without_session e.eui) (entered e (begun m)) else begun m).units ≡ []
+      by_change : (b : Bool) → (if b then with_memory_by (without_session e.eui) (with_book_entry e (empty_draft m)) else empty_draft m).units ≡ []
       by_change true = refl
       by_change false = refl
 
-  no_units : (units : List doings.Outgoing) (n : ℕ) → units ≡ [] → length units ≤ n
+  no_units : (units : List drafts.Outgoing) (n : ℕ) → units ≡ [] → length units ≤ n
   no_units units n e = rw e (omega arith)
 
   abbrev entry_after : Eui → Key → BookEntry
@@ -309,31 +309,31 @@ module _ (W : RingWord → Type 0) (P : Eui → Key → Type 0) (E : Eui → Typ
 
   pub allow_is : (eui : Eui) (psk : Key) → E eui → P eui psk → IsOrder (allow m eui psk)
   allow_is eui psk is known = choose_planned
-      (λ room. sealing_planned (changed m (entry_after eui psk)) _ (changed_made eui psk is known room, quiet_done m.line (changed m (entry_after eui psk)) (changed_fits (entry_after eui psk)), tt)
+      (λ room. sealing_planned (changed m (entry_after eui psk)) _ (changed_made eui psk is known room, quiet_done m.station (changed m (entry_after eui psk)) (changed_fits (entry_after eui psk)), tt)
       (no_units (changed m (entry_after eui psk)).units _ (changed_units (entry_after eui psk))))
       (λ full. Refuses _)
 
-  rung_made : (r : ring.Ring) → RingChange W m.line.ring r → MadeHere (on_line (ringed r) (begun m))
-  unfolding begun
-  rung_made r change = OnLine (ringed r) (begun m) Begins (Rings r (line_part (begun m)) Starts change)
+  rung_made : (r : ring.Ring) → RingChange W m.station.ring r → MadeHere (on_station (with_ring r) (empty_draft m))
+  unfolding empty_draft
+  rung_made r change = OnStation (with_ring r) (empty_draft m) Begins (Rings r (station_part (empty_draft m)) Starts change)
 
-  rung_units : (r : ring.Ring) → (on_line (ringed r) (begun m)).units ≡ []
-  unfolding begun on_line ringed
+  rung_units : (r : ring.Ring) → (on_station (with_ring r) (empty_draft m)).units ≡ []
+  unfolding empty_draft on_station with_ring
   rung_units r = refl
 
-  rung_is : {A : Type 0} (r : ring.Ring) (answer : A) → RingChange W m.line.ring r → IsOrder (sealing in_memory orders (on_line (ringed r) (begun m)) answer)
-  rung_is r answer change = sealing_planned (on_line (ringed r) (begun m)) answer (rung_made r change, quiet_done m.line (on_line (ringed r) (begun m)) (on_ring m.line r (begun m) (begun_fits m.line 1 m)), tt) (no_units (on_line (ringed r) (begun m)).units _ (rung_units r))
+  rung_is : {A : Type 0} (r : ring.Ring) (answer : A) → RingChange W m.station.ring r → IsOrder (sealing in_memory orders (on_station (with_ring r) (empty_draft m)) answer)
+  rung_is r answer change = sealing_planned (on_station (with_ring r) (empty_draft m)) answer (rung_made r change, quiet_done m.station (on_station (with_ring r) (empty_draft m)) (on_ring m.station r (empty_draft m) (begun_fits m.station 1 m)), tt) (no_units (on_station (with_ring r) (empty_draft m)).units _ (rung_units r))
 
   pub rekey_is : (index : ℕ) (key : Key) → W (Draw index key) → IsOrder (rekey m index key)
-  rekey_is index key drawn = choose_planned (λ active. Refuses _) (λ other. rung_is (ring.with_key m.line.ring index key) tt (Draws index key drawn))
+  rekey_is index key drawn = choose_planned (λ active. Refuses _) (λ other. rung_is (ring.with_key m.station.ring index key) tt (Draws index key drawn))
 
   pub activate_self_is : (index : ℕ) → W (Activate index) → IsOrder (activate_self m index)
-  activate_self_is index told = choose_planned (λ held. rung_is (ring.with_active m.line.ring index) tt (Activates index told held)) (λ none. Refuses _)
+  activate_self_is index told = choose_planned (λ held. rung_is (ring.with_active m.station.ring index) tt (Activates index told held)) (λ none. Refuses _)
 
   challenge_at_is : (eui : Eui) (to : ℕ) → book.address_of m.book eui ≡ Some to → E eui → IsOrder (challenge_at own.eui m eui g.now to)
   challenge_at_is eui to booked known = checked_planned (λ full.
       option_planned (λ value. challenge_by own.eui m to g.now (server_for eui own.eui value)) (oldest m) (refused orders m refusal.NoRandom)
-      (λ value here. checked_planned (λ e. sealed_planned _ _ (commanded_made to (asking_for value) g.now _ (opens_made (asked_by value) value here (no_full_fault m eui full) known) (opens_lacks (asked_by value) to _ (orders_well m to (asking_for value) e)) (says_to to (AsBooked eui to booked) (asking_for value) (SaysChallenge eui value known here)), commanded_done m.line to (asking_for value) g.now _ (opens_fits (asked_by value)), tt))) (λ none. Refuses _))
+      (λ value here. checked_planned (λ e. sealed_planned _ _ (commanded_made to (asking_for value) g.now _ (opens_made (asked_by value) value here (no_full_fault m eui full) known) (opens_lacks (asked_by value) to _ (orders_well m to (asking_for value) e)) (says_to to (AsBooked eui to booked) (asking_for value) (SaysChallenge eui value known here)), commanded_done m.station to (asking_for value) g.now _ (opens_fits (asked_by value)), tt))) (λ none. Refuses _))
     where
       asked_by : Rand → CoordinatorSession
       asked_by value = asking (Mesh to) (server_for eui own.eui value)
@@ -354,7 +354,7 @@ module _ (W : RingWord → Type 0) (P : Eui → Key → Type 0) (E : Eui → Typ
 
   activate_by_is : (eui : Eui) (e : BookEntry) (index to : ℕ) → book.allowed_one m.book eui ≡ Some e → book.address_of m.book eui ≡ Some to → IsOrder (activate_by m e index g.now to)
   activate_by_is eui e index to allowed booked = choose_planned
-      (λ issued. checked_planned (λ lacks. sealed_planned _ _ (commanded_made to (message e.eui (body.Activate index)) g.now _ Begins (begun_lacks to _ (orders_well m to (message e.eui (body.Activate index)) lacks)) (says_to to (AsBooked eui to booked) (message e.eui (body.Activate index)) (SaysActivate e eui index allowed)), commanded_done m.line to (message e.eui (body.Activate index)) g.now _ (begun_fits m.line 1 m), tt))) (λ none. Refuses _)
+      (λ issued. checked_planned (λ lacks. sealed_planned _ _ (commanded_made to (message e.eui (body.Activate index)) g.now _ Begins (begun_lacks to _ (orders_well m to (message e.eui (body.Activate index)) lacks)) (says_to to (AsBooked eui to booked) (message e.eui (body.Activate index)) (SaysActivate e eui index allowed)), commanded_done m.station to (message e.eui (body.Activate index)) g.now _ (begun_fits m.station 1 m), tt))) (λ none. Refuses _)
 
   pub activate_is : (eui : Eui) (index : ℕ) → IsOrder (activate m eui index g.now)
   activate_is eui index = option_planned (λ e. option_map_or (activate_by m e index g.now) (book.address_of m.book eui) (refused orders m refusal.NotAllowed)) (allowed_entry m eui) (refused orders m refusal.NotAllowed)
@@ -362,57 +362,57 @@ module _ (W : RingWord → Type 0) (P : Eui → Key → Type 0) (E : Eui → Typ
 
   -- # Kicking, and the workshop
 
-  kicked_made : (e : BookEntry) (eui : Eui) → E eui → book.allowed_one m.book eui ≡ Some e → MadeHere (remembered (without_session e.eui) (entered (book.kicked_entry e.eui e) (begun m)))
-  unfolding begun
-  kicked_made e eui known allowed = Remembers (without_session e.eui) _ (Enters (book.kicked_entry e.eui e) (begun m) Begins (Kicks eui e known allowed)) (Closes e.eui)
+  kicked_made : (e : BookEntry) (eui : Eui) → E eui → book.allowed_one m.book eui ≡ Some e → MadeHere (with_memory_by (without_session e.eui) (with_book_entry (book.kicked_entry e.eui e) (empty_draft m)))
+  unfolding empty_draft
+  kicked_made e eui known allowed = Remembers (without_session e.eui) _ (Enters (book.kicked_entry e.eui e) (empty_draft m) Begins (Kicks eui e known allowed)) (Closes e.eui)
 
-  kicked_lacks : (e : BookEntry) (to : ℕ) → is_some (next_hop m.line to) ≡ true → (octets : ℕ) → LacksNothing (remembered (without_session e.eui) (entered (book.kicked_entry e.eui e) (begun m))).memory.line to octets
-  unfolding begun remembered entered
-  kicked_lacks e to there octets = record { room = λ none. absurd (no_route (next_hop m.line to) none there); number = λ none. absurd (no_route (next_hop m.line to) none there) }
+  kicked_lacks : (e : BookEntry) (to : ℕ) → is_some (next_hop m.station to) ≡ true → (octets : ℕ) → LacksNothing (with_memory_by (without_session e.eui) (with_book_entry (book.kicked_entry e.eui e) (empty_draft m))).memory.station to octets
+  unfolding empty_draft with_memory_by with_book_entry
+  kicked_lacks e to there octets = record { room = λ none. absurd (no_route (next_hop m.station to) none there); number = λ none. absurd (no_route (next_hop m.station to) none there) }
 
   -- one unit goes where there is a route
-  kick_goes_made : (eui : Eui) (e : BookEntry) (to : ℕ) (join : JoinMessage) → book.address_of m.book eui ≡ Some to → IsSaidDown E own m join → MadeHere (remembered (without_session e.eui) (entered (book.kicked_entry e.eui e) (begun m)))
-      → MadeHere (kick_goes m to join (remembered (without_session e.eui) (entered (book.kicked_entry e.eui e) (begun m))))
-  kick_goes_made eui e to join booked said made = by_route (is_some (next_hop m.line to) && nat_lt 0 (counters_left m.line)) refl
+  kick_goes_made : (eui : Eui) (e : BookEntry) (to : ℕ) (join : JoinMessage) → book.address_of m.book eui ≡ Some to → IsSaidDown E own m join → MadeHere (with_memory_by (without_session e.eui) (with_book_entry (book.kicked_entry e.eui e) (empty_draft m)))
+      → MadeHere (kick_goes m to join (with_memory_by (without_session e.eui) (with_book_entry (book.kicked_entry e.eui e) (empty_draft m))))
+  kick_goes_made eui e to join booked said made = by_route (is_some (next_hop m.station to) && nat_lt 0 (counters_left m.station)) refl
     where
-      by_route : (b : Bool) → (is_some (next_hop m.line to) && nat_lt 0 (counters_left m.line)) ≡ b
-          → MadeHere (if b then is_commanded to join 0 (remembered (without_session e.eui) (entered (book.kicked_entry e.eui e) (begun m))) else remembered (without_session e.eui) (entered (book.kicked_entry e.eui e) (begun m)))
+      by_route : (b : Bool) → (is_some (next_hop m.station to) && nat_lt 0 (counters_left m.station)) ≡ b
+          → MadeHere (if b then is_commanded to join 0 (with_memory_by (without_session e.eui) (with_book_entry (book.kicked_entry e.eui e) (empty_draft m))) else with_memory_by (without_session e.eui) (with_book_entry (book.kicked_entry e.eui e) (empty_draft m)))
       by_route false t = made
       by_route true t = commanded_made to join 0 _ made (kicked_lacks e to (and_parts _ _ t).0 (length (command_of join))) (says_to to (AsBooked eui to booked) join said)
 
-  abbrev kicked : BookEntry → Doing Memory
-  kicked e = remembered (without_session e.eui) (entered (book.kicked_entry e.eui e) (begun m))
+  abbrev kicked : BookEntry → Draft Memory
+  kicked e = with_memory_by (without_session e.eui) (with_book_entry (book.kicked_entry e.eui e) (empty_draft m))
 
-  kicked_fits : (e : BookEntry) → Fits m.line 0 1 (kicked e)
-  kicked_fits e = remembered_fits m.line _ _ (entered_fits m.line _ _ (begun_fits m.line 1 m))
+  kicked_fits : (e : BookEntry) → Fits m.station 0 1 (kicked e)
+  kicked_fits e = remembered_fits m.station _ _ (entered_fits m.station _ _ (begun_fits m.station 1 m))
 
   kicked_sends : (e : BookEntry) → (kicked e).units ≡ []
-  unfolding begun remembered entered
+  unfolding empty_draft with_memory_by with_book_entry
   kicked_sends e = refl
 
   -- a command is one unit at most
-  commanded_units : (to : ℕ) (join : JoinMessage) (now : ℕ) (d : Doing Memory) → Fits (record m.line { waiting = [] }) 0 2 d → length (is_commanded to join now d).units ≤ 1
-  unfolding is_commanded on_line
-  commanded_units to join now d f = by_address (address_of d.memory.line)
+  commanded_units : (to : ℕ) (join : JoinMessage) (now : ℕ) (d : Draft Memory) → Fits (record m.station { waiting = [] }) 0 2 d → length (is_commanded to join now d).units ≤ 1
+  unfolding is_commanded on_station
+  commanded_units to join now d f = by_address (address_of d.memory.station)
     where
-      by_address : (own : Option ℕ) → length (option_map_or (λ own. on_line (sets_out own to 0 (Command (command_of join)) now) d) own d).units ≤ 1
+      by_address : (own : Option ℕ) → length (option_map_or (λ own. on_station (sets_out own to 0 (Command (command_of join)) now) d) own d).units ≤ 1
       by_address None = let n = f.count in omega arith
       by_address (Some own) =
-          let x = sets_out_fits (record m.line { waiting = [] }) 1 own to 0 (Command (command_of join)) now (line_part d) (omega arith) (omega arith) (record { count = f.count; turns = f.turns }) in
+          let x = sets_out_fits (record m.station { waiting = [] }) 1 own to 0 (Command (command_of join)) now (station_part d) (omega arith) (omega arith) (record { count = f.count; turns = f.turns }) in
           let n = x.count in omega arith
 
-  kicked_alone : (e : BookEntry) → Fits (record m.line { waiting = [] }) 0 2 (kicked e)
-  kicked_alone e = looser (record m.line { waiting = [] }) 0 1 0 2 (kicked e) (omega arith) (omega arith) (remembered_fits (record m.line { waiting = [] }) _ _ (entered_fits (record m.line { waiting = [] }) _ _ (begun_fits (record m.line { waiting = [] }) 1 m)))
+  kicked_alone : (e : BookEntry) → Fits (record m.station { waiting = [] }) 0 2 (kicked e)
+  kicked_alone e = looser (record m.station { waiting = [] }) 0 1 0 2 (kicked e) (omega arith) (omega arith) (remembered_fits (record m.station { waiting = [] }) _ _ (entered_fits (record m.station { waiting = [] }) _ _ (begun_fits (record m.station { waiting = [] }) 1 m)))
 
-  kick_goes_is : (e : BookEntry) (to : ℕ) (join : JoinMessage) → Done (kick_goes m to join (kicked e)) × (length (kick_goes m to join (kicked e)).units ≤ counters_left m.line)
-  kick_goes_is e to join = by_route (is_some (next_hop m.line to) && nat_lt 0 (counters_left m.line)) refl
+  kick_goes_is : (e : BookEntry) (to : ℕ) (join : JoinMessage) → Done (kick_goes m to join (kicked e)) × (length (kick_goes m to join (kicked e)).units ≤ counters_left m.station)
+  kick_goes_is e to join = by_route (is_some (next_hop m.station to) && nat_lt 0 (counters_left m.station)) refl
     where
-      by_route : (b : Bool) → (is_some (next_hop m.line to) && nat_lt 0 (counters_left m.line)) ≡ b → let d : Doing Memory = (if b then is_commanded to join 0 (kicked e) else kicked e) in Done d × (length d.units ≤ counters_left m.line)
-      by_route false t = (quiet_done m.line (kicked e) (kicked_fits e), no_units (kicked e).units _ (kicked_sends e))
+      by_route : (b : Bool) → (is_some (next_hop m.station to) && nat_lt 0 (counters_left m.station)) ≡ b → let d : Draft Memory = (if b then is_commanded to join 0 (kicked e) else kicked e) in Done d × (length d.units ≤ counters_left m.station)
+      by_route false t = (quiet_done m.station (kicked e) (kicked_fits e), no_units (kicked e).units _ (kicked_sends e))
       by_route true t =
-          let left : 0 < counters_left m.line = ltb-true _ _ (and_parts _ _ t).1 in
+          let left : 0 < counters_left m.station = ltb-true _ _ (and_parts _ _ t).1 in
           let one = commanded_units to join 0 (kicked e) (kicked_alone e) in
-          (commanded_done m.line to join 0 (kicked e) (kicked_fits e), omega arith)
+          (commanded_done m.station to join 0 (kicked e) (kicked_fits e), omega arith)
 
   kick_by_is : (e : BookEntry) (eui : Eui) (to : ℕ) → book.address_of m.book eui ≡ Some to → E eui → book.allowed_one m.book eui ≡ Some e → IsOrder (kick_by m e to)
   kick_by_is e eui to booked known allowed =
@@ -425,23 +425,23 @@ module _ (W : RingWord → Type 0) (P : Eui → Key → Type 0) (E : Eui → Typ
       (λ e allowed. option_planned (kick_by m e) (book.address_of m.book eui) (refused orders m refusal.NotAllowed) (λ to here. kick_by_is e eui to here known allowed) (λ none. Refuses _)) (λ none. Refuses _)
 
   -- a meter is allowed, and then the keys of its grant are noted as issued
-  entered_sends : (e : BookEntry) (d : Doing Memory) → d.units ≡ [] → (entered e d).units ≡ []
-  unfolding entered
+  entered_sends : (e : BookEntry) (d : Draft Memory) → d.units ≡ [] → (with_book_entry e d).units ≡ []
+  unfolding with_book_entry
   entered_sends e d none = none
 
-  depot_by_is : (eui : Eui) (psk : Key) (d : Doing Memory) → E eui → MadeHere d → Fits m.line 0 1 d → d.units ≡ [] → ((granted : Granted) → grant_for d.memory eui ≡ Some granted → L granted) → IsOrder (depot_by m eui psk d)
+  depot_by_is : (eui : Eui) (psk : Key) (d : Draft Memory) → E eui → MadeHere d → Fits m.station 0 1 d → d.units ≡ [] → ((granted : Granted) → grant_for d.memory eui ≡ Some granted → L granted) → IsOrder (depot_by m eui psk d)
   depot_by_is eui psk d known made fits none granting = option_planned
-      (λ granted. option_map_or (λ e. sealing in_memory orders (entered (book.issued_entry eui granted e) d) granted) (book.allowed_one d.memory.book eui) (refused orders m refusal.MetersFull)) (grant_for d.memory eui) (refused orders m refusal.MetersFull)
-      (λ granted is. option_planned (λ e. sealing in_memory orders (entered (book.issued_entry eui granted e) d) granted) (book.allowed_one d.memory.book eui) (refused orders m refusal.MetersFull)
-      (λ e allowed. sealing_planned (entered (book.issued_entry eui granted e) d) granted
-      (Enters (book.issued_entry eui granted e) d made (Issues eui granted e (Known eui known) (granting granted is) allowed), quiet_done m.line _ (entered_fits m.line (book.issued_entry eui granted e) d fits), tt)
+      (λ granted. option_map_or (λ e. sealing in_memory orders (with_book_entry (book.issued_entry eui granted e) d) granted) (book.allowed_one d.memory.book eui) (refused orders m refusal.MetersFull)) (grant_for d.memory eui) (refused orders m refusal.MetersFull)
+      (λ granted is. option_planned (λ e. sealing in_memory orders (with_book_entry (book.issued_entry eui granted e) d) granted) (book.allowed_one d.memory.book eui) (refused orders m refusal.MetersFull)
+      (λ e allowed. sealing_planned (with_book_entry (book.issued_entry eui granted e) d) granted
+      (Enters (book.issued_entry eui granted e) d made (Issues eui granted e (Known eui known) (granting granted is) allowed), quiet_done m.station _ (entered_fits m.station (book.issued_entry eui granted e) d fits), tt)
       (no_units _ _ (entered_sends (book.issued_entry eui granted e) d none))) (λ other. Refuses _)) (λ other. Refuses _)
 
   changed_grants : (e : BookEntry) (eui : Eui) (granted : Granted) → grant_for (changed m e).memory eui ≡ Some granted → IsGranted m granted
-  unfolding begun entered remembered
+  unfolding empty_draft with_book_entry with_memory_by
   changed_grants e eui granted = by_change (changes m e)
     where
-      by_change : (b : Bool) → grant_for (if b then remembered (without_session e.eui) (entered e (begun m)) else begun m).memory eui ≡ Some granted → IsGranted m granted
+      by_change : (b : Bool) → grant_for (if b then with_memory_by (without_session e.eui) (with_book_entry e (empty_draft m)) else empty_draft m).memory eui ≡ Some granted → IsGranted m granted
       by_change true is = record { eui = eui; book = book.with_entry m.book e; is = is }
       by_change false is = record { eui = eui; book = m.book; is = is }
 

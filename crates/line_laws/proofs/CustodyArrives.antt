@@ -12,7 +12,7 @@ use Rattle.node_rules.specs.declared.heard.Heard.TheVariants as heard_as
 use Rattle.node_rules.specs.declared.heard.MeterHeard.{MeterHeard}
 use Rattle.node_rules.specs.declared.heard.MeterHeard.TheVariants as meter_heard
 use Rattle.node_rules.specs.declared.heard.CoordinatorHeard.{CoordinatorHeard}
-use Rattle.node_rules.specs.declared.heard.CoordinatorHeard.TheVariants as center_heard
+use Rattle.node_rules.specs.declared.heard.CoordinatorHeard.TheVariants as coordinator_heard
 use Rattle.node_rules.specs.declared.refusal.Dropped.{Dropped}
 use Rattle.node_rules.specs.declared.refusal.Dropped.TheVariants as drops
 use Rattle.node_rules.specs.declared.refusal.FrameRefusal.{FrameRefusal}
@@ -22,12 +22,12 @@ use Rattle.node_rules.specs.Frames.{Sent, Sealed, Up as UpFrame, Down, spelled, 
 use Rattle.node_rules.specs.Memory.{Memory, Node, Role, Coordinator, Meter}
 use Rattle.node_rules.specs.Plans.{resting}
 use Rattle.node_rules.specs.Accepting.{Accepting, accept, marking}
-use Rattle.line_rules.specs.Answers.{Reception, Up, line_reception, meter_reception, coordinator_reception, frame_word}
+use Rattle.line_rules.specs.Answers.{Reception, Up, station_reception, meter_reception, coordinator_reception, frame_word}
 use Rattle.node_rules.specs.Meters as meters
 use Rattle.node_rules.specs.Coordinators as coordinators
-use Rattle.node_rules.specs.NodeSteps.{Did, acts, of_line, answering}
-use Rattle.line_rules.specs.Steps.{identity, hears, note_by, told, ran, deeds, happened, flights_of, flight_by, handed_by, heard, arrives}
-use Rattle.line_rules.specs.Worlds.{Flight, Deeds, World}
+use Rattle.node_rules.specs.NodeSteps.{NodeStep, acts, of_station, answering}
+use Rattle.line_rules.specs.Steps.{identity, hears, note_by, told, ran, trace_of, happened, flights_of, flight_by, handed_by, heard, arrives}
+use Rattle.line_rules.specs.Worlds.{Flight, Trace, World}
 use Rattle.line_rules.specs.declared.happenings.Handed.{Handed}
 use Rattle.line_laws.specs.Letters.{OpensWhatItSeals, AreFlights}
 use Rattle.line_laws.specs.Places.{unit_of}
@@ -39,7 +39,7 @@ use Rattle.line_laws.proofs.CustodyPlans.{Agrees}
 use Rattle.line_laws.proofs.CustodyWhole.{OneSend}
 use Rattle.line_laws.proofs.CustodyWorld.{unit_back}
 use Rattle.line_laws.proofs.CustodyDeliver.{WhatCame, PlainCame, LetterCame, opening}
-use Rattle.line_laws.proofs.CustodyTrue.{SentIsOf, LineIsTrue, PlanIsTrue, AnswerIsOf, MeterUpIsOf, CenterUpIsOf, KeepsAddress, HearsTrue, letter_true, plain_true, meter_hears_true, center_hears_true, DidTrue, acts_true}
+use Rattle.line_laws.proofs.CustodyTrue.{SentIsOf, StationIsTrue, PlanIsTrue, AnswerIsOf, MeterUpIsOf, CoordinatorUpIsOf, KeepsAddress, HearsTrue, letter_true, plain_true, meter_hears_true, coordinator_hears_true, DidTrue, acts_true}
 
 -- A flight with a note is of the send of that note.
 pub record FlightIsOf (ciphers : Ciphers) (S : ℕ → SentAs → Type 0) (f : Flight) : Type 0 where
@@ -47,7 +47,7 @@ pub record FlightIsOf (ciphers : Ciphers) (S : ℕ → SentAs → Type 0) (f : F
 
 -- what a node of this address holds is of the sends
 abbrev pub NodeTrue : (ℕ → SentAs → Type 0) → ℕ → Node → Type 0
-NodeTrue S own x = IfSome x.memory (λ (m : Memory). LineIsTrue S own m.line)
+NodeTrue S own x = IfSome x.memory (λ (m : Memory). StationIsTrue S own m.station)
 
 -- A datagram that was handed up under a note is that of a send to this address.
 pub record HandedIsOf (S : ℕ → SentAs → Type 0) (own note : ℕ) (octets : List ℕ) : Type 0 where
@@ -61,52 +61,52 @@ pub record HandedIsOf (S : ℕ → SentAs → Type 0) (own note : ℕ) (octets :
 abbrev ReceptionIsOf : (ℕ → SentAs → Type 0) → ℕ → Reception → Type 0
 ReceptionIsOf S own r = (u : Up) → r.up ≡ Some u → HandedIsOf S own u.note u.octets
 
-line_told : (S : ℕ → SentAs → Type 0) (own : ℕ) (h : Heard) → UpIsOf S own h → ReceptionIsOf S own (line_reception h)
-line_told S own (heard_as.Up from note octets) h u e =
+station_told : (S : ℕ → SentAs → Type 0) (own : ℕ) (h : Heard) → UpIsOf S own h → ReceptionIsOf S own (station_reception h)
+station_told S own (heard_as.Up from note octets) h u e =
     let r : Up = record { note = note; octets = octets } in
     let same : r ≡ u = same_Some r u e in
     let x = h in
     subst (λ (v : Up). HandedIsOf S own v.note v.octets) same (record { sent = x.sent; is = x.is; target = x.target; same = x.content })
-line_told S own _ h u e = absurd (none-some u e)
+station_told S own _ h u e = absurd (none-some u e)
 
 meter_told : (S : ℕ → SentAs → Type 0) (own : ℕ) (a : Result MeterHeard Dropped) → AnswerIsOf S own (MeterUpIsOf S own) a → ReceptionIsOf S own (meter_reception a)
-meter_told S own (Ok (meter_heard.Line h)) x = line_told S own h x
+meter_told S own (Ok (meter_heard.Station h)) x = station_told S own h x
 meter_told S own (Ok _) x = λ u e. absurd (none-some u e)
 meter_told S own (Err reason) x = λ u e. absurd (none-some u e)
 
-center_told : (S : ℕ → SentAs → Type 0) (own : ℕ) (a : Result CoordinatorHeard Dropped) → AnswerIsOf S own (CenterUpIsOf S own) a → ReceptionIsOf S own (coordinator_reception a)
-center_told S own (Ok (center_heard.Line h)) x = line_told S own h x
-center_told S own (Ok _) x = λ u e. absurd (none-some u e)
-center_told S own (Err reason) x = λ u e. absurd (none-some u e)
+coordinator_told : (S : ℕ → SentAs → Type 0) (own : ℕ) (a : Result CoordinatorHeard Dropped) → AnswerIsOf S own (CoordinatorUpIsOf S own) a → ReceptionIsOf S own (coordinator_reception a)
+coordinator_told S own (Ok (coordinator_heard.Station h)) x = station_told S own h x
+coordinator_told S own (Ok _) x = λ u e. absurd (none-some u e)
+coordinator_told S own (Err reason) x = λ u e. absurd (none-some u e)
 
 -- # What is heard
 
 -- What a node made of a frame is of the sends.
-record HeardTrue (S : ℕ → SentAs → Type 0) (own : ℕ) (d : Did Reception) : Type 0 where
+record HeardTrue (S : ℕ → SentAs → Type 0) (own : ℕ) (d : NodeStep Reception) : Type 0 where
   node : NodeTrue S own d.node
   frames : All (SentIsOf S) d.frames
   up : ReceptionIsOf S own d.answer
 
 module _ (ciphers : Ciphers) (S : ℕ → SentAs → Type 0) (one : OneSend S) (own : ℕ) (got : Accepted) (cost note now : ℕ) (comes : HearsTrue S (heard_given got cost note now)) where
-  hears_true : (x : Node) → NodeTrue S own x → ((psk : Key) (m : Memory) → x.memory ≡ Some m → KeepsAddress own (heard_given got cost note now) (identity ciphers x psk) m) → ((m : Memory) → x.memory ≡ Some m → Agrees (heard_given got cost note now) m.line) → HeardTrue S own (hears ciphers x got cost note now)
+  hears_true : (x : Node) → NodeTrue S own x → ((psk : Key) (m : Memory) → x.memory ≡ Some m → KeepsAddress own (heard_given got cost note now) (identity ciphers x psk) m) → ((m : Memory) → x.memory ≡ Some m → Agrees (heard_given got cost note now) m.station) → HeardTrue S own (hears ciphers x got cost note now)
   hears_true x ok stays_at agrees = by_role x.role refl
     where
       By : Role → Type 0
       By role = HeardTrue S own (hears_as role)
         where
-          hears_as : Role → Did Reception
+          hears_as : Role → NodeStep Reception
           hears_as Coordinator = answering coordinator_reception (acts x (Err drops.Store) (λ m. coordinators.hear_coordinator (record { eui = x.eui; ciphers = ciphers }) m got cost note now))
           hears_as (Meter psk) = answering meter_reception (acts x (Err drops.Store) (λ m. meters.hear_meter (identity ciphers x psk) m got cost note now))
 
       by_role : (role : Role) → x.role ≡ role → HeardTrue S own (hears ciphers x got cost note now)
       by_role Coordinator e =
-          let d = acts_true S own (CenterUpIsOf S own) x drops.Store (λ m. coordinators.hear_coordinator (record { eui = x.eui; ciphers = ciphers }) m got cost note now) ok
-          (λ m there h. center_hears_true S one own got cost note now comes (record { eui = x.eui; ciphers = ciphers }) m h (agrees m there)) in
-          subst By (sym e) (record { node = d.line; frames = d.frames; up = center_told S own _ d.up })
+          let d = acts_true S own (CoordinatorUpIsOf S own) x drops.Store (λ m. coordinators.hear_coordinator (record { eui = x.eui; ciphers = ciphers }) m got cost note now) ok
+          (λ m there h. coordinator_hears_true S one own got cost note now comes (record { eui = x.eui; ciphers = ciphers }) m h (agrees m there)) in
+          subst By (sym e) (record { node = d.station; frames = d.frames; up = coordinator_told S own _ d.up })
       by_role (Meter psk) e =
           let d = acts_true S own (MeterUpIsOf S own) x drops.Store (λ m. meters.hear_meter (identity ciphers x psk) m got cost note now) ok
           (λ m there h. meter_hears_true S one own got cost note now comes (identity ciphers x psk) m (stays_at psk m there) h (agrees m there)) in
-          subst By (sym e) (record { node = d.line; frames = d.frames; up = meter_told S own _ d.up })
+          subst By (sym e) (record { node = d.station; frames = d.frames; up = meter_told S own _ d.up })
 
 -- # Flights
 
@@ -128,18 +128,18 @@ module _ (ciphers : Ciphers) (opens : OpensWhatItSeals ciphers) (S : ℕ → Sen
 -- # An arrival
 
 module _ (ciphers : Ciphers) (opens : OpensWhatItSeals ciphers) (S : ℕ → SentAs → Type 0) (one : OneSend S) (w : World) (are : AreFlights ciphers w.flights) (of : All (FlightIsOf ciphers S) w.flights) (number own : ℕ) (x : Node) (octets : List ℕ) (cost : ℕ) where
-  abbrev accepting : Did (Result Accepted FrameRefusal)
-  accepting = acts x (Err frames.Halted) (λ m. of_line m (accept m.line x.eui (arrived ciphers octets)))
+  abbrev accepting : NodeStep (Result Accepted FrameRefusal)
+  accepting = acts x (Err frames.Halted) (λ m. of_station m (accept m.station x.eui (arrived ciphers octets)))
 
   -- accepting moves nothing
-  pub accepts_true : (m : Memory) → LineIsTrue S own m.line → PlanIsTrue S own (λ (a : Accepted). ⊤) (of_line m (accept m.line x.eui (arrived ciphers octets)))
+  pub accepts_true : (m : Memory) → StationIsTrue S own m.station → PlanIsTrue S own (λ (a : Accepted). ⊤) (of_station m (accept m.station x.eui (arrived ciphers octets)))
   unfolding resting marking
-  accepts_true m h = by_form _ (accept_is m.line x.eui (arrived ciphers octets))
+  accepts_true m h = by_form _ (accept_is m.station x.eui (arrived ciphers octets))
     where
-      by_form : (p : Accepting) → Accepts m.line (arrived ciphers octets) p → PlanIsTrue S own (λ (a : Accepted). ⊤) (of_line m p)
-      by_form p (Turned reason) = record { line = h; frames = All-nil (SentIsOf S); up = tt; fails = tt }
-      by_form p (Plain got plain) = record { line = h; frames = All-nil (SentIsOf S); up = tt; fails = tt }
-      by_form p (Marked from counter got a) = record { line = record { address = h.address; bodies = h.bodies; held = h.held }; frames = All-nil (SentIsOf S); up = tt; fails = tt }
+      by_form : (p : Accepting) → Accepts m.station (arrived ciphers octets) p → PlanIsTrue S own (λ (a : Accepted). ⊤) (of_station m p)
+      by_form p (Turned reason) = record { station = h; frames = All-nil (SentIsOf S); up = tt; fails = tt }
+      by_form p (Plain got plain) = record { station = h; frames = All-nil (SentIsOf S); up = tt; fails = tt }
+      by_form p (Marked from counter got a) = record { station = record { address = h.address; bodies = h.bodies; held = h.held }; frames = All-nil (SentIsOf S); up = tt; fails = tt }
 
   pub came_true : (got : Accepted) → WhatCame ciphers opens w are number x octets cost 1 0 (omega arith) got → HearsTrue S (heard_given got cost (note_by w octets got.path) w.clock)
   came_true got (PlainCame plain) = plain_true S got cost (note_by w octets got.path) w.clock plain
@@ -149,7 +149,7 @@ module _ (ciphers : Ciphers) (opens : OpensWhatItSeals ciphers) (S : ℕ → Sen
       (letter_true S l fits (subst (λ (k : ℕ). UnitIsOf S k l.unit) origin.note (f.unit l.unit origin.unit)) from counter got is cost w.clock)
 
   -- What an arrival leaves is of the sends, and so is what it hands up.
-  pub record LeavesTrue (v : World) (d : Deeds) : Type 0 where
+  pub record LeavesTrue (v : World) (d : Trace) : Type 0 where
     pub node : Node
     pub nodes : v.nodes ≡ slice_set w.nodes number node
     pub is : NodeTrue S own node
@@ -164,32 +164,32 @@ module _ (ciphers : Ciphers) (opens : OpensWhatItSeals ciphers) (S : ℕ → Sen
       subst (λ (k : Handed). HandedIsOf S own k.note k.octets) same (t u refl)
 
   pub arrives_true : NodeTrue S own x → All IsSent accepting.frames
-      → ((got : Accepted) → accepting.answer ≡ Ok got → ((psk : Key) (m : Memory) → accepting.node.memory ≡ Some m → KeepsAddress own (heard_given got cost (note_by w octets got.path) w.clock) (identity ciphers accepting.node psk) m) × ((m : Memory) → accepting.node.memory ≡ Some m → Agrees (heard_given got cost (note_by w octets got.path) w.clock) m.line)
+      → ((got : Accepted) → accepting.answer ≡ Ok got → ((psk : Key) (m : Memory) → accepting.node.memory ≡ Some m → KeepsAddress own (heard_given got cost (note_by w octets got.path) w.clock) (identity ciphers accepting.node psk) m) × ((m : Memory) → accepting.node.memory ≡ Some m → Agrees (heard_given got cost (note_by w octets got.path) w.clock) m.station)
       × All IsSent (hears ciphers accepting.node got cost (note_by w octets got.path) w.clock).frames)
       → (arrives ciphers w number x octets cost).1.happened.forged ≡ false → LeavesTrue (arrives ciphers w number x octets cost).0 (arrives ciphers w number x octets cost).1
   unfolding arrives told
   arrives_true ok sent well unforged = by_answer accepting.answer refl unforged
     where
       first : DidTrue S own (λ (a : Accepted). ⊤) accepting
-      first = acts_true S own (λ (a : Accepted). ⊤) x frames.Halted (λ m. of_line m (accept m.line x.eui (arrived ciphers octets))) ok (λ m e h. accepts_true m h)
+      first = acts_true S own (λ (a : Accepted). ⊤) x frames.Halted (λ m. of_station m (accept m.station x.eui (arrived ciphers octets))) ok (λ m e h. accepts_true m h)
 
-      after : Result Accepted FrameRefusal → World × Deeds
+      after : Result Accepted FrameRefusal → World × Trace
       after (Ok got) = heard ciphers w number accepting.node octets got cost
-      after (Err reason) = (told ciphers (ran w) number accepting, deeds (happened w (frame_word reason)))
+      after (Err reason) = (told ciphers (ran w) number accepting, trace_of (happened w (frame_word reason)))
 
       by_answer : (a : Result Accepted FrameRefusal) → accepting.answer ≡ a → (after a).1.happened.forged ≡ false → LeavesTrue (after a).0 (after a).1
       by_answer (Err reason) e unforged = record {
         node = accepting.node;
         nodes = refl;
-        is = first.line;
+        is = first.station;
         flights = All-append (FlightIsOf ciphers S) w.flights (flights_of ciphers number accepting) of (fly_true ciphers opens S number accepting.frames sent first.frames);
         up = λ u e. absurd (none-some u e);
       }
       by_answer (Ok got) e unforged =
           let o = opening ciphers opens w are number x octets cost 1 0 (omega arith) got e (or_parts _ _ unforged).0 in
           let p = well got e in
-          let d2 : Did Reception = hears ciphers accepting.node got cost (note_by w octets got.path) w.clock in
-          let t = hears_true ciphers S one own got cost (note_by w octets got.path) w.clock (came_true got o.what) accepting.node first.line p.0 p.1 in
+          let d2 : NodeStep Reception = hears ciphers accepting.node got cost (note_by w octets got.path) w.clock in
+          let t = hears_true ciphers S one own got cost (note_by w octets got.path) w.clock (came_true got o.what) accepting.node first.station p.0 p.1 in
           record {
             node = d2.node;
             nodes = refl;

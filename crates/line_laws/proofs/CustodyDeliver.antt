@@ -17,7 +17,7 @@ use Rattle.node_rules.specs.declared.heard.Heard.TheVariants as heard_as
 use Rattle.node_rules.specs.declared.heard.MeterHeard.{MeterHeard}
 use Rattle.node_rules.specs.declared.heard.MeterHeard.TheVariants as meter_heard
 use Rattle.node_rules.specs.declared.heard.CoordinatorHeard.{CoordinatorHeard}
-use Rattle.node_rules.specs.declared.heard.CoordinatorHeard.TheVariants as center_heard
+use Rattle.node_rules.specs.declared.heard.CoordinatorHeard.TheVariants as coordinator_heard
 use Rattle.node_rules.specs.declared.refusal.Dropped.{Dropped}
 use Rattle.node_rules.specs.declared.refusal.Dropped.TheVariants as drops
 use Rattle.node_rules.specs.declared.refusal.FrameRefusal.{FrameRefusal}
@@ -27,13 +27,13 @@ use Rattle.node_rules.specs.Frames.{Letter, arrived, to_all}
 use Rattle.node_rules.specs.Memory.{Memory, Node, Role, Coordinator, Meter}
 use Rattle.node_rules.specs.Plans.{Plan, carry_out, resting}
 use Rattle.node_rules.specs.Accepting.{Accepting, accept, marking}
-use Rattle.line_rules.specs.Answers.{Reception, Up, frame_word, line_reception, meter_reception, coordinator_reception}
+use Rattle.line_rules.specs.Answers.{Reception, Up, frame_word, station_reception, meter_reception, coordinator_reception}
 use Rattle.node_rules.specs.Laws.{IsWhole, IsCutOff}
 use Rattle.node_rules.specs.Meters as meters
 use Rattle.node_rules.specs.Coordinators as coordinators
-use Rattle.node_rules.specs.NodeSteps.{Did, acts, stays, left_by, of_line, answering}
-use Rattle.line_rules.specs.Steps.{identity, hears, note_by, forged_by, told, ran, deeds, happened, flights_of, handed_by, heard, arrives}
-use Rattle.line_rules.specs.Worlds.{Flight, Deeds, World, has_octets, note_of, is_forged_frame}
+use Rattle.node_rules.specs.NodeSteps.{NodeStep, acts, stays, left_by, of_station, answering}
+use Rattle.line_rules.specs.Steps.{identity, hears, note_by, forged_by, told, ran, trace_of, happened, flights_of, handed_by, heard, arrives}
+use Rattle.line_rules.specs.Worlds.{Flight, Trace, World, has_octets, note_of, is_forged_frame}
 use Rattle.line_rules.specs.declared.happenings.Handed.{Handed}
 use Rattle.node_rules.proofs.Writing.{clean}
 use Rattle.line_laws.specs.Letters.{OpensWhatItSeals, IsLetter, IsSpelled, IsFlight, AreFlights}
@@ -43,7 +43,7 @@ use Rattle.line_laws.proofs.LetterAccepts.{IsOfLetter, accepts_letter}
 use Rattle.line_laws.proofs.StoreMarks.{IsAdmitted, IsPlain, Accepts, Turned, Plain, Marked, accept_is}
 use Rattle.line_laws.proofs.NodeCalls.{heard_given}
 use Rattle.line_laws.proofs.CustodyPlans.{Agrees, up_by, DidKeep, acts_kept}
-use Rattle.line_laws.proofs.CustodyCalls.{meter_up, center_up, Comes, letter_comes, plain_comes, meter_hears_kept, center_hears_kept, accept_kept}
+use Rattle.line_laws.proofs.CustodyCalls.{meter_up, coordinator_up, Comes, letter_comes, plain_comes, meter_hears_kept, coordinator_hears_kept, accept_kept}
 use Rattle.line_laws.proofs.CustodyWorld.{unit_back, flight_weighs, opened_is, sent_flies, custody_after}
 use Rattle.line_laws.proofs.RangeFrames.{IsSent}
 
@@ -83,40 +83,40 @@ flown (f ∷ flights) octets key h = by_first (has_octets octets key f) refl h (
 abbrev pub reception_up : ℕ → ℕ → Reception → ℕ
 reception_up n i r = option_map_or (λ (u : Up). weigh n u.note (below i (length u.octets))) r.up 0
 
-line_up : (n i : ℕ) (h : Heard) → reception_up n i (line_reception h) ≤ up_is n i h
-line_up n i (heard_as.Up from note octets) = omega arith
-line_up n i _ = zero-le
+station_up : (n i : ℕ) (h : Heard) → reception_up n i (station_reception h) ≤ up_is n i h
+station_up n i (heard_as.Up from note octets) = omega arith
+station_up n i _ = zero-le
 
 meter_reported : (n i : ℕ) (a : Result MeterHeard Dropped) → reception_up n i (meter_reception a) ≤ up_by (meter_up n i) a
-meter_reported n i (Ok (meter_heard.Line h)) = line_up n i h
+meter_reported n i (Ok (meter_heard.Station h)) = station_up n i h
 meter_reported n i (Ok _) = zero-le
 meter_reported n i (Err reason) = zero-le
 
-center_reported : (n i : ℕ) (a : Result CoordinatorHeard Dropped) → reception_up n i (coordinator_reception a) ≤ up_by (center_up n i) a
-center_reported n i (Ok (center_heard.Line h)) = line_up n i h
-center_reported n i (Ok _) = zero-le
-center_reported n i (Err reason) = zero-le
+coordinator_reported : (n i : ℕ) (a : Result CoordinatorHeard Dropped) → reception_up n i (coordinator_reception a) ≤ up_by (coordinator_up n i) a
+coordinator_reported n i (Ok (coordinator_heard.Station h)) = station_up n i h
+coordinator_reported n i (Ok _) = zero-le
+coordinator_reported n i (Err reason) = zero-le
 
 -- # What is heard
 
 module _ (ciphers : Ciphers) (got : Accepted) (cost note now n i brought : ℕ) (some : 0 < n) (comes : Comes (heard_given got cost note now) n i brought) where
-  pub hears_kept : (x : Node) → ((m : Memory) → x.memory ≡ Some m → Agrees (heard_given got cost note now) m.line) → DidKeep n i brought (reception_up n i) x (hears ciphers x got cost note now)
+  pub hears_kept : (x : Node) → ((m : Memory) → x.memory ≡ Some m → Agrees (heard_given got cost note now) m.station) → DidKeep n i brought (reception_up n i) x (hears ciphers x got cost note now)
   hears_kept x agrees = by_role x.role refl
     where
-      reported : {A : Type 0} (reads : A → Reception) (ups : A → ℕ) → ((a : A) → reception_up n i (reads a) ≤ ups a) → (d : Did A) → DidKeep n i brought ups x d → DidKeep n i brought (reception_up n i) x (answering reads d)
+      reported : {A : Type 0} (reads : A → Reception) (ups : A → ℕ) → ((a : A) → reception_up n i (reads a) ≤ ups a) → (d : NodeStep A) → DidKeep n i brought ups x d → DidKeep n i brought (reception_up n i) x (answering reads d)
       reported reads ups less d k = record { kept = let h = k.kept in let z = less d.answer in omega arith }
 
       By : Role → Type 0
       By role = DidKeep n i brought (reception_up n i) x (hears_as role)
         where
-          hears_as : Role → Did Reception
+          hears_as : Role → NodeStep Reception
           hears_as Coordinator = answering coordinator_reception (acts x (Err drops.Store) (λ m. coordinators.hear_coordinator (record { eui = x.eui; ciphers = ciphers }) m got cost note now))
           hears_as (Meter psk) = answering meter_reception (acts x (Err drops.Store) (λ m. meters.hear_meter (identity ciphers x psk) m got cost note now))
 
       by_role : (role : Role) → x.role ≡ role → DidKeep n i brought (reception_up n i) x (hears ciphers x got cost note now)
-      by_role Coordinator e = subst By (sym e) (reported coordinator_reception (up_by (center_up n i)) (center_reported n i) _
-          (acts_kept n i brought (up_by (center_up n i)) x (Err drops.Store) (λ m. coordinators.hear_coordinator (record { eui = x.eui; ciphers = ciphers }) m got cost note now) refl
-          (λ m e. center_hears_kept got cost note now n i brought some comes (record { eui = x.eui; ciphers = ciphers }) m (agrees m e))))
+      by_role Coordinator e = subst By (sym e) (reported coordinator_reception (up_by (coordinator_up n i)) (coordinator_reported n i) _
+          (acts_kept n i brought (up_by (coordinator_up n i)) x (Err drops.Store) (λ m. coordinators.hear_coordinator (record { eui = x.eui; ciphers = ciphers }) m got cost note now) refl
+          (λ m e. coordinator_hears_kept got cost note now n i brought some comes (record { eui = x.eui; ciphers = ciphers }) m (agrees m e))))
       by_role (Meter psk) e = subst By (sym e) (reported meter_reception (up_by (meter_up n i)) (meter_reported n i) _
           (acts_kept n i brought (up_by (meter_up n i)) x (Err drops.Store) (λ m. meters.hear_meter (identity ciphers x psk) m got cost note now) refl
           (λ m e. meter_hears_kept got cost note now n i brought some comes (identity ciphers x psk) m (agrees m e))))
@@ -128,8 +128,8 @@ err_ok x a e = cc
 
 module _ (ciphers : Ciphers) (opens : OpensWhatItSeals ciphers) (w : World) (are : AreFlights ciphers w.flights) (number : ℕ) (x : Node) (octets : List ℕ) (cost n i : ℕ) (some : 0 < n) where
   -- what the node does first: it accepts the frame, or not
-  abbrev pub accepting : Did (Result Accepted FrameRefusal)
-  accepting = acts x (Err frames.Halted) (λ m. of_line m (accept m.line x.eui (arrived ciphers octets)))
+  abbrev pub accepting : NodeStep (Result Accepted FrameRefusal)
+  accepting = acts x (Err frames.Halted) (λ m. of_station m (accept m.station x.eui (arrived ciphers octets)))
 
   -- The flight of a letter: its unit and its note are the letter's, and the note is the one that the frame is heard under.
   pub record FromFlight (got : Accepted) (l : Letter) : Type 0 where
@@ -155,7 +155,7 @@ module _ (ciphers : Ciphers) (opens : OpensWhatItSeals ciphers) (w : World) (are
   of_plain : (got : Accepted) → IsPlain got.path → Opening got
   of_plain got plain = record { what = PlainCame plain; brought = 0; weight = zero-le; comes = plain_comes got cost (note_by w octets got.path) w.clock n i plain }
 
-  of_letter : (m : Memory) (from counter : ℕ) (got : Accepted) → IsAdmitted m.line (arrived ciphers octets) from counter got → forged_by w octets got.path ≡ false → Opening got
+  of_letter : (m : Memory) (from counter : ℕ) (got : Accepted) → IsAdmitted m.station (arrived ciphers octets) from counter got → forged_by w octets got.path ≡ false → Opening got
   of_letter m from counter got a unforged = by_all (a.to == to_all) (ap (λ (g : Accepted). g.path) a.got_is)
     where
       all_of : Path → Bool
@@ -177,7 +177,7 @@ module _ (ciphers : Ciphers) (opens : OpensWhatItSeals ciphers) (w : World) (are
           let f = flown w.flights octets a.key (ap (forged_by w octets) (sym path) ∙ unforged) in
           let is : IsFlight ciphers f.flight = subst (IsFlight ciphers) (get_or_from_slice_get w.flights f.place f.flight f.flight f.there) (are f.place f.flight (slice_get_within w.flights f.place f.flight f.there)) in
           let s : IsSpelled ciphers f.flight a.key = is.sealed a.key f.key_is in
-          let of = accepts_letter ciphers opens s.letter s.fits m.line octets (sym f.octets_are ∙ s.octets) from counter got a (sym s.key_is) in
+          let of = accepts_letter ciphers opens s.letter s.fits m.station octets (sym f.octets_are ∙ s.octets) from counter got a (sym s.key_is) in
           let note : s.letter.note ≡ note_by w octets got.path = sym s.note ∙ sym f.note ∙ ap (note_by w octets) (sym path) in
           let same : flight_is ciphers n i f.flight ≡ letter_is n i s.letter = flight_weighs ciphers opens n i f.flight a.key f.key_is s in
           let there : opened_is ciphers n i w.flights (Some f.place) ≡ flight_is ciphers n i f.flight = ap (λ (o : Option Flight). option_map_or (flight_is ciphers n i) o 0) f.there in
@@ -191,17 +191,17 @@ module _ (ciphers : Ciphers) (opens : OpensWhatItSeals ciphers) (w : World) (are
           opens_to false path what brought one comes =
               record { what = what; brought = brought; weight = subst (λ (o : Option ℕ). brought ≤ opened_is ciphers n i w.flights o) (ap (opened_by w octets) (sym path)) one; comes = comes }
 
-  opening_of : (m : Memory) (got : Accepted) (p : Accepting) → Accepts m.line (arrived ciphers octets) p → p.answer ≡ Ok got → forged_by w octets got.path ≡ false → Opening got
+  opening_of : (m : Memory) (got : Accepted) (p : Accepting) → Accepts m.station (arrived ciphers octets) p → p.answer ≡ Ok got → forged_by w octets got.path ≡ false → Opening got
   unfolding resting marking
   opening_of m got p (Turned reason) e unforged = absurd (err_ok reason got e)
   opening_of m got p (Plain g plain) e unforged = let same : g ≡ got = cc in subst Opening same (of_plain g plain)
-  opening_of m got p (Marked from counter g a) e unforged = let same : g ≡ got = cc in of_letter m from counter got (subst (IsAdmitted m.line (arrived ciphers octets) from counter) same a) unforged
+  opening_of m got p (Marked from counter g a) e unforged = let same : g ≡ got = cc in of_letter m from counter got (subst (IsAdmitted m.station (arrived ciphers octets) from counter) same a) unforged
 
-  failed_store : (m : Memory) → (of_line m (accept m.line x.eui (arrived ciphers octets))).failed ≡ Err frames.Store
+  failed_store : (m : Memory) → (of_station m (accept m.station x.eui (arrived ciphers octets))).failed ≡ Err frames.Store
   unfolding resting marking
-  failed_store m = by_form _ (accept_is m.line x.eui (arrived ciphers octets))
+  failed_store m = by_form _ (accept_is m.station x.eui (arrived ciphers octets))
     where
-      by_form : (p : Accepting) → Accepts m.line (arrived ciphers octets) p → p.failed ≡ Err frames.Store
+      by_form : (p : Accepting) → Accepts m.station (arrived ciphers octets) p → p.failed ≡ Err frames.Store
       by_form p (Turned reason) = refl
       by_form p (Plain got plain) = refl
       by_form p (Marked from counter got a) = refl
@@ -211,31 +211,31 @@ module _ (ciphers : Ciphers) (opens : OpensWhatItSeals ciphers) (w : World) (are
   opening got e unforged = by_memory x.memory refl e
     where
       plan : Memory → Plan Memory (Result Accepted FrameRefusal)
-      plan m = of_line m (accept m.line x.eui (arrived ciphers octets))
+      plan m = of_station m (accept m.station x.eui (arrived ciphers octets))
 
-      by_outcome : (m : Memory) → (carry_out x.store.records x.store.cut (of_line m (accept m.line x.eui (arrived ciphers octets)))).answer ≡ Ok got → Opening got
+      by_outcome : (m : Memory) → (carry_out x.store.records x.store.cut (of_station m (accept m.station x.eui (arrived ciphers octets)))).answer ≡ Ok got → Opening got
       by_outcome m e = ⊎_elim
-          (λ (k : IsWhole x.store.records x.store.cut (of_line m (accept m.line x.eui (arrived ciphers octets))) (carry_out x.store.records x.store.cut (of_line m (accept m.line x.eui (arrived ciphers octets))))).
-          opening_of m got _ (accept_is m.line x.eui (arrived ciphers octets)) (sym k.answer ∙ e) unforged)
-          (λ (c : IsCutOff x.store.records x.store.cut (of_line m (accept m.line x.eui (arrived ciphers octets))) (carry_out x.store.records x.store.cut (of_line m (accept m.line x.eui (arrived ciphers octets))))).
+          (λ (k : IsWhole x.store.records x.store.cut (of_station m (accept m.station x.eui (arrived ciphers octets))) (carry_out x.store.records x.store.cut (of_station m (accept m.station x.eui (arrived ciphers octets))))).
+          opening_of m got _ (accept_is m.station x.eui (arrived ciphers octets)) (sym k.answer ∙ e) unforged)
+          (λ (c : IsCutOff x.store.records x.store.cut (of_station m (accept m.station x.eui (arrived ciphers octets))) (carry_out x.store.records x.store.cut (of_station m (accept m.station x.eui (arrived ciphers octets))))).
           absurd (err_ok frames.Store got (sym (failed_store m) ∙ sym c.answer ∙ e)))
-          (clean x.store.records x.store.cut (of_line m (accept m.line x.eui (arrived ciphers octets))))
+          (clean x.store.records x.store.cut (of_station m (accept m.station x.eui (arrived ciphers octets))))
 
-      by_memory : (o : Option Memory) → x.memory ≡ o → (option_map_or (λ m. left_by x (carry_out x.store.records x.store.cut (of_line m (accept m.line x.eui (arrived ciphers octets))))) o (stays x (Err frames.Halted))).answer ≡ Ok got → Opening got
+      by_memory : (o : Option Memory) → x.memory ≡ o → (option_map_or (λ m. left_by x (carry_out x.store.records x.store.cut (of_station m (accept m.station x.eui (arrived ciphers octets))))) o (stays x (Err frames.Halted))).answer ≡ Ok got → Opening got
       by_memory None there e = absurd (err_ok frames.Halted got e)
       by_memory (Some m) there e = by_outcome m e
 
   -- accepting moves no datagram
   accepted_kept : DidKeep n i 0 (λ (r : Result Accepted FrameRefusal). 0) x accepting
-  accepted_kept = acts_kept n i 0 (λ r. 0) x (Err frames.Halted) (λ m. of_line m (accept m.line x.eui (arrived ciphers octets))) refl (λ m e. accept_kept n i some m x.eui (arrived ciphers octets))
+  accepted_kept = acts_kept n i 0 (λ r. 0) x (Err frames.Halted) (λ m. of_station m (accept m.station x.eui (arrived ciphers octets))) refl (λ m e. accept_kept n i some m x.eui (arrived ciphers octets))
 
   -- What is owed of the second plan: a piece has the note of what is gathered under its name, and the frames are letters in range.
   pub record HeardWell (got : Accepted) : Type 0 where
-    pub agrees : (m : Memory) → accepting.node.memory ≡ Some m → Agrees (heard_given got cost (note_by w octets got.path) w.clock) m.line
+    pub agrees : (m : Memory) → accepting.node.memory ≡ Some m → Agrees (heard_given got cost (note_by w octets got.path) w.clock) m.station
     pub frames : All IsSent (hears ciphers accepting.node got cost (note_by w octets got.path) w.clock).frames
 
   -- What an arrival led to: one node is another one, some flights are new, and all that it keeps, sends and hands up was there or came.
-  pub record Delivered (v : World) (d : Deeds) : Type 0 where
+  pub record Delivered (v : World) (d : Trace) : Type 0 where
     pub node : Node
     pub new : List Flight
     pub nodes : v.nodes ≡ slice_set w.nodes number node
@@ -252,9 +252,9 @@ module _ (ciphers : Ciphers) (opens : OpensWhatItSeals ciphers) (w : World) (are
   unfolding arrives told
   arrives_kept sent well unforged = by_answer accepting.answer refl unforged
     where
-      after : Result Accepted FrameRefusal → World × Deeds
+      after : Result Accepted FrameRefusal → World × Trace
       after (Ok got) = heard ciphers w number accepting.node octets got cost
-      after (Err reason) = (told ciphers (ran w) number accepting, deeds (happened w (frame_word reason)))
+      after (Err reason) = (told ciphers (ran w) number accepting, trace_of (happened w (frame_word reason)))
 
       by_answer : (a : Result Accepted FrameRefusal) → accepting.answer ≡ a → (after a).1.happened.forged ≡ false → Delivered (after a).0 (after a).1
       by_answer (Err reason) e unforged =
@@ -264,7 +264,7 @@ module _ (ciphers : Ciphers) (opens : OpensWhatItSeals ciphers) (w : World) (are
       by_answer (Ok got) e unforged =
           let o = opening got e (or_parts _ _ unforged).0 in
           let h = well got e in
-          let d2 : Did Reception = hears ciphers accepting.node got cost (note_by w octets got.path) w.clock in
+          let d2 : NodeStep Reception = hears ciphers accepting.node got cost (note_by w octets got.path) w.clock in
           let k1 = accepted_kept.kept in
           let k2 = (hears_kept ciphers got cost (note_by w octets got.path) w.clock n i o.brought some o.comes accepting.node h.agrees).kept in
           let f = sent_flies ciphers opens n i number d2.frames h.frames in
@@ -278,8 +278,8 @@ module _ (ciphers : Ciphers) (opens : OpensWhatItSeals ciphers) (w : World) (are
 -- Octets that come, and are not forged, keep each octet of each datagram at one place at most.
 pub arrival_in_custody : (ciphers : Ciphers) (live : World → Flight → Bool) → OpensWhatItSeals ciphers → (w : World) → AreFlights ciphers w.flights → (number : ℕ) (x : Node) → slice_get w.nodes number ≡ Some x → (octets : List ℕ) (cost : ℕ) (before : List Handed)
     → IsInCustody ciphers live w before
-    → (let first = acts x (Err frames.Halted) (λ m. of_line m (accept m.line x.eui (arrived ciphers octets))) in
-    All IsSent first.frames → ((got : Accepted) → first.answer ≡ Ok got → ((m : Memory) → first.node.memory ≡ Some m → Agrees (heard_given got cost (note_by w octets got.path) w.clock) m.line) × All IsSent (hears ciphers first.node got cost (note_by w octets got.path) w.clock).frames)
+    → (let first = acts x (Err frames.Halted) (λ m. of_station m (accept m.station x.eui (arrived ciphers octets))) in
+    All IsSent first.frames → ((got : Accepted) → first.answer ≡ Ok got → ((m : Memory) → first.node.memory ≡ Some m → Agrees (heard_given got cost (note_by w octets got.path) w.clock) m.station) × All IsSent (hears ciphers first.node got cost (note_by w octets got.path) w.clock).frames)
     → (arrives ciphers w number x octets cost).1.happened.forged ≡ false → LiveFalls live w (arrives ciphers w number x octets cost).0 (opened_at w octets first.answer)
     → IsInCustody ciphers live (arrives ciphers w number x octets cost).0 (before ++ option_to_list (arrives ciphers w number x octets cost).1.happened.up))
 arrival_in_custody ciphers live opens w are number x here octets cost before held sent well unforged falls = record {

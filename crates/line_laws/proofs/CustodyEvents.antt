@@ -11,13 +11,13 @@ use Rattle.node_rules.specs.declared.heard.SentHow.TheVariants as how
 use Rattle.node_rules.specs.declared.refusal.SendRefusal.{SendRefusal}
 use Rattle.node_rules.specs.declared.refusal.SendRefusal.TheVariants as sends
 use Rattle.node_rules.specs.Ciphers.{Ciphers}
-use Rattle.node_rules.specs.Memory.{Line, Memory, Node, Role, Coordinator, Meter}
+use Rattle.node_rules.specs.Memory.{StationMemory, Memory, Node, Role, Coordinator, Meter}
 use Rattle.node_rules.specs.Plans.{Plan, carry_out, resting}
 use Rattle.node_rules.specs.Calls as calls
-use Rattle.node_rules.specs.Doings.{alone, begun}
+use Rattle.node_rules.specs.Drafts.{alone, empty_draft}
 use Rattle.line_rules.specs.Answers.{sent_word, send_word}
 use Rattle.node_rules.specs.Laws.{IsWhole, IsCutOff}
-use Rattle.node_rules.specs.NodeSteps.{Did, acts, stays, left_by, of_line, answering}
+use Rattle.node_rules.specs.NodeSteps.{NodeStep, acts, stays, left_by, of_station, answering}
 use Rattle.line_rules.specs.Steps.{is_taken, tag_of, sending, sent_if, acted, told, ran, flights_of, ticked}
 use Rattle.line_rules.specs.Worlds.{Flight, World}
 use Rattle.line_rules.specs.declared.happenings.Handed.{Handed}
@@ -38,8 +38,8 @@ use Rattle.line_laws.proofs.CustodyWorld.{custody_after, sent_flies}
 
 -- a send that is refused moves nothing
 record SendKept (n i : ℕ) (m : Memory) (weight : ℕ) (p : Plan Memory (Result SentHow SendRefusal)) : Type 0 where
-  taken : (h : SentHow) → p.answer ≡ Ok h → keeps n i p.memory.line + sum_by (sent_is n i) p.frames ≤ keeps n i m.line + weight
-  refused : (e : SendRefusal) → p.answer ≡ Err e → keeps n i p.memory.line + sum_by (sent_is n i) p.frames ≤ keeps n i m.line
+  taken : (h : SentHow) → p.answer ≡ Ok h → keeps n i p.memory.station + sum_by (sent_is n i) p.frames ≤ keeps n i m.station + weight
+  refused : (e : SendRefusal) → p.answer ≡ Err e → keeps n i p.memory.station + sum_by (sent_is n i) p.frames ≤ keeps n i m.station
   store : (e : SentHow) → p.failed ≡ Ok e → ⊥
 
 ok_err : {A E : Type 0} (a : A) (x : E) → Ok a ≡ Err x → ⊥
@@ -51,13 +51,13 @@ err_ok x a e = cc
 abbrev AnyWord : RingWord → Type 0
 AnyWord w = Unit {0}
 
-send_is_kept : (n i : ℕ) (some : 0 < n) (m : Memory) (to : ℕ) (datagram : List ℕ) (note now : ℕ) → SendKept n i m (weigh n note (below i (length datagram))) (of_line m (calls.send m.line to datagram note now))
+send_is_kept : (n i : ℕ) (some : 0 < n) (m : Memory) (to : ℕ) (datagram : List ℕ) (note now : ℕ) → SendKept n i m (weigh n note (below i (length datagram))) (of_station m (calls.send m.station to datagram note now))
 unfolding resting
 send_is_kept n i some m to datagram note now =
-    by_form _ (send_is AnyWord (call_given 0 note now) m.line to datagram (λ low high. tt)) (send_kept n i some m to datagram note now)
+    by_form _ (send_is AnyWord (call_given 0 note now) m.station to datagram (λ low high. tt)) (send_kept n i some m to datagram note now)
   where
-    by_form : (p : Plan Line (Result SentHow SendRefusal)) → Planned alone calls.sending_ends m.line Nothing (λ d (a : SentHow). Made AnyWord (call_given 0 note now) (begun m.line) d × Few m.line d) p → BodiesKept n i (weigh n note (below i (length datagram))) (up_by (λ (h : SentHow). 0)) m (of_line m p)
-        → SendKept n i m (weigh n note (below i (length datagram))) (of_line m p)
+    by_form : (p : Plan StationMemory (Result SentHow SendRefusal)) → Planned alone calls.sending_ends m.station Nothing (λ d (a : SentHow). Made AnyWord (call_given 0 note now) (empty_draft m.station) d × Few m.station d) p → BodiesKept n i (weigh n note (below i (length datagram))) (up_by (λ (h : SentHow). 0)) m (of_station m p)
+        → SendKept n i m (weigh n note (below i (length datagram))) (of_station m p)
     by_form p (Refuses reason) k = record { taken = λ h e. absurd (err_ok reason h e); refused = λ x e. omega arith; store = λ h e. absurd (err_ok calls.sending_ends.store h e) }
     by_form p (Keeps l answer none) k = absurd none
     by_form p (Ended d answer done left) k = record { taken = λ h e. let x = k.kept in omega arith; refused = λ x e. absurd (ok_err answer x e); store = λ h e. absurd (err_ok calls.sending_ends.store h e) }
@@ -67,13 +67,13 @@ abbrev taken_is : ℕ → Result SentHow SendRefusal → ℕ
 taken_is weight (Ok h) = weight
 taken_is weight (Err e) = 0
 
-record DidSend (n i weight : ℕ) (x : Node) (d : Did (Result SentHow SendRefusal)) : Type 0 where
+record DidSend (n i weight : ℕ) (x : Node) (d : NodeStep (Result SentHow SendRefusal)) : Type 0 where
   kept : node_keeps n i d.node.memory + sum_by (sent_is n i) d.frames ≤ node_keeps n i x.memory + taken_is weight d.answer
 
-by_taken : (n i weight : ℕ) (m : Memory) (p : Plan Memory (Result SentHow SendRefusal)) → SendKept n i m weight p → keeps n i p.memory.line + sum_by (sent_is n i) p.frames ≤ keeps n i m.line + taken_is weight p.answer
+by_taken : (n i weight : ℕ) (m : Memory) (p : Plan Memory (Result SentHow SendRefusal)) → SendKept n i m weight p → keeps n i p.memory.station + sum_by (sent_is n i) p.frames ≤ keeps n i m.station + taken_is weight p.answer
 by_taken n i weight m p k = by_answer p.answer refl
   where
-    by_answer : (a : Result SentHow SendRefusal) → p.answer ≡ a → keeps n i p.memory.line + sum_by (sent_is n i) p.frames ≤ keeps n i m.line + taken_is weight a
+    by_answer : (a : Result SentHow SendRefusal) → p.answer ≡ a → keeps n i p.memory.station + sum_by (sent_is n i) p.frames ≤ keeps n i m.station + taken_is weight a
     by_answer (Ok h) e = k.taken h e
     by_answer (Err x) e = let y = k.refused x e in omega arith
 
@@ -84,7 +84,7 @@ send_did n i weight x plan f = by_memory x.memory refl
     carried : (m : Memory) → x.memory ≡ Some m → DidSend n i weight x (left_by x (carry_out x.store.records x.store.cut (plan m)))
     carried m e = ⊎_elim finished cut_off (clean x.store.records x.store.cut (plan m))
       where
-        before : node_keeps n i x.memory ≡ keeps n i m.line
+        before : node_keeps n i x.memory ≡ keeps n i m.station
         before = ap (node_keeps n i) e
 
         finished : IsWhole x.store.records x.store.cut (plan m) (carry_out x.store.records x.store.cut (plan m)) → DidSend n i weight x (left_by x (carry_out x.store.records x.store.cut (plan m)))
@@ -117,8 +117,8 @@ issues : (n i sends size : ℕ) → 0 < n → issued n sends + weigh n (sends + 
 issues n i sends size some = grind (arith, nat_tests)
 
 module _ (ciphers : Ciphers) (live : World → Flight → Bool) (opens : OpensWhatItSeals ciphers) (w : World) (from to : ℕ) (datagram : List ℕ) (x : Node) (here : slice_get w.nodes from ≡ Some x) (address : ℕ) (before : List Handed) where
-  abbrev sends_it : Did (Result SentHow SendRefusal)
-  sends_it = acts x (Err sends.Halted) (λ m. of_line m (calls.send m.line address datagram (w.sends + 1) w.clock))
+  abbrev sends_it : NodeStep (Result SentHow SendRefusal)
+  sends_it = acts x (Err sends.Halted) (λ m. of_station m (calls.send m.station address datagram (w.sends + 1) w.clock))
 
   abbrev after : World
   after = (sending ciphers w from to datagram (tag_of x) (answering sent_word sends_it)).0
@@ -128,7 +128,7 @@ module _ (ciphers : Ciphers) (live : World → Flight → Bool) (opens : OpensWh
   send_in_custody held sent falls = record {
     at_most = λ n i some.
         let weight : ℕ = weigh n (w.sends + 1) (below i (length datagram)) in
-        let d = send_did n i weight x (λ m. of_line m (calls.send m.line address datagram (w.sends + 1) w.clock)) (λ m. send_is_kept n i some m address datagram (w.sends + 1) w.clock) in
+        let d = send_did n i weight x (λ m. of_station m (calls.send m.station address datagram (w.sends + 1) w.clock)) (λ m. send_is_kept n i some m address datagram (w.sends + 1) w.clock) in
         let fly = sent_flies ciphers opens n i from sends_it.frames sent in
         let k = d.kept in
         let more = issues_by n i some sends_it.answer in

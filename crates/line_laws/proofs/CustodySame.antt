@@ -14,8 +14,8 @@ use Rattle.mesh_header.specs.declared.unit.Unit.{Unit as MeshUnit}
 use Rattle.mesh_header.specs.declared.unit.Unit.TheVariants as units
 use Rattle.mesh_header.specs.Pieces.{Placed}
 use Rattle.fragment_buffers.specs.Cutting.{piece_of, cut}
-use Rattle.node_rules.specs.Memory.{Line, Body, Load, Datagram, Command, address_of}
-use Rattle.node_rules.specs.Doings.{Doing, own_mesh, units_of, all_go, waits_for, ranked, numbered, tagged, ringed, rerouted, goes, body_goes, waits, leave}
+use Rattle.node_rules.specs.Memory.{StationMemory, Body, Load, Datagram, Command, address_of}
+use Rattle.node_rules.specs.Drafts.{Draft, own_mesh, units_of, all_go, waits_for, with_rank, with_own_number, with_next_tag, with_ring, with_routing_by, goes, body_goes, waits, leave}
 use Rattle.line_laws.specs.Sends.{SentAs, FitsAt, UnitIsOf, LoadIsOf, OutIsOf, BodyIsOf}
 use Rattle.line_laws.proofs.Made.{Given, IsCome, IsLess, Whole, Part, Carried, RingWord, Carry, Install, RingChange, Drops, Installs, Draws, Activates, IsSaid, Seeks, Answers, Relays, Passes, Tells, Forwards, Made, Starts, Ranks, Numbers, Tags, Rings, Idles, Loses, Goes, Sends, Waits, Leaves}
 
@@ -83,7 +83,7 @@ module _ (S : ℕ → SentAs → Type 0) where
     pub installs : (granted : Granted) → W (Install granted) → granted.address ≡ own
 
   -- What is being done at a node of this address is of the sends.
-  pub record IsTrue (own : ℕ) (d : Doing Line) : Type 0 where
+  pub record IsTrue (own : ℕ) (d : Draft StationMemory) : Type 0 where
     pub address : (a : ℕ) → address_of d.memory ≡ Some a → a ≡ own
     pub bodies : All (BodyIsOf S own) d.memory.waiting
     pub units : All (OutIsOf S) d.units
@@ -108,8 +108,8 @@ module _ (S : ℕ → SentAs → Type 0) where
   ring_address W g own known None s (Activates index w held) h a e = absurd (none-some a e)
   ring_address W g own known (Some gr) s (Activates index w held) h a e = h a e
 
-  module _ (W : RingWord → Type 0) (g : Given) (own : ℕ) (known : Known W g own) (s : Doing Line) (first : IsTrue own s) where
-    said_of : (d : Doing Line) (to : ℕ) (unit : MeshUnit) (note : ℕ) → IsSaid W g s d to unit note → UnitIsOf S note unit
+  module _ (W : RingWord → Type 0) (g : Given) (own : ℕ) (known : Known W g own) (s : Draft StationMemory) (first : IsTrue own s) where
+    said_of : (d : Draft StationMemory) (to : ℕ) (unit : MeshUnit) (note : ℕ) → IsSaid W g s d to unit note → UnitIsOf S note unit
     said_of d to unit note (Seeks a dest number k load here last low carried) = tt
     said_of d to unit note (Answers a by origin number k c dest here last low told) = tt
     said_of d to unit note (Relays by origin dest k c rank o just told) = tt
@@ -117,8 +117,8 @@ module _ (S : ℕ → SentAs → Type 0) where
     said_of d to unit note (Tells hop lost t dest why there) = tt
     said_of d to unit note (Forwards by hop dest u less came is there) = less_of g.note u less is (known.comes by u came)
 
-    pub made_true : (d : Doing Line) → Made W g s d → IsTrue own d
-    unfolding ranked numbered tagged ringed rerouted goes body_goes waits leave
+    pub made_true : (d : Draft StationMemory) → Made W g s d → IsTrue own d
+    unfolding with_rank with_own_number with_next_tag with_ring with_routing_by goes body_goes waits leave
     made_true d Starts = first
     made_true d (Ranks by origin rank e made o fits) = let h = made_true e made in record { address = h.address; bodies = h.bodies; units = h.units }
     made_true d (Numbers e made left) = let h = made_true e made in record { address = h.address; bodies = h.bodies; units = h.units }

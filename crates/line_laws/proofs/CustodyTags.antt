@@ -18,11 +18,11 @@ use Rattle.node_rules.specs.declared.refusal.FrameRefusal.{FrameRefusal}
 use Rattle.node_rules.specs.declared.refusal.FrameRefusal.TheVariants as frames
 use Rattle.node_rules.specs.Ciphers.{Ciphers}
 use Rattle.node_rules.specs.Frames.{arrived}
-use Rattle.node_rules.specs.Memory.{Line, Memory, Node}
+use Rattle.node_rules.specs.Memory.{StationMemory, Memory, Node}
 use Rattle.node_rules.specs.Accepting.{accept}
-use Rattle.node_rules.specs.NodeSteps.{Did, acts, of_line}
-use Rattle.line_rules.specs.Steps.{identity, hears, note_by, forged_by, arrives, heard, told, ran, deeds, happened}
-use Rattle.line_rules.specs.Worlds.{Flight, Deeds, World}
+use Rattle.node_rules.specs.NodeSteps.{NodeStep, acts, of_station}
+use Rattle.line_rules.specs.Steps.{identity, hears, note_by, forged_by, arrives, heard, told, ran, trace_of, happened}
+use Rattle.line_rules.specs.Worlds.{Flight, Trace, World}
 use Rattle.line_rules.specs.declared.happenings.Handed.{Handed}
 use Rattle.line_laws.specs.Letters.{OpensWhatItSeals, AreFlights}
 use Rattle.line_laws.specs.Places.{IsInCustody, LiveFalls, opened_at}
@@ -34,7 +34,7 @@ use Rattle.line_laws.proofs.RangeArrives.{NodeRanged, JoinsWell, accepts_ranged,
 use Rattle.line_laws.proofs.CustodyPieces.{NameHasNote}
 use Rattle.line_laws.proofs.CustodyPlans.{Agrees}
 use Rattle.line_laws.proofs.CustodyWhole.{OneSend}
-use Rattle.line_laws.proofs.CustodyTrue.{LineIsTrue, KeepsAddress, HearsTrue, DidTrue, acts_true}
+use Rattle.line_laws.proofs.CustodyTrue.{StationIsTrue, KeepsAddress, HearsTrue, DidTrue, acts_true}
 use Rattle.line_laws.proofs.CustodyDeliver.{opening, arrival_in_custody}
 use Rattle.line_laws.proofs.CustodyArrives.{FlightIsOf, NodeTrue, HandedIsOf, accepts_true, came_true, arrives_true}
 
@@ -42,7 +42,7 @@ use Rattle.line_laws.proofs.CustodyArrives.{FlightIsOf, NodeTrue, HandedIsOf, ac
 abbrev pub TagsDiffer : (ℕ → SentAs → Type 0) → Type 0
 TagsDiffer S = (a b : ℕ) (s t : SentAs) → S a s → S b t → 375 < length s.octets → 375 < length t.octets → s.origin ≡ t.origin → s.tag ≡ t.tag → a ≡ b
 
-pub agrees_true : (S : ℕ → SentAs → Type 0) → TagsDiffer S → (own : ℕ) (g : Given) (l : Line) → HearsTrue S g → All (HeldIsOf S own) l.reassemblies → Agrees g l
+pub agrees_true : (S : ℕ → SentAs → Type 0) → TagsDiffer S → (own : ℕ) (g : Given) (l : StationMemory) → HearsTrue S g → All (HeldIsOf S own) l.reassemblies → Agrees g l
 agrees_true S differ own g l comes all = record { name = λ by mesh piece c. each by mesh piece c l.reassemblies all }
   where
     each : (by : ℕ) (mesh : Mesh) (piece : Placed) → IsCome g by false (units.Part mesh piece) → (held : List Reassembly) → All (HeldIsOf S own) held → NameHasNote (begun mesh.origin piece g.note g.now) held
@@ -68,28 +68,28 @@ pub record Custody (ciphers : Ciphers) (live : World → Flight → Bool) (S : �
 
 module _ (ciphers : Ciphers) (opens : OpensWhatItSeals ciphers) (live : World → Flight → Bool) (S : ℕ → SentAs → Type 0) (one : OneSend S) (differ : TagsDiffer S) (home : ℕ → ℕ) (w : World) (before : List Handed) (c : Custody ciphers live S home w before)
     (number : ℕ) (x : Node) (here : slice_get w.nodes number ≡ Some x) (octets : List ℕ) (cost : ℕ) where
-  abbrev accepting : Did (Result Accepted FrameRefusal)
-  accepting = acts x (Err frames.Halted) (λ m. of_line m (accept m.line x.eui (arrived ciphers octets)))
+  abbrev accepting : NodeStep (Result Accepted FrameRefusal)
+  accepting = acts x (Err frames.Halted) (λ m. of_station m (accept m.station x.eui (arrived ciphers octets)))
 
   -- what was accepted leaves what is gathered
   first_true : DidTrue S (home number) (λ (a : Accepted). ⊤) accepting
-  first_true = acts_true S (home number) (λ (a : Accepted). ⊤) x frames.Halted (λ m. of_line m (accept m.line x.eui (arrived ciphers octets))) (c.nodes number x here)
+  first_true = acts_true S (home number) (λ (a : Accepted). ⊤) x frames.Halted (λ m. of_station m (accept m.station x.eui (arrived ciphers octets))) (c.nodes number x here)
       (λ m e h. accepts_true ciphers opens S one w c.flights c.sent number (home number) x octets cost m h)
 
-  pub arrival_agrees : (got : Accepted) → accepting.answer ≡ Ok got → forged_by w octets got.path ≡ false → (m : Memory) → accepting.node.memory ≡ Some m → Agrees (heard_given got cost (note_by w octets got.path) w.clock) m.line
+  pub arrival_agrees : (got : Accepted) → accepting.answer ≡ Ok got → forged_by w octets got.path ≡ false → (m : Memory) → accepting.node.memory ≡ Some m → Agrees (heard_given got cost (note_by w octets got.path) w.clock) m.station
   arrival_agrees got e unforged m there =
       let o = opening ciphers opens w c.flights number x octets cost 1 0 (omega arith) got e unforged in
-      let line : LineIsTrue S (home number) m.line = subst (λ (n : Option Memory). IfSome n (λ (k : Memory). LineIsTrue S (home number) k.line)) there first_true.line in
-      agrees_true S differ (home number) (heard_given got cost (note_by w octets got.path) w.clock) m.line (came_true ciphers opens S one w c.flights c.sent number (home number) x octets cost got o.what) line.held
+      let station : StationIsTrue S (home number) m.station = subst (λ (n : Option Memory). IfSome n (λ (k : Memory). StationIsTrue S (home number) k.station)) there first_true.station in
+      agrees_true S differ (home number) (heard_given got cost (note_by w octets got.path) w.clock) m.station (came_true ciphers opens S one w c.flights c.sent number (home number) x octets cost got o.what) station.held
 
   -- the second plan's frame is not forged
   unforged_by : (arrives ciphers w number x octets cost).1.happened.forged ≡ false → (got : Accepted) → accepting.answer ≡ Ok got → forged_by w octets got.path ≡ false
   unfolding arrives
   unforged_by unforged got e = by_answer accepting.answer e unforged
     where
-      after : Result Accepted FrameRefusal → World × Deeds
+      after : Result Accepted FrameRefusal → World × Trace
       after (Ok a) = heard ciphers w number accepting.node octets a cost
-      after (Err reason) = (told ciphers (ran w) number accepting, deeds (happened w (frame_word reason)))
+      after (Err reason) = (told ciphers (ran w) number accepting, trace_of (happened w (frame_word reason)))
 
       by_answer : (a : Result Accepted FrameRefusal) → a ≡ Ok got → (after a).1.happened.forged ≡ false → forged_by w octets got.path ≡ false
       by_answer (Ok g) is h = let same : g ≡ got = cc in subst (λ (k : Accepted). forged_by w octets k.path ≡ false) same (or_parts _ _ h).0
@@ -104,7 +104,7 @@ module _ (ciphers : Ciphers) (opens : OpensWhatItSeals ciphers) (live : World �
       let ok : NodeRanged x = at_place NodeRanged w.nodes number x here c.ranged in
       let sent : All IsSent accepting.frames = (accepts_ranged ciphers opens w c.flights number x octets cost ok).frames in
       let well : (got : Accepted) → accepting.answer ≡ Ok got → ((psk : Key) (m : Memory) → accepting.node.memory ≡ Some m → KeepsAddress (home number) (heard_given got cost (note_by w octets got.path) w.clock) (identity ciphers accepting.node psk) m)
-      × ((m : Memory) → accepting.node.memory ≡ Some m → Agrees (heard_given got cost (note_by w octets got.path) w.clock) m.line) × All IsSent (hears ciphers accepting.node got cost (note_by w octets got.path) w.clock).frames
+      × ((m : Memory) → accepting.node.memory ≡ Some m → Agrees (heard_given got cost (note_by w octets got.path) w.clock) m.station) × All IsSent (hears ciphers accepting.node got cost (note_by w octets got.path) w.clock).frames
       = λ got e. (
         (owed got e).0,
         arrival_agrees got e (unforged_by unforged got e),

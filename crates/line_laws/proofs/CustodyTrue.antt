@@ -13,35 +13,35 @@ use Rattle.node_rules.specs.declared.heard.Heard.TheVariants as heard
 use Rattle.node_rules.specs.declared.heard.MeterHeard.{MeterHeard}
 use Rattle.node_rules.specs.declared.heard.MeterHeard.TheVariants as meter_heard
 use Rattle.node_rules.specs.declared.heard.CoordinatorHeard.{CoordinatorHeard}
-use Rattle.node_rules.specs.declared.heard.CoordinatorHeard.TheVariants as center_heard
+use Rattle.node_rules.specs.declared.heard.CoordinatorHeard.TheVariants as coordinator_heard
 use Rattle.node_rules.specs.Coordinators as coordinators
 use Rattle.std.proofs.lemmas.Option.{same_Some}
 use Rattle.line_laws.proofs.StoreMarks.{IsPlain}
-use Rattle.line_laws.proofs.CoordinatorForms as center
-use Rattle.line_laws.proofs.CustodyCalls.{CenterWord, Says, AnyEui, AnyPair, any_heard}
+use Rattle.line_laws.proofs.CoordinatorForms as coordinator
+use Rattle.line_laws.proofs.CustodyCalls.{CoordinatorWord, Says, AnyEui, AnyPair, any_heard}
 use Rattle.node_rules.specs.declared.heard.Accepted.{Accepted}
 use Rattle.node_rules.specs.Frames.{Letter, Sent, Sealed, Up, Down}
-use Rattle.node_rules.specs.Memory.{Line, Memory, Node, Load, address_of}
+use Rattle.node_rules.specs.Memory.{StationMemory, Memory, Node, Load, address_of}
 use Rattle.node_rules.specs.Plans.{Plan, carry_out, resting}
-use Rattle.node_rules.specs.Doings.{Doing, Ends, Outgoing, begun, letters, sealed_by, sealing_key, ranked, numbered, tagged, ringed, rerouted, goes, body_goes, waits, leave}
-use Rattle.node_rules.specs.Holding.{in_memory, on_line, line_part, remembered, tagged_with, goes_up, goes_down}
-use Rattle.node_rules.specs.Coordinators.{entered}
+use Rattle.node_rules.specs.Drafts.{Draft, Ends, Outgoing, empty_draft, letters, sealed_by, sealing_key, with_rank, with_own_number, with_next_tag, with_ring, with_routing_by, goes, body_goes, waits, leave}
+use Rattle.node_rules.specs.MemoryDrafts.{in_memory, on_station, station_part, with_memory_by, with_pair_tags, goes_up, goes_down}
+use Rattle.node_rules.specs.Coordinators.{with_book_entry}
 use Rattle.node_rules.specs.Hearing.{dropped}
 use Rattle.node_rules.specs.Meters as meters
 use Rattle.node_rules.specs.Laws.{IsWhole, IsCutOff}
-use Rattle.node_rules.specs.NodeSteps.{Did, acts, stays, left_by}
+use Rattle.node_rules.specs.NodeSteps.{NodeStep, acts, stays, left_by}
 use Rattle.node_rules.proofs.Writing.{clean}
 use Rattle.line_laws.specs.Letters.{IsLetter}
 use Rattle.line_laws.specs.Sends.{SentAs, UnitIsOf, LoadIsOf, OutIsOf, BodyIsOf, HeldIsOf, UpIsOf}
 use Rattle.line_laws.proofs.Planned.{Planned, Refuses, Keeps, Ended}
 use Rattle.line_laws.proofs.LetterAccepts.{IsOfLetter}
 use Rattle.line_laws.proofs.Made.{Given, IsCome, RingWord, Carry, Install, Made, Starts, Ranks, Numbers, Tags as TagsOn, Rings, Idles, Loses, Goes, Sends, Waits, Leaves}
-use Rattle.line_laws.proofs.MadeIn.{unheard, MadeIn, Begins, Station, OnLine, Remembers, Tags, Enters, Up as UpIn, Down as DownIn}
+use Rattle.line_laws.proofs.MadeIn.{unheard, MadeIn, Begins, Station, OnStation, Remembers, Tags, Enters, Up as UpIn, Down as DownIn}
 use Rattle.line_laws.proofs.HearingForms.{IsNoUp, Handed, HandsUp, HandsOn, Gathers, Completes}
-use Rattle.line_laws.proofs.HoldingForms.{HandedIn, ByLine}
-use Rattle.line_laws.proofs.MeterForms.{RingCause, ToCenter, HandsNothingUp, meter_is}
+use Rattle.line_laws.proofs.MemoryDraftForms.{HandedIn, ByStation}
+use Rattle.line_laws.proofs.MeterForms.{RingCause, ToCoordinator, HandsNothingUp, meter_is}
 use Rattle.line_laws.proofs.NodeCalls.{NoGrant, NoPair, NoEui, heard_given, no_some}
-use Rattle.line_laws.proofs.StorePlans.{beside_line_of}
+use Rattle.line_laws.proofs.StorePlans.{beside_station_of}
 use Rattle.line_laws.proofs.RangeFrames.{IsPlainFrame, made_plain}
 use Rattle.line_laws.proofs.RangeHeard.{comes_of}
 use Rattle.line_laws.proofs.CustodyPlans.{Agrees}
@@ -55,15 +55,15 @@ SentIsOf S (Up agent from message) = ⊤
 SentIsOf S (Down from message) = ⊤
 
 -- What a node of this address holds is of the sends.
-pub record LineIsTrue (S : ℕ → SentAs → Type 0) (own : ℕ) (l : Line) : Type 0 where
+pub record StationIsTrue (S : ℕ → SentAs → Type 0) (own : ℕ) (l : StationMemory) : Type 0 where
   pub address : (a : ℕ) → address_of l ≡ Some a → a ≡ own
   pub bodies : All (BodyIsOf S own) l.waiting
   pub held : All (HeldIsOf S own) l.reassemblies
 
 module _ (S : ℕ → SentAs → Type 0) (own : ℕ) where
   -- what is gathered comes and goes with no word but that a ring goes
-  made_held : (W : RingWord → Type 0) (g : Given) (s d : Doing Line) → Made W g s d → All (HeldIsOf S own) s.memory.reassemblies → All (HeldIsOf S own) d.memory.reassemblies
-  unfolding ranked numbered tagged ringed rerouted goes body_goes waits leave
+  made_held : (W : RingWord → Type 0) (g : Given) (s d : Draft StationMemory) → Made W g s d → All (HeldIsOf S own) s.memory.reassemblies → All (HeldIsOf S own) d.memory.reassemblies
+  unfolding with_rank with_own_number with_next_tag with_ring with_routing_by goes body_goes waits leave
   made_held W g s d Starts h = h
   made_held W g s d (Ranks by origin rank e made o fits) h = made_held W g s e made h
   made_held W g s d (Numbers e made left) h = made_held W g s e made h
@@ -77,8 +77,8 @@ module _ (S : ℕ → SentAs → Type 0) (own : ℕ) where
   made_held W g s d (Leaves a dest hop rank e made here o) h = made_held W g s e made h
 
   -- What is being done over all of the memory.
-  pub record IsTrueIn (d : Doing Memory) : Type 0 where
-    pub line : LineIsTrue S own d.memory.line
+  pub record IsTrueIn (d : Draft Memory) : Type 0 where
+    pub station : StationIsTrue S own d.memory.station
     pub units : All (OutIsOf S) d.units
     pub plain : All IsPlainFrame d.plain
 
@@ -86,26 +86,26 @@ module _ (S : ℕ → SentAs → Type 0) (own : ℕ) where
     unheard_known : Known S W (unheard g) own
     unheard_known = record { comes = λ by u c. absurd (no_some _ c.is); carries = known.carries; installs = known.installs }
 
-    pub made_in_true : (L : Granted → Type 0) (P : Eui → Key → Type 0) (E : Eui → Type 0) (m : Memory) (d : Doing Memory) → MadeIn W L P E g m d → LineIsTrue S own m.line → IsTrueIn d
-    unfolding begun on_line remembered tagged_with entered goes_up goes_down
-    made_in_true L P E m d Begins h = record { line = h; units = All-nil (OutIsOf S); plain = All-nil IsPlainFrame }
+    pub made_in_true : (L : Granted → Type 0) (P : Eui → Key → Type 0) (E : Eui → Type 0) (m : Memory) (d : Draft Memory) → MadeIn W L P E g m d → StationIsTrue S own m.station → IsTrueIn d
+    unfolding empty_draft on_station with_memory_by with_pair_tags with_book_entry goes_up goes_down
+    made_in_true L P E m d Begins h = record { station = h; units = All-nil (OutIsOf S); plain = All-nil IsPlainFrame }
     made_in_true L P E m d (Station e made) h =
-        let x = made_true S W g own known (begun m.line) (record { address = h.address; bodies = h.bodies; units = All-nil (OutIsOf S) }) e made in
-        record { line = record { address = x.address; bodies = x.bodies; held = made_held W g (begun m.line) e made h.held }; units = x.units; plain = rw (made_plain W g (begun m.line) e made) (All-nil IsPlainFrame) }
-    made_in_true L P E m d (OnLine word e made step) h =
+        let x = made_true S W g own known (empty_draft m.station) (record { address = h.address; bodies = h.bodies; units = All-nil (OutIsOf S) }) e made in
+        record { station = record { address = x.address; bodies = x.bodies; held = made_held W g (empty_draft m.station) e made h.held }; units = x.units; plain = rw (made_plain W g (empty_draft m.station) e made) (All-nil IsPlainFrame) }
+    made_in_true L P E m d (OnStation word e made step) h =
         let r = made_in_true L P E m e made h in
-        let x = made_true S W (unheard g) own unheard_known (line_part e) (record { address = r.line.address; bodies = r.line.bodies; units = r.units }) (word (line_part e)) step in
+        let x = made_true S W (unheard g) own unheard_known (station_part e) (record { address = r.station.address; bodies = r.station.bodies; units = r.units }) (word (station_part e)) step in
         record {
-          line = record { address = x.address; bodies = x.bodies; held = made_held W (unheard g) (line_part e) (word (line_part e)) step r.line.held };
+          station = record { address = x.address; bodies = x.bodies; held = made_held W (unheard g) (station_part e) (word (station_part e)) step r.station.held };
           units = x.units;
-          plain = rw (made_plain W (unheard g) (line_part e) (word (line_part e)) step) r.plain;
+          plain = rw (made_plain W (unheard g) (station_part e) (word (station_part e)) step) r.plain;
         }
     made_in_true L P E m d (Remembers change e made beside) h =
-        let r = made_in_true L P E m e made h in record { line = subst (LineIsTrue S own) (sym (beside_line_of E e.memory (change e.memory) beside)) r.line; units = r.units; plain = r.plain }
-    made_in_true L P E m d (Tags made opened e x) h = let r = made_in_true L P E m e x h in record { line = r.line; units = r.units; plain = r.plain }
-    made_in_true L P E m d (Enters x e made change) h = let r = made_in_true L P E m e made h in record { line = r.line; units = r.units; plain = r.plain }
-    made_in_true L P E m d (UpIn agent from message e made) h = let r = made_in_true L P E m e made h in record { line = r.line; units = r.units; plain = All-push IsPlainFrame e.plain (Up agent from message) r.plain tt }
-    made_in_true L P E m d (DownIn from message e made) h = let r = made_in_true L P E m e made h in record { line = r.line; units = r.units; plain = All-push IsPlainFrame e.plain (Down from message) r.plain tt }
+        let r = made_in_true L P E m e made h in record { station = subst (StationIsTrue S own) (sym (beside_station_of E e.memory (change e.memory) beside)) r.station; units = r.units; plain = r.plain }
+    made_in_true L P E m d (Tags made opened e x) h = let r = made_in_true L P E m e x h in record { station = r.station; units = r.units; plain = r.plain }
+    made_in_true L P E m d (Enters x e made change) h = let r = made_in_true L P E m e made h in record { station = r.station; units = r.units; plain = r.plain }
+    made_in_true L P E m d (UpIn agent from message e made) h = let r = made_in_true L P E m e made h in record { station = r.station; units = r.units; plain = All-push IsPlainFrame e.plain (Up agent from message) r.plain tt }
+    made_in_true L P E m d (DownIn from message e made) h = let r = made_in_true L P E m e made h in record { station = r.station; units = r.units; plain = All-push IsPlainFrame e.plain (Down from message) r.plain tt }
 
   -- # Letters
 
@@ -137,49 +137,49 @@ module _ (S : ℕ → SentAs → Type 0) (own : ℕ) where
 
   -- What a plan leaves, sends and hands up is of its send.
   pub record PlanIsTrue {H E : Type 0} (U : H → Type 0) (p : Plan Memory (Result H E)) : Type 0 where
-    pub line : LineIsTrue S own p.memory.line
+    pub station : StationIsTrue S own p.memory.station
     pub frames : All (SentIsOf S) p.frames
     pub up : AnswerIsOf U p.answer
     pub fails : AnswerIsOf U p.failed
 
-  pub plan_true : {H F : Type 0} (W : RingWord → Type 0) (g : Given) (known : Known S W g own) (L : Granted → Type 0) (P : Eui → Key → Type 0) (E : Eui → Type 0) (m : Memory) (first : LineIsTrue S own m.line) (ends : Ends F) (U : H → Type 0)
-      (K : Memory → H → Type 0) (D : Doing Memory → H → Type 0) → ((k : Memory) (answer : H) → K k answer → LineIsTrue S own k.line × U answer) → ((d : Doing Memory) (answer : H) → D d answer → MadeIn W L P E g m d × U answer)
+  pub plan_true : {H F : Type 0} (W : RingWord → Type 0) (g : Given) (known : Known S W g own) (L : Granted → Type 0) (P : Eui → Key → Type 0) (E : Eui → Type 0) (m : Memory) (first : StationIsTrue S own m.station) (ends : Ends F) (U : H → Type 0)
+      (K : Memory → H → Type 0) (D : Draft Memory → H → Type 0) → ((k : Memory) (answer : H) → K k answer → StationIsTrue S own k.station × U answer) → ((d : Draft Memory) (answer : H) → D d answer → MadeIn W L P E g m d × U answer)
       → (p : Plan Memory (Result H F)) → Planned in_memory ends m K D p → PlanIsTrue U p
   unfolding resting
-  plan_true W g known L P E m first ends U K D holds made p (Refuses reason) = record { line = first; frames = All-nil (SentIsOf S); up = tt; fails = tt }
-  plan_true W g known L P E m first ends U K D holds made p (Keeps k answer x) = let h = holds k answer x in record { line = h.0; frames = All-nil (SentIsOf S); up = h.1; fails = tt }
+  plan_true W g known L P E m first ends U K D holds made p (Refuses reason) = record { station = first; frames = All-nil (SentIsOf S); up = tt; fails = tt }
+  plan_true W g known L P E m first ends U K D holds made p (Keeps k answer x) = let h = holds k answer x in record { station = h.0; frames = All-nil (SentIsOf S); up = h.1; fails = tt }
   plan_true W g known L P E m first ends U K D holds made p (Ended d answer done left) =
       let x = made d answer done in
       let r = made_in_true W g known L P E m d x.0 first in
       record {
-        line = record { address = r.line.address; bodies = r.line.bodies; held = r.line.held };
-        frames = All-append (SentIsOf S) d.plain _ (plain_of d.plain r.plain) (sealed_of d.memory.line.ring d.memory.line.counter.next d.units r.units);
+        station = record { address = r.station.address; bodies = r.station.bodies; held = r.station.held };
+        frames = All-append (SentIsOf S) d.plain _ (plain_of d.plain r.plain) (sealed_of d.memory.station.ring d.memory.station.counter.next d.units r.units);
         up = x.1;
         fails = tt;
       }
 
 -- what a station keeps changes neither what waits nor the address
-pub handed_line : (g : Given) (l k : Line) (h : Heard) → Handed g l k h → (k.waiting ≡ l.waiting) × (address_of k ≡ address_of l)
-handed_line g l k h (HandsUp by own mesh octets came here mine) = (refl, refl)
-handed_line g l k h (HandsOn answer none) = (refl, refl)
-handed_line g l k h (Gathers by own mesh piece came here mine e) = (refl, refl)
-handed_line g l k h (Completes by own mesh piece note octets came here mine e) = (refl, refl)
+pub handed_station : (g : Given) (l k : StationMemory) (h : Heard) → Handed g l k h → (k.waiting ≡ l.waiting) × (address_of k ≡ address_of l)
+handed_station g l k h (HandsUp by own mesh octets came here mine) = (refl, refl)
+handed_station g l k h (HandsOn answer none) = (refl, refl)
+handed_station g l k h (Gathers by own mesh piece came here mine e) = (refl, refl)
+handed_station g l k h (Completes by own mesh piece note octets came here mine e) = (refl, refl)
 
-pub no_line : (S : ℕ → SentAs → Type 0) (own : ℕ) (h : Heard) → IsNoUp h → UpIsOf S own h
-no_line S own (heard.Up from note octets) none = absurd none
-no_line S own _ none = tt
+pub no_station : (S : ℕ → SentAs → Type 0) (own : ℕ) (h : Heard) → IsNoUp h → UpIsOf S own h
+no_station S own (heard.Up from note octets) none = absurd none
+no_station S own _ none = tt
 
 -- # What a meter hears of a letter
 
 -- what a meter hands up
 abbrev pub MeterUpIsOf : (ℕ → SentAs → Type 0) → ℕ → MeterHeard → Type 0
-MeterUpIsOf S own (meter_heard.Line h) = UpIsOf S own h
+MeterUpIsOf S own (meter_heard.Station h) = UpIsOf S own h
 MeterUpIsOf S own _ = ⊤
 
 -- what the coordinator hands up
-abbrev pub CenterUpIsOf : (ℕ → SentAs → Type 0) → ℕ → CoordinatorHeard → Type 0
-CenterUpIsOf S own (center_heard.Line h) = UpIsOf S own h
-CenterUpIsOf S own _ = ⊤
+abbrev pub CoordinatorUpIsOf : (ℕ → SentAs → Type 0) → ℕ → CoordinatorHeard → Type 0
+CoordinatorUpIsOf S own (coordinator_heard.Station h) = UpIsOf S own h
+CoordinatorUpIsOf S own _ = ⊤
 
 -- a grant that is taken keeps the address
 pub record KeepsAddress (own : ℕ) (g : Given) (x : meters.Identity) (m : Memory) : Type 0 where
@@ -203,61 +203,61 @@ module _ (S : ℕ → SentAs → Type 0) (one : OneSend S) (own : ℕ) (got : Ac
   meter_known x m stays_at = record { comes = hears.comes; carries = by_cause; installs = stays_at.taken }
     where
       by_cause : (to k : ℕ) (load : Load) → RingCause came x m (Carry to k load) → LoadIsOf S own to k load
-      by_cause to k load (ToCenter join said) = tt
+      by_cause to k load (ToCoordinator join said) = tt
 
-  center_known : Known S CenterWord came own
-  center_known = record { comes = hears.comes; carries = by_cause; installs = no_install }
+  coordinator_known : Known S CoordinatorWord came own
+  coordinator_known = record { comes = hears.comes; carries = by_cause; installs = no_install }
     where
-      by_cause : (to k : ℕ) (load : Load) → CenterWord (Carry to k load) → LoadIsOf S own to k load
+      by_cause : (to k : ℕ) (load : Load) → CoordinatorWord (Carry to k load) → LoadIsOf S own to k load
       by_cause to k load (Says t join) = tt
 
-      no_install : (granted : Granted) → CenterWord (Install granted) → granted.address ≡ own
+      no_install : (granted : Granted) → CoordinatorWord (Install granted) → granted.address ≡ own
       no_install granted c = elim c [ ]
 
-  line_true : (m : Memory) → LineIsTrue S own m.line → Agrees came m.line → {H : Type 0} (word : Heard → H) (U : H → Type 0) → ((h : Heard) → UpIsOf S own h → U (word h)) → (k : Memory) (answer : H) → HandedIn word came m k answer → LineIsTrue S own k.line × U answer
-  line_true m first agrees word U says k answer (ByLine j h x) =
-      let t = handed_of S one own came m.line j h hears.comes first.address agrees first.held x in
-      let same = handed_line came m.line j h x in
+  station_true : (m : Memory) → StationIsTrue S own m.station → Agrees came m.station → {H : Type 0} (word : Heard → H) (U : H → Type 0) → ((h : Heard) → UpIsOf S own h → U (word h)) → (k : Memory) (answer : H) → HandedIn word came m k answer → StationIsTrue S own k.station × U answer
+  station_true m first agrees word U says k answer (ByStation j h x) =
+      let t = handed_of S one own came m.station j h hears.comes first.address agrees first.held x in
+      let same = handed_station came m.station j h x in
       (record { address = λ a e. first.address a (sym same.1 ∙ e); bodies = rw same.0 first.bodies; held = t.held }, says h t.up)
 
-  pub meter_hears_true : (x : meters.Identity) (m : Memory) → KeepsAddress own came x m → LineIsTrue S own m.line → Agrees came m.line → PlanIsTrue S own (MeterUpIsOf S own) (meters.hear_meter x m got cost note now)
+  pub meter_hears_true : (x : meters.Identity) (m : Memory) → KeepsAddress own came x m → StationIsTrue S own m.station → Agrees came m.station → PlanIsTrue S own (MeterUpIsOf S own) (meters.hear_meter x m got cost note now)
   meter_hears_true x m stays_at first agrees =
-      plan_true S own (RingCause came x m) came (meter_known x m stays_at) NoGrant NoPair NoEui m first dropped (MeterUpIsOf S own) (HandedIn meter_heard.Line came m) _
-      (line_true m first agrees meter_heard.Line (MeterUpIsOf S own) (λ h u. u)) (λ d answer h. (h.0, no_up answer h.2)) _ (meter_is NoGrant NoPair NoEui came x m got refl)
+      plan_true S own (RingCause came x m) came (meter_known x m stays_at) NoGrant NoPair NoEui m first dropped (MeterUpIsOf S own) (HandedIn meter_heard.Station came m) _
+      (station_true m first agrees meter_heard.Station (MeterUpIsOf S own) (λ h u. u)) (λ d answer h. (h.0, no_up answer h.2)) _ (meter_is NoGrant NoPair NoEui came x m got refl)
     where
       no_up : (a : MeterHeard) → HandsNothingUp a → MeterUpIsOf S own a
-      no_up (meter_heard.Line h) none = no_line S own h none
+      no_up (meter_heard.Station h) none = no_station S own h none
       no_up _ none = tt
 
-  pub center_hears_true : (x : coordinators.CoordinatorIdentity) (m : Memory) → LineIsTrue S own m.line → Agrees came m.line → PlanIsTrue S own (CenterUpIsOf S own) (coordinators.hear_coordinator x m got cost note now)
-  center_hears_true x m first agrees =
-      plan_true S own CenterWord came center_known (λ granted. center.IsGranted m granted) AnyPair AnyEui m first dropped (CenterUpIsOf S own) (HandedIn center_heard.Line came m) _
-      (line_true m first agrees center_heard.Line (CenterUpIsOf S own) (λ h u. u)) (λ d answer h. (h.0, no_up answer h.2)) _
-      (center.coordinator_is CenterWord AnyPair AnyEui any_heard came x m (λ to there join said. Says to join) got refl)
+  pub coordinator_hears_true : (x : coordinators.CoordinatorIdentity) (m : Memory) → StationIsTrue S own m.station → Agrees came m.station → PlanIsTrue S own (CoordinatorUpIsOf S own) (coordinators.hear_coordinator x m got cost note now)
+  coordinator_hears_true x m first agrees =
+      plan_true S own CoordinatorWord came coordinator_known (λ granted. coordinator.IsGranted m granted) AnyPair AnyEui m first dropped (CoordinatorUpIsOf S own) (HandedIn coordinator_heard.Station came m) _
+      (station_true m first agrees coordinator_heard.Station (CoordinatorUpIsOf S own) (λ h u. u)) (λ d answer h. (h.0, no_up answer h.2)) _
+      (coordinator.coordinator_is CoordinatorWord AnyPair AnyEui any_heard came x m (λ to there join said. Says to join) got refl)
     where
-      no_up : (a : CoordinatorHeard) → center.HandsNothingUp a → CenterUpIsOf S own a
-      no_up (center_heard.Line h) none = no_line S own h none
+      no_up : (a : CoordinatorHeard) → coordinator.HandsNothingUp a → CoordinatorUpIsOf S own a
+      no_up (coordinator_heard.Station h) none = no_station S own h none
       no_up _ none = tt
 
 -- # Nodes
 
 -- What a node of this address left, sent and answered is of the sends.
-pub record DidTrue {H E : Type 0} (S : ℕ → SentAs → Type 0) (own : ℕ) (U : H → Type 0) (d : Did (Result H E)) : Type 0 where
-  pub line : IfSome d.node.memory (λ (m : Memory). LineIsTrue S own m.line)
+pub record DidTrue {H E : Type 0} (S : ℕ → SentAs → Type 0) (own : ℕ) (U : H → Type 0) (d : NodeStep (Result H E)) : Type 0 where
+  pub station : IfSome d.node.memory (λ (m : Memory). StationIsTrue S own m.station)
   pub frames : All (SentIsOf S) d.frames
   pub up : AnswerIsOf S own U d.answer
 
-pub acts_true : {H E : Type 0} (S : ℕ → SentAs → Type 0) (own : ℕ) (U : H → Type 0) (x : Node) (reason : E) (plan : Memory → Plan Memory (Result H E)) → IfSome x.memory (λ (m : Memory). LineIsTrue S own m.line)
-    → ((m : Memory) → x.memory ≡ Some m → LineIsTrue S own m.line → PlanIsTrue S own U (plan m)) → DidTrue S own U (acts x (Err reason) plan)
+pub acts_true : {H E : Type 0} (S : ℕ → SentAs → Type 0) (own : ℕ) (U : H → Type 0) (x : Node) (reason : E) (plan : Memory → Plan Memory (Result H E)) → IfSome x.memory (λ (m : Memory). StationIsTrue S own m.station)
+    → ((m : Memory) → x.memory ≡ Some m → StationIsTrue S own m.station → PlanIsTrue S own U (plan m)) → DidTrue S own U (acts x (Err reason) plan)
 unfolding acts
 acts_true {H = H} {E = E} S own U x reason plan ok f = by_memory x.memory refl ok
   where
     carried : (m : Memory) → PlanIsTrue S own U (plan m) → DidTrue S own U (left_by x (carry_out x.store.records x.store.cut (plan m)))
     carried m k = ⊎_elim
-        (λ (w : IsWhole x.store.records x.store.cut (plan m) (carry_out x.store.records x.store.cut (plan m))). record { line = rw w.memory k.line; frames = rw w.frames k.frames; up = rw w.answer k.up })
-        (λ (c : IsCutOff x.store.records x.store.cut (plan m) (carry_out x.store.records x.store.cut (plan m))). record { line = rw c.memory tt; frames = rw c.frames (All-nil (SentIsOf S)); up = rw c.answer k.fails })
+        (λ (w : IsWhole x.store.records x.store.cut (plan m) (carry_out x.store.records x.store.cut (plan m))). record { station = rw w.memory k.station; frames = rw w.frames k.frames; up = rw w.answer k.up })
+        (λ (c : IsCutOff x.store.records x.store.cut (plan m) (carry_out x.store.records x.store.cut (plan m))). record { station = rw c.memory tt; frames = rw c.frames (All-nil (SentIsOf S)); up = rw c.answer k.fails })
         (clean x.store.records x.store.cut (plan m))
 
-    by_memory : (o : Option Memory) → x.memory ≡ o → IfSome o (λ (m : Memory). LineIsTrue S own m.line) → DidTrue S own U (option_map_or (λ m. left_by x (carry_out x.store.records x.store.cut (plan m))) o (stays x (Err reason)))
-    by_memory None e h = record { line = ok; frames = All-nil (SentIsOf S); up = tt }
+    by_memory : (o : Option Memory) → x.memory ≡ o → IfSome o (λ (m : Memory). StationIsTrue S own m.station) → DidTrue S own U (option_map_or (λ m. left_by x (carry_out x.store.records x.store.cut (plan m))) o (stays x (Err reason)))
+    by_memory None e h = record { station = ok; frames = All-nil (SentIsOf S); up = tt }
     by_memory (Some m) e h = carried m (f m e h)

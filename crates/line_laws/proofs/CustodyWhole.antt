@@ -13,7 +13,7 @@ use Rattle.fragment_buffers.specs.Taking as pieces
 use Rattle.fragment_buffers.specs.Taking.{same_name, grown, settled, joined, behind, taken_in, taken, has_room}
 use Rattle.node_rules.specs.declared.heard.Heard.{Heard}
 use Rattle.node_rules.specs.declared.heard.Heard.TheVariants as heard
-use Rattle.node_rules.specs.Memory.{Line, address_of}
+use Rattle.node_rules.specs.Memory.{StationMemory, address_of}
 use Rattle.line_laws.specs.Sends.{SentAs, IsOf, UnitIsOf, PlacedFits, Gathers, HeldIsOf, UpIsOf}
 use Rattle.line_laws.proofs.Made.{Given, IsCome}
 use Rattle.line_laws.proofs.HearingForms.{IsNoUp, Handed, HandsUp, HandsOn, Gathers as Gathered, Completes}
@@ -158,11 +158,11 @@ module _ (S : ℕ → SentAs → Type 0) (one : OneSend S) (own : ℕ) where
   -- # What a station keeps beside its words
 
   -- What is gathered at a node is of its sends, and so is what it hands up.
-  pub record IsTold (l : Line) (h : Heard) : Type 0 where
+  pub record IsTold (l : StationMemory) (h : Heard) : Type 0 where
     pub held : All (HeldIsOf S own) l.reassemblies
     pub up : UpIsOf S own h
 
-  pub handed_of : (g : Given) (l k : Line) (h : Heard) → ((by : ℕ) (u : MeshUnit) → IsCome g by false u → UnitIsOf S g.note u) → ((a : ℕ) → address_of l ≡ Some a → a ≡ own) → Agrees g l → All (HeldIsOf S own) l.reassemblies → Handed g l k h → IsTold k h
+  pub handed_of : (g : Given) (l k : StationMemory) (h : Heard) → ((by : ℕ) (u : MeshUnit) → IsCome g by false u → UnitIsOf S g.note u) → ((a : ℕ) → address_of l ≡ Some a → a ≡ own) → Agrees g l → All (HeldIsOf S own) l.reassemblies → Handed g l k h → IsTold k h
   handed_of g l k h comes address agrees all (HandsUp by a mesh octets came here mine) = record {
     held = all;
     up = let x = comes by (units.Whole mesh octets) came in

@@ -10,8 +10,8 @@ use Rattle.std.proofs.lemmas.List.Filters.{sum_by-filter_both}
 use Rattle.mesh_header.specs.declared.unit.Unit.{Unit as MeshUnit}
 use Rattle.mesh_header.specs.declared.unit.Unit.TheVariants as units
 use Rattle.fragment_buffers.specs.Cutting.{piece_of, cut}
-use Rattle.node_rules.specs.Memory.{Line, Body, Load, Datagram, Command}
-use Rattle.node_rules.specs.Doings.{Doing, Outgoing, own_mesh, units_of, all_go, waits_for, ranked, numbered, tagged, ringed, rerouted, goes, body_goes, waits, leave}
+use Rattle.node_rules.specs.Memory.{StationMemory, Body, Load, Datagram, Command}
+use Rattle.node_rules.specs.Drafts.{Draft, Outgoing, own_mesh, units_of, all_go, waits_for, with_rank, with_own_number, with_next_tag, with_ring, with_routing_by, goes, body_goes, waits, leave}
 use Rattle.line_laws.specs.Custody.{weigh, below, covers, content_is, load_is, out_is, body_is}
 use Rattle.line_laws.proofs.Made.{Given, IsCome, IsLess, Whole, Part, Carried, RingWord, Carry, AreUnnoted, IsAlone, Unnoted, Alone, IsSaid, Seeks, Answers, Relays, Passes, Tells, Forwards, Made, Starts, Ranks, Numbers, Tags, Rings, Idles, Loses, Goes, Sends, Waits, Leaves}
 
@@ -104,12 +104,12 @@ pub record Brings (W : RingWord → Type 0) (g : Given) (n i brought : ℕ) : Ty
   pub carries : (to note : ℕ) (load : Load) → W (Carry to note load) → weigh n note (load_is i load) ≤ brought
 
 -- what waits and what goes out
-abbrev pub moving : ℕ → ℕ → Doing Line → ℕ
+abbrev pub moving : ℕ → ℕ → Draft StationMemory → ℕ
 moving n i d = sum_by (body_is n i) d.memory.waiting + sum_by (out_is n i) d.units
 
-module _ (W : RingWord → Type 0) (g : Given) (n i brought : ℕ) (some : 0 < n) (brings : Brings W g n i brought) (s : Doing Line) where
+module _ (W : RingWord → Type 0) (g : Given) (n i brought : ℕ) (some : 0 < n) (brings : Brings W g n i brought) (s : Draft StationMemory) where
   -- what is said weighs what came, and a route message nothing
-  said_sum : (d : Doing Line) (to : ℕ) (unit : MeshUnit) (note : ℕ) → IsSaid W g s d to unit note → weigh n note (content_is i unit) ≤ brought
+  said_sum : (d : Draft StationMemory) (to : ℕ) (unit : MeshUnit) (note : ℕ) → IsSaid W g s d to unit note → weigh n note (content_is i unit) ≤ brought
   said_sum d to unit note (Seeks own dest number k load here last low carried) = omega (arith, no_note n 0 some)
   said_sum d to unit note (Answers own by origin number k c dest here last low told) = omega (arith, no_note n 0 some)
   said_sum d to unit note (Relays by origin dest k c rank o just told) = omega (arith, no_note n 0 some)
@@ -119,15 +119,15 @@ module _ (W : RingWord → Type 0) (g : Given) (n i brought : ℕ) (some : 0 < n
       let one = brings.comes by u came in let same : weigh n g.note (content_is i less) ≡ weigh n g.note (content_is i u) = ap (weigh n g.note) (less_content i u less is) in omega arith
 
   -- what goes alone comes on top of what waited
-  alone_sum : (d : Doing Line) (note k : ℕ) → IsAlone s d note → weigh n note k ≤ brought → moving n i d ≤ moving n i s + brought → moving n i d + weigh n note k ≤ moving n i s + brought
+  alone_sum : (d : Draft StationMemory) (note k : ℕ) → IsAlone s d note → weigh n note k ≤ brought → moving n i d ≤ moving n i s + brought → moving n i d + weigh n note k ≤ moving n i s + brought
   alone_sum d note k Unnoted one h = let zero_is = no_note n k some in omega arith
   alone_sum d note k (Alone _ same none) one h =
       let zero_is = unnoted_sum n i d.units some none in
       let waited : sum_by (body_is n i) d.memory.waiting ≡ sum_by (body_is n i) s.memory.waiting = ap (sum_by (body_is n i)) same in
       omega arith
 
-  pub made_moves : (d : Doing Line) → Made W g s d → moving n i d ≤ moving n i s + brought
-  unfolding ranked numbered tagged ringed rerouted goes body_goes waits leave
+  pub made_moves : (d : Draft StationMemory) → Made W g s d → moving n i d ≤ moving n i s + brought
+  unfolding with_rank with_own_number with_next_tag with_ring with_routing_by goes body_goes waits leave
   made_moves d Starts = omega arith
   made_moves d (Ranks by origin rank e made o fits) = made_moves e made
   made_moves d (Numbers e made left) = made_moves e made

@@ -23,17 +23,17 @@ use Rattle.routing_set.specs.declared.entry.RoutingEntry.{RoutingEntry}
 use Rattle.routing_set.specs.RoutingSet as routing
 use Rattle.routing_set.specs.OwnNumber as own_number
 use Rattle.node_rules.specs.Frames.{Sent, Sealed, Up, Down}
-use Rattle.node_rules.specs.Memory.{Line, Memory, Node}
+use Rattle.node_rules.specs.Memory.{StationMemory, Memory, Node}
 use Rattle.node_rules.specs.Plans.{Plan, carry_out, resting}
-use Rattle.node_rules.specs.Doings.{Doing, Ends, Outgoing, letters, sealed_by, sealing_key, begun, ranked, numbered, tagged, ringed, rerouted, goes, body_goes, waits, leave}
-use Rattle.node_rules.specs.Holding.{in_memory, on_line, line_part, remembered, tagged_with, goes_up, goes_down}
-use Rattle.node_rules.specs.Coordinators.{entered}
+use Rattle.node_rules.specs.Drafts.{Draft, Ends, Outgoing, letters, sealed_by, sealing_key, empty_draft, with_rank, with_own_number, with_next_tag, with_ring, with_routing_by, goes, body_goes, waits, leave}
+use Rattle.node_rules.specs.MemoryDrafts.{in_memory, on_station, station_part, with_memory_by, with_pair_tags, goes_up, goes_down}
+use Rattle.node_rules.specs.Coordinators.{with_book_entry}
 use Rattle.node_rules.specs.Laws.{all_put, IsWhole, IsCutOff}
 use Rattle.node_rules.specs.NodeSteps.{acts, stays, left_by}
 use Rattle.node_rules.proofs.Writing.{clean}
 use Rattle.line_laws.proofs.Planned.{Planned, Refuses, Keeps, Ended}
 use Rattle.line_laws.proofs.Made.{RingWord, Given, Made, Starts, Ranks, Numbers, Tags, Rings, Idles, Loses, Goes, Sends, Waits, Leaves}
-use Rattle.line_laws.proofs.MadeIn.{MadeIn, Begins, Station, OnLine, Remembers, Tags as TagsIn, Enters, Up as UpIn, Down as DownIn}
+use Rattle.line_laws.proofs.MadeIn.{MadeIn, Begins, Station, OnStation, Remembers, Tags as TagsIn, Enters, Up as UpIn, Down as DownIn}
 use Rattle.line_laws.proofs.StorePlans.{made_in_counter}
 
 -- # No write lowers the limit
@@ -129,8 +129,8 @@ marks_high floor t from count = by_place (marks.place_of t from)
     by_place None = (Elsewhere (omega arith), tt)
     by_place (Some place) = by_stored place (nat_le count (marks.peer_at t place).stored)
 
-made_high : (floor : ℕ) (W : RingWord → Type 0) (g : Given) (s d : Doing Line) → Made W g s d → High floor s.puts → High floor d.puts
-unfolding ranked numbered tagged ringed rerouted goes body_goes waits leave
+made_high : (floor : ℕ) (W : RingWord → Type 0) (g : Given) (s d : Draft StationMemory) → Made W g s d → High floor s.puts → High floor d.puts
+unfolding with_rank with_own_number with_next_tag with_ring with_routing_by goes body_goes waits leave
 made_high floor W g s d Starts h = h
 made_high floor W g s d (Ranks by origin rank e made o fits) h = High-append floor e.puts _ (made_high floor W g s e made h) (offer_high floor e.memory.routing (routing.offered_entry origin rank by g.now) g.now)
 made_high floor W g s d (Numbers e made left) h = High-append floor e.puts _ (made_high floor W g s e made h) (number_high floor e.memory.own_number)
@@ -143,11 +143,11 @@ made_high floor W g s d (Sends own hop to note load e made here there short carr
 made_high floor W g s d (Waits to note load now e made none room short carried alone) h = made_high floor W g s e made h
 made_high floor W g s d (Leaves own dest hop rank e made here o) h = made_high floor W g s e made h
 
-made_in_high : (floor : ℕ) (W : RingWord → Type 0) (L : Granted → Type 0) (P : Eui → Key → Type 0) (E : Eui → Type 0) (g : Given) (m : Memory) (d : Doing Memory) → MadeIn W L P E g m d → High floor d.puts
-unfolding begun on_line remembered tagged_with entered goes_up goes_down
+made_in_high : (floor : ℕ) (W : RingWord → Type 0) (L : Granted → Type 0) (P : Eui → Key → Type 0) (E : Eui → Type 0) (g : Given) (m : Memory) (d : Draft Memory) → MadeIn W L P E g m d → High floor d.puts
+unfolding empty_draft on_station with_memory_by with_pair_tags with_book_entry goes_up goes_down
 made_in_high floor W L P E g m d Begins = tt
-made_in_high floor W L P E g m d (Station e made) = made_high floor W g (begun m.line) e made tt
-made_in_high floor W L P E g m d (OnLine word e made step) = made_high floor W (unheard g) (line_part e) (word (line_part e)) step (made_in_high floor W L P E g m e made)
+made_in_high floor W L P E g m d (Station e made) = made_high floor W g (empty_draft m.station) e made tt
+made_in_high floor W L P E g m d (OnStation word e made step) = made_high floor W (unheard g) (station_part e) (word (station_part e)) step (made_in_high floor W L P E g m e made)
 made_in_high floor W L P E g m d (Remembers change e made beside) = made_in_high floor W L P E g m e made
 made_in_high floor W L P E g m d (TagsIn made opened e x) = made_in_high floor W L P E g m e x
 made_in_high floor W L P E g m d (Enters x e made change) = High-append floor e.puts _ (made_in_high floor W L P E g m e made) (entry_high floor e.memory.book x)
@@ -196,8 +196,8 @@ plain_push (Sealed l ∷ ps) qs p q = absurd p
 plain_push (Up agent from message ∷ ps) qs p q = plain_push ps qs p q
 plain_push (Down from message ∷ ps) qs p q = plain_push ps qs p q
 
-made_plain : (W : RingWord → Type 0) (g : Given) (s d : Doing Line) → Made W g s d → ArePlain s.plain → ArePlain d.plain
-unfolding ranked numbered tagged ringed rerouted goes body_goes waits leave
+made_plain : (W : RingWord → Type 0) (g : Given) (s d : Draft StationMemory) → Made W g s d → ArePlain s.plain → ArePlain d.plain
+unfolding with_rank with_own_number with_next_tag with_ring with_routing_by goes body_goes waits leave
 made_plain W g s d Starts h = h
 made_plain W g s d (Ranks by origin rank e made o fits) h = made_plain W g s e made h
 made_plain W g s d (Numbers e made left) h = made_plain W g s e made h
@@ -210,11 +210,11 @@ made_plain W g s d (Sends own hop to note load e made here there short carried a
 made_plain W g s d (Waits to note load now e made none room short carried alone) h = made_plain W g s e made h
 made_plain W g s d (Leaves own dest hop rank e made here o) h = made_plain W g s e made h
 
-made_in_plain : (W : RingWord → Type 0) (L : Granted → Type 0) (P : Eui → Key → Type 0) (E : Eui → Type 0) (g : Given) (m : Memory) (d : Doing Memory) → MadeIn W L P E g m d → ArePlain d.plain
-unfolding begun on_line remembered tagged_with entered goes_up goes_down
+made_in_plain : (W : RingWord → Type 0) (L : Granted → Type 0) (P : Eui → Key → Type 0) (E : Eui → Type 0) (g : Given) (m : Memory) (d : Draft Memory) → MadeIn W L P E g m d → ArePlain d.plain
+unfolding empty_draft on_station with_memory_by with_pair_tags with_book_entry goes_up goes_down
 made_in_plain W L P E g m d Begins = tt
-made_in_plain W L P E g m d (Station e made) = made_plain W g (begun m.line) e made tt
-made_in_plain W L P E g m d (OnLine word e made step) = made_plain W (unheard g) (line_part e) (word (line_part e)) step (made_in_plain W L P E g m e made)
+made_in_plain W L P E g m d (Station e made) = made_plain W g (empty_draft m.station) e made tt
+made_in_plain W L P E g m d (OnStation word e made step) = made_plain W (unheard g) (station_part e) (word (station_part e)) step (made_in_plain W L P E g m e made)
 made_in_plain W L P E g m d (Remembers change e made beside) = made_in_plain W L P E g m e made
 made_in_plain W L P E g m d (TagsIn made opened e x) = made_in_plain W L P E g m e x
 made_in_plain W L P E g m d (Enters x e made change) = made_in_plain W L P E g m e made
@@ -223,30 +223,30 @@ made_in_plain W L P E g m d (DownIn own message e made) = plain_push e.plain _ (
 
 -- What a plan does to the counter.
 pub record PlanRises (m : Memory) {A : Type 0} (p : Plan Memory A) : Type 0 where
-  pub high : High m.line.counter.limit p.puts
-  pub numbered : Numbered m.line.counter.next p.memory.line.counter.next p.frames
+  pub high : High m.station.counter.limit p.puts
+  pub with_own_number : Numbered m.station.counter.next p.memory.station.counter.next p.frames
 
-pub plan_rises : {H F : Type 0} (W : RingWord → Type 0) (L : Granted → Type 0) (P : Eui → Key → Type 0) (E : Eui → Type 0) (g : Given) (m : Memory) (ends : Ends F) (K : Memory → H → Type 0) (D : Doing Memory → H → Type 0)
-    → ((n : Memory) (answer : H) → K n answer → n.line.counter ≡ m.line.counter) → ((d : Doing Memory) (answer : H) → D d answer → MadeIn W L P E g m d) → (p : Plan Memory (Result H F)) → Planned in_memory ends m K D p
-    → m.line.counter.limit < 2 ^ 32 → PlanRises m p
+pub plan_rises : {H F : Type 0} (W : RingWord → Type 0) (L : Granted → Type 0) (P : Eui → Key → Type 0) (E : Eui → Type 0) (g : Given) (m : Memory) (ends : Ends F) (K : Memory → H → Type 0) (D : Draft Memory → H → Type 0)
+    → ((n : Memory) (answer : H) → K n answer → n.station.counter ≡ m.station.counter) → ((d : Draft Memory) (answer : H) → D d answer → MadeIn W L P E g m d) → (p : Plan Memory (Result H F)) → Planned in_memory ends m K D p
+    → m.station.counter.limit < 2 ^ 32 → PlanRises m p
 unfolding resting
-plan_rises W L P E g m ends K D same made p (Refuses reason) fits = record { high = tt; numbered = omega arith }
-plan_rises W L P E g m ends K D same made p (Keeps n answer k) fits = record { high = tt; numbered = let e = ap (λ (c : counter.Counting). c.next) (same n answer k) in omega arith }
+plan_rises W L P E g m ends K D same made p (Refuses reason) fits = record { high = tt; with_own_number = omega arith }
+plan_rises W L P E g m ends K D same made p (Keeps n answer k) fits = record { high = tt; with_own_number = let e = ap (λ (c : counter.Counting). c.next) (same n answer k) in omega arith }
 plan_rises W L P E g m ends K D same made p (Ended d answer done left) fits =
     let x = made d answer done in
     let e = made_in_counter W L P E g m d x in
     let next = ap (λ (c : counter.Counting). c.next) e in
     let limit = ap (λ (c : counter.Counting). c.limit) e in
     record {
-      high = High-append m.line.counter.limit d.puts _ (made_in_high m.line.counter.limit W L P E g m d x) (reserve_high d.memory.line.counter (length d.units) m.line.counter.limit (omega arith) (omega arith));
-      numbered = plain_numbered d.plain _ m.line.counter.next (d.memory.line.counter.next + length d.units) (made_in_plain W L P E g m d x)
-          (subst (λ n. Numbered m.line.counter.next (n + length d.units) (sealed_by d.memory.line.ring n d.units)) (sym next) (sealed_numbered d.memory.line.ring m.line.counter.next (m.line.counter.next + length d.units) d.units (omega arith)));
+      high = High-append m.station.counter.limit d.puts _ (made_in_high m.station.counter.limit W L P E g m d x) (reserve_high d.memory.station.counter (length d.units) m.station.counter.limit (omega arith) (omega arith));
+      with_own_number = plain_numbered d.plain _ m.station.counter.next (d.memory.station.counter.next + length d.units) (made_in_plain W L P E g m d x)
+          (subst (λ n. Numbered m.station.counter.next (n + length d.units) (sealed_by d.memory.station.ring n d.units)) (sym next) (sealed_numbered d.memory.station.ring m.station.counter.next (m.station.counter.next + length d.units) d.units (omega arith)));
     }
 
 -- the counter that comes next, or what a halted node would go on from
 abbrev pub next_of : Option Memory → Records → ℕ
 next_of None r = counter.stored_limit r
-next_of (Some m) r = m.line.counter.next
+next_of (Some m) r = m.station.counter.next
 
 abbrev pub frontier : Node → ℕ
 frontier x = next_of x.memory x.store.records
@@ -258,7 +258,7 @@ limit_low : (floor : ℕ) (r : Records) → HasLimit floor r → floor ≤ count
 limit_low floor r h = let e : counter.stored_limit r ≡ h.limit = ap (λ o. unwrap_or o 0) h.is in let low = h.low in omega arith
 
 -- what a node sends is numbered from its frontier on, and the frontier never falls, also where a write fails
-pub acts_rise : {A : Type 0} (x : Node) (halted : A) (plan : Memory → Plan Memory A) → ((m : Memory) → x.memory ≡ Some m → PlanRises m (plan m) × (counter.limit_in (get x.store.records 2) ≡ Some m.line.counter.limit) × (m.line.counter.next ≤ m.line.counter.limit))
+pub acts_rise : {A : Type 0} (x : Node) (halted : A) (plan : Memory → Plan Memory A) → ((m : Memory) → x.memory ≡ Some m → PlanRises m (plan m) × (counter.limit_in (get x.store.records 2) ≡ Some m.station.counter.limit) × (m.station.counter.next ≤ m.station.counter.limit))
     → Numbered (frontier x) (frontier (acts x halted plan).node) (acts x halted plan).frames
 unfolding acts
 acts_rise {A = A} x halted plan f = by_memory x.memory refl
@@ -267,11 +267,11 @@ acts_rise {A = A} x halted plan f = by_memory x.memory refl
     by_memory None e = subst (λ o. next_of None x.store.records ≤ next_of o x.store.records) (sym e) (same_low (counter.stored_limit x.store.records))
     by_memory (Some m) e =
         let p = f m e in
-        let kept : HasLimit m.line.counter.limit x.store.records = record { limit = m.line.counter.limit; is = p.1; low = omega arith } in
-        let after = carried_high m.line.counter.limit x.store.records x.store.cut (plan m) p.0.high kept in
-        let low = limit_low m.line.counter.limit _ after in
+        let kept : HasLimit m.station.counter.limit x.store.records = record { limit = m.station.counter.limit; is = p.1; low = omega arith } in
+        let after = carried_high m.station.counter.limit x.store.records x.store.cut (plan m) p.0.high kept in
+        let low = limit_low m.station.counter.limit _ after in
         ⊎_elim
-        (λ (w : IsWhole x.store.records x.store.cut (plan m) (carry_out x.store.records x.store.cut (plan m))). rw (w.memory, w.frames) p.0.numbered)
+        (λ (w : IsWhole x.store.records x.store.cut (plan m) (carry_out x.store.records x.store.cut (plan m))). rw (w.memory, w.frames) p.0.with_own_number)
         (λ (c : IsCutOff x.store.records x.store.cut (plan m) (carry_out x.store.records x.store.cut (plan m))). rw (c.memory, c.frames) (omega arith))
         (clean x.store.records x.store.cut (plan m))
 

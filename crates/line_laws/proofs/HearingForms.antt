@@ -25,9 +25,9 @@ use Rattle.node_rules.specs.declared.heard.Heard.{Heard}
 use Rattle.node_rules.specs.declared.heard.Heard.TheVariants as heard
 use Rattle.node_rules.specs.declared.refusal.Dropped.TheVariants.{NotBetter, CostSpent, RoutesFull, BufferFull, BadUnit}
 use Rattle.node_rules.specs.Frames.{to_all}
-use Rattle.node_rules.specs.Memory.{Line, address_of, next_hop}
+use Rattle.node_rules.specs.Memory.{StationMemory, address_of, next_hop}
 use Rattle.node_rules.specs.Plans.{resting}
-use Rattle.node_rules.specs.Doings.{Doing, alone, begun, ranked, numbered, numbers_spent, leave, goes}
+use Rattle.node_rules.specs.Drafts.{Draft, alone, empty_draft, with_rank, with_own_number, numbers_spent, leave, goes}
 use Rattle.node_rules.specs.Hearing.{Hearing, dropped, drop_it, rank_over, rank_fault, offers, offers_numbered, hear_request, hear_reply, hear_reply_for, hear_error, loses, tells_on, report_by, forward_by, gathered, gather, hear_message, hear_message_in, hear_over_mesh, hear_sealed, is_joining, hear_plain, hear_unit, hear_unit_in, hear}
 use Rattle.node_rules.proofs.Words.{IsDone, learns_done, sends_on_done, answers_done, goes_done, error_done, error_on_done}
 use Rattle.line_laws.proofs.Planned.{Planned, Refuses, Keeps, checked_planned, choose_planned, sealed_planned}
@@ -41,7 +41,7 @@ IsNoUp (heard.Up from note octets) = ⊥
 IsNoUp _ = Unit {0}
 
 -- what a piece leaves of the reassemblies, and what is handed up or on
-pub data Handed (g : Given) (l : Line) : Line → Heard → Type 0 where
+pub data Handed (g : Given) (l : StationMemory) : StationMemory → Heard → Type 0 where
   HandsUp : (by own : ℕ) (mesh : Mesh) (octets : List ℕ) → IsCome g by false (units.Whole mesh octets) → address_of l ≡ Some own → (mesh.to == own) ≡ true → Handed g l l (heard.Up mesh.origin g.note octets)
   HandsOn : (answer : Heard) → IsNoUp answer → Handed g l l answer
   Gathers : (by own : ℕ) (mesh : Mesh) (piece : Placed) → IsCome g by false (units.Part mesh piece) → address_of l ≡ Some own → (mesh.to == own) ≡ true → (pieces.taken l.reassemblies mesh.origin piece g.note g.now).outcome ≡ pieces.Held
@@ -53,12 +53,12 @@ pub data Handed (g : Given) (l : Line) : Line → Heard → Type 0 where
 -- # What a rank needs
 
 -- What the tests of an offer say.
-pub record RankPasses (l : Line) (own origin : ℕ) (rank : Rank) (now : ℕ) : Type 0 where
+pub record RankPasses (l : StationMemory) (own origin : ℕ) (rank : Rank) (now : ℕ) : Type 0 where
   pub apart : (origin == own) ≡ false
   pub cost : rank.cost ≤ 65535
   pub fits : RankFits l.routing origin rank now
 
-pub rank_passes : (l : Line) (own origin : ℕ) (rank : Rank) (now : ℕ) → rank_fault l own origin rank now ≡ None → RankPasses l own origin rank now
+pub rank_passes : (l : StationMemory) (own origin : ℕ) (rank : Rank) (now : ℕ) → rank_fault l own origin rank now ≡ None → RankPasses l own origin rank now
 unfolding rank_fault
 rank_passes l own origin rank now = by_tests (origin == own) (routing.is_better l.routing origin rank) (nat_lt 65535 rank.cost) (routing.is_full l.routing origin now) refl refl refl refl
   where
@@ -95,9 +95,9 @@ taken_came (r ∷ rest) anew p =
     (either (repeats r.pieces p) _ _ (IsHeld refl) (settled_came (datagram_of (pieces.grown r anew p)) (pieces.grown r anew p) rest))
     (behind_came r _ (taken_came rest anew p))
 
-module _ (W : RingWord → Type 0) (g : Given) (l : Line) where
-  abbrev pub MadeOf : Doing Line → Heard → Type 0
-  MadeOf d said = Made W g (begun l) d × IsDone l d × IsNoUp said
+module _ (W : RingWord → Type 0) (g : Given) (l : StationMemory) where
+  abbrev pub MadeOf : Draft StationMemory → Heard → Type 0
+  MadeOf d said = Made W g (empty_draft l) d × IsDone l d × IsNoUp said
 
   abbrev pub Is : Hearing → Type 0
   Is p = Planned alone dropped l (Handed g l) MadeOf p
@@ -105,35 +105,35 @@ module _ (W : RingWord → Type 0) (g : Given) (l : Line) where
   -- # Offers
 
   offer_made : (own by origin : ℕ) (rank : Rank) → address_of l ≡ Some own → RankPasses l own origin rank g.now → Offered g (address_of l) by origin rank
-      → Made W g (begun l) (offers own origin rank by g.now l)
-  unfolding begun ranked
-  offer_made own by origin rank here p o = Leaves own origin by rank _ (Ranks by origin rank (begun l) Starts o p.fits) here o
+      → Made W g (empty_draft l) (offers own origin rank by g.now l)
+  unfolding empty_draft with_rank
+  offer_made own by origin rank here p o = Leaves own origin by rank _ (Ranks by origin rank (empty_draft l) Starts o p.fits) here o
 
   numbered_made : (own by origin : ℕ) (rank : Rank) → address_of l ≡ Some own → RankPasses l own origin rank g.now → Offered g (address_of l) by origin rank → numbers_spent l ≡ false
-      → Made W g (begun l) (offers_numbered own origin rank by g.now l)
-  unfolding begun ranked numbered
-  numbered_made own by origin rank here p o left = Leaves own origin by rank _ (Numbers _ (Ranks by origin rank (begun l) Starts o p.fits) left) here o
+      → Made W g (empty_draft l) (offers_numbered own origin rank by g.now l)
+  unfolding empty_draft with_rank with_own_number
+  numbered_made own by origin rank here p o left = Leaves own origin by rank _ (Numbers _ (Ranks by origin rank (empty_draft l) Starts o p.fits) left) here o
 
   answers_made : (own by origin n c dest : ℕ) (rank : Rank) → IsTold g by true (Rreq n c origin dest) → address_of l ≡ Some own → RankPasses l own origin rank g.now → Offered g (address_of l) by origin rank → numbers_spent l ≡ false
-      → Made W g (begun l) (goes by (units.Local 1 (messages.spelling (Rrep (l.own_number.last + 1) 0 own origin))) 0 (offers_numbered own origin rank by g.now l))
-  unfolding begun ranked numbered leave
+      → Made W g (empty_draft l) (goes by (units.Local 1 (messages.spelling (Rrep (l.own_number.last + 1) 0 own origin))) 0 (offers_numbered own origin rank by g.now l))
+  unfolding empty_draft with_rank with_own_number leave
   answers_made own by origin n c dest rank told here p o left = Goes _ _ _ _ (numbered_made own by origin rank here p o left) (Answers own by origin _ n c dest here refl (omega arith) told) Unnoted
 
   offered_after : (own by origin : ℕ) (rank : Rank) → Offered g (address_of l) by origin rank → Offered g (address_of (offers own origin rank by g.now l).memory) by origin rank
-  unfolding begun ranked leave
+  unfolding empty_draft with_rank leave
   offered_after own by origin rank o = o
 
   relays_made : (own by origin dest n c : ℕ) (rank : Rank) → IsTold g by true (Rreq n c origin dest) → address_of l ≡ Some own → RankPasses l own origin rank g.now → Offered g (address_of l) by origin rank
-      → Made W g (begun l) (goes to_all (units.Local 1 (messages.spelling (Rreq rank.number rank.cost origin dest))) 0 (offers own origin rank by g.now l))
-  relays_made own by origin dest n c rank told here p o = Goes _ _ _ _ (offer_made own by origin rank here p o) (Relays by origin dest n c rank (offered_after own by origin rank o) (record { before = begun l; own = own; is = refl }) told) Unnoted
+      → Made W g (empty_draft l) (goes to_all (units.Local 1 (messages.spelling (Rreq rank.number rank.cost origin dest))) 0 (offers own origin rank by g.now l))
+  relays_made own by origin dest n c rank told here p o = Goes _ _ _ _ (offer_made own by origin rank here p o) (Relays by origin dest n c rank (offered_after own by origin rank o) (record { before = empty_draft l; own = own; is = refl }) told) Unnoted
 
-  begun_hop : (to hop : ℕ) → next_hop l to ≡ Some hop → next_hop (begun l).memory to ≡ Some hop
-  unfolding begun
+  begun_hop : (to hop : ℕ) → next_hop l to ≡ Some hop → next_hop (empty_draft l).memory to ≡ Some hop
+  unfolding empty_draft
   begun_hop to hop e = e
 
   passes_made : (own by origin to hop n c : ℕ) (rank : Rank) → IsTold g by false (Rrep n c origin to) → next_hop l to ≡ Some hop → address_of l ≡ Some own → RankPasses l own origin rank g.now → Offered g (address_of l) by origin rank
-      → Made W g (begun l) (goes hop (units.Local 1 (messages.spelling (Rrep rank.number rank.cost origin to))) 0 (offers own origin rank by g.now l))
-  passes_made own by origin to hop n c rank told there here p o = Goes _ _ _ _ (offer_made own by origin rank here p o) (Passes by origin to hop n c rank (offered_after own by origin rank o) (record { before = begun l; own = own; is = refl }) told (begun_hop to hop there)) Unnoted
+      → Made W g (empty_draft l) (goes hop (units.Local 1 (messages.spelling (Rrep rank.number rank.cost origin to))) 0 (offers own origin rank by g.now l))
+  passes_made own by origin to hop n c rank told there here p o = Goes _ _ _ _ (offer_made own by origin rank here p o) (Passes by origin to hop n c rank (offered_after own by origin rank o) (record { before = empty_draft l; own = own; is = refl }) told (begun_hop to hop there)) Unnoted
 
   -- # Route messages
 
@@ -158,10 +158,10 @@ module _ (W : RingWord → Type 0) (g : Given) (l : Line) where
       sealed_planned _ _ (offer_made own by origin _ here p (ByReply own number c origin to here p.apart p.cost told), learns_done l own origin _ by g.now, tt)))
       (λ other. reply_for_is own by number c origin to (next_hop l to) refl here told)
 
-  loses_made : (lost by : ℕ) → Made W g (begun l) (loses lost by l)
-  loses_made lost by = Loses lost by (begun l) Starts
+  loses_made : (lost by : ℕ) → Made W g (empty_draft l) (loses lost by l)
+  loses_made lost by = Loses lost by (empty_draft l) Starts
 
-  tells_on_made : (lost to by : ℕ) (hop : Option ℕ) → IsTold g by false (Rerr lost to) → ((h : ℕ) → hop ≡ Some h → next_hop (loses lost by l).memory to ≡ Some h) → Made W g (begun l) (tells_on lost to hop (loses lost by l))
+  tells_on_made : (lost to by : ℕ) (hop : Option ℕ) → IsTold g by false (Rerr lost to) → ((h : ℕ) → hop ≡ Some h → next_hop (loses lost by l).memory to ≡ Some h) → Made W g (empty_draft l) (tells_on lost to hop (loses lost by l))
   tells_on_made lost to by None told there = loses_made lost by
   tells_on_made lost to by (Some hop) told there = Goes hop _ 0 _ (loses_made lost by) (Tells hop lost to to (ByError by lost to told) (there hop refl)) Unnoted
 
@@ -192,8 +192,8 @@ module _ (W : RingWord → Type 0) (g : Given) (l : Line) where
   report_is by unit mesh (Some hop) came has there = sealed_planned _ _ (Goes hop _ 0 _ Starts (Tells hop mesh.to mesh.origin mesh.origin (OnWay by unit mesh came has) (begun_hop mesh.origin hop there)) Unnoted, goes_done l hop _ 0, tt)
 
   -- nothing was done before
-  begun_alone : (note : ℕ) → IsAlone (begun l) (begun l) note
-  unfolding begun
+  begun_alone : (note : ℕ) → IsAlone (empty_draft l) (empty_draft l) note
+  unfolding empty_draft
   begun_alone note = Alone note refl tt
 
   forward_by_is : (own by : ℕ) (mesh : Mesh) (unit less : MeshUnit) (hop : Option ℕ) → next_hop l mesh.to ≡ hop → IsCome g by false unit → mesh_of unit ≡ Some mesh → IsLess unit less → Is (forward_by l own mesh less g.note hop)

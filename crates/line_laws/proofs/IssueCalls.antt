@@ -33,15 +33,15 @@ use Rattle.node_rules.specs.Joining.{message, server_for}
 use Rattle.node_rules.specs.Ciphers.{Ciphers}
 use Rattle.node_rules.specs.Frames.{arrived}
 use Rattle.line_rules.specs.Answers.{SentGrant, CompletedJoining}
-use Rattle.node_rules.specs.Memory.{Line, Memory, Coordinator, next_hop}
+use Rattle.node_rules.specs.Memory.{StationMemory, Memory, Coordinator, next_hop}
 use Rattle.node_rules.specs.Plans.{Plan, resting}
 use Rattle.node_rules.specs.Accepting.{Accepting, accept, marking}
-use Rattle.node_rules.specs.Doings.{Doing, Ends, alone, begun, choose, checked, sealing, sealed, refused, ringed, counters_left}
+use Rattle.node_rules.specs.Drafts.{Draft, Ends, alone, empty_draft, choose, checked, sealing, sealed, refused, with_ring, counters_left}
 use Rattle.node_rules.specs.Hearing.{dropped}
-use Rattle.node_rules.specs.Holding.{in_memory, with_line, give_random, given_ends, remembered, on_line, is_commanded, oldest}
+use Rattle.node_rules.specs.MemoryDrafts.{in_memory, with_station, give_random, given_ends, with_memory_by, on_station, is_commanded, oldest}
 use Rattle.node_rules.specs.Calls as calls
 use Rattle.node_rules.specs.Coordinators as coordinators
-use Rattle.node_rules.specs.NodeSteps.{of_line}
+use Rattle.node_rules.specs.NodeSteps.{of_station}
 use Rattle.line_laws.specs.Stores.{IsHeld, IsReadable}
 use Rattle.line_laws.specs.Sizes.{IsSized}
 use Rattle.line_laws.specs.Owed.{AreOctets, KeepsRanges}
@@ -55,18 +55,18 @@ use Rattle.line_laws.proofs.StoreBook.{Rest, rest_lasts}
 use Rattle.line_laws.proofs.StoreMarks.{Accepts, Turned, Plain, Marked, accept_is, marks_lead}
 use Rattle.line_laws.proofs.Planned.{Planned, Refuses, Keeps, Ended, planned_weaker}
 use Rattle.line_laws.proofs.Made.{RingWord, Carry, Drop, Install, Draw, Activate, RingChange, Drops, Installs, Draws, Activates, Given, Offered, Made}
-use Rattle.line_laws.proofs.HoldingForms.{AnyAnswer, HandedIn, ByLine, MadeBy}
+use Rattle.line_laws.proofs.MemoryDraftForms.{AnyAnswer, HandedIn, ByStation, MadeBy}
 use Rattle.line_laws.proofs.CoordinatorForms.{HandsNothingUp, IsGranted, coordinator_is, allow_is, depot_is, rekey_is, activate_self_is, challenge_is, activate_is, kick_is}
 use Rattle.line_laws.proofs.CallForms.{Few, Nothing, send_is, near_is, random_is}
 use Rattle.line_laws.proofs.Nodes.{waits_little}
-use Rattle.line_laws.proofs.NodeCalls.{RoutesFit, heard_given, call_given, near_given, heard_offers, call_offers, near_offers, granted_keys, few_of, handed_kept, of_line_planned}
-use Rattle.line_laws.proofs.CenterCalls.{admitted_fits}
+use Rattle.line_laws.proofs.NodeCalls.{RoutesFit, heard_given, call_given, near_given, heard_offers, call_offers, near_offers, granted_keys, few_of, handed_kept, of_station_planned}
+use Rattle.line_laws.proofs.CoordinatorCalls.{admitted_fits}
 use Rattle.line_laws.proofs.AddressPuts.{Away, RingWrites, writes_append, counter_away, made_rung}
-use Rattle.line_laws.proofs.AddressBook.{Grows, Grown, line_grown, plan_grown}
+use Rattle.line_laws.proofs.AddressBook.{Grows, Grown, station_grown, plan_grown}
 use Rattle.line_laws.proofs.IssueWords.{Each, made_tags, commanded_leaves}
 use Rattle.line_laws.proofs.IssueMeters.{Held, same_here, From, PeerIs, MeterPlan}
-use Rattle.line_laws.proofs.IssueCenter.{CenterTag, CenterTags, plan_rung, keyed_in, done_in, center_hears, says_tags}
-use Rattle.line_laws.proofs.IssueNodes.{Nought, CenterPlan}
+use Rattle.line_laws.proofs.IssueCoordinator.{CoordinatorTag, CoordinatorTags, plan_rung, keyed_in, done_in, coordinator_hears, says_tags}
+use Rattle.line_laws.proofs.IssueNodes.{Nought, CoordinatorPlan}
 
 -- a body is sent out, and the ring stays
 abbrev NoWord : RingWord → Type 0
@@ -97,7 +97,7 @@ NoEui eui = ⊥
 -- What such a plan does, at any node.
 pub record Quietly (m : Memory) {A : Type 0} (p : Plan Memory A) : Type 1 where
   pub leads : (b : book.Book) → Leads (Grown b) m p.puts p.memory
-  pub ring : (S : ring.Ring → Type 0) → S None → S m.line.ring → IfSome m.line.ring IsReadable → RingWrites S p.puts
+  pub ring : (S : ring.Ring → Type 0) → S None → S m.station.ring → IfSome m.station.ring IsReadable → RingWrites S p.puts
   pub session : p.memory.session ≡ m.session
   pub made : p.made ≡ []
 
@@ -105,15 +105,15 @@ held_in : (eui : Eui) (opened : _) (x : ring.Ring) → From eui x opened x
 held_in eui opened None = tt
 held_in eui opened (Some g) = Held g refl (same_here g)
 
-pub quiet_meter : {A : Type 0} (eui : Eui) (took : Option Agreed) (m : Memory) (p : Plan Memory A) → Quietly m p → PeerIs eui m.session → IfSome m.line.ring IsReadable → MeterPlan eui m.line.ring took p
+pub quiet_meter : {A : Type 0} (eui : Eui) (took : Option Agreed) (m : Memory) (p : Plan Memory A) → Quietly m p → PeerIs eui m.session → IfSome m.station.ring IsReadable → MeterPlan eui m.station.ring took p
 quiet_meter eui took m p q session reads = record {
-  puts = q.ring (From eui m.line.ring p.opened) tt (held_in eui p.opened m.line.ring) reads;
+  puts = q.ring (From eui m.station.ring p.opened) tt (held_in eui p.opened m.station.ring) reads;
   session = subst (PeerIs eui) (sym q.session) session;
   made = subst (Each _) (sym q.made) tt;
 }
 
-pub quiet_center : {A : Type 0} (b : book.Book) (keyed : Option SentGrant) (m : Memory) (p : Plan Memory A) → Quietly m p → Nought m.line.ring → IfSome m.line.ring IsReadable → CenterPlan b m keyed p
-quiet_center b keyed m p q nought reads = record { leads = q.leads b; ring = q.ring Nought tt nought reads; made = subst (Each (CenterTag m keyed)) (sym q.made) tt }
+pub quiet_coordinator : {A : Type 0} (b : book.Book) (keyed : Option SentGrant) (m : Memory) (p : Plan Memory A) → Quietly m p → Nought m.station.ring → IfSome m.station.ring IsReadable → CoordinatorPlan b m keyed p
+quiet_coordinator b keyed m p q nought reads = record { leads = q.leads b; ring = q.ring Nought tt nought reads; made = subst (Each (CoordinatorTag m keyed)) (sym q.made) tt }
 
 no_changes : (S : ring.Ring → Type 0) → S None → (r y : ring.Ring) → RingChange NoWord r y → IfSome r IsReadable → S r → S y × IfSome y IsReadable
 no_changes S none r y Drops h k = (none, tt)
@@ -123,69 +123,69 @@ no_changes S none r y (Activates index w held) h k = absurd w
 
 module _ (g : Given) (m : Memory) (h : IsSized m)
     (offers : (address : Option ℕ) (by origin : ℕ) (rank : Rank) → Offered g address by origin rank → EntryFits (routing.offered_entry origin rank by g.now)) where
-  line_puts : {H F : Type 0} {ends : Ends F} (p : Plan Line (Result H F)) → Planned alone ends m.line Nothing (λ d (a : H). Made NoWord g (begun m.line) d × Few m.line d) p
-      → (S : ring.Ring → Type 0) → S None → S m.line.ring → IfSome m.line.ring IsReadable → RingWrites S (of_line m p).puts
-  unfolding resting begun
-  line_puts p (Refuses reason) S none here reads = tt
-  line_puts p (Keeps n answer k) S none here reads = absurd k
-  line_puts p (Ended d answer done left) S none here reads =
-      writes_append S d.puts _ (made_rung S NoWord g (no_changes S none) (begun m.line) d done.0 (record { puts = tt; ring = here; reads = reads })).puts (counter_away S d.memory.counter (length d.units))
+  station_puts : {H F : Type 0} {ends : Ends F} (p : Plan StationMemory (Result H F)) → Planned alone ends m.station Nothing (λ d (a : H). Made NoWord g (empty_draft m.station) d × Few m.station d) p
+      → (S : ring.Ring → Type 0) → S None → S m.station.ring → IfSome m.station.ring IsReadable → RingWrites S (of_station m p).puts
+  unfolding resting empty_draft
+  station_puts p (Refuses reason) S none here reads = tt
+  station_puts p (Keeps n answer k) S none here reads = absurd k
+  station_puts p (Ended d answer done left) S none here reads =
+      writes_append S d.puts _ (made_rung S NoWord g (no_changes S none) (empty_draft m.station) d done.0 (record { puts = tt; ring = here; reads = reads })).puts (counter_away S d.memory.counter (length d.units))
 
-  line_rest : {H F : Type 0} {ends : Ends F} (p : Plan Line (Result H F)) → Planned alone ends m.line Nothing (λ d (a : H). Made NoWord g (begun m.line) d × Few m.line d) p
-      → ((of_line m p).memory.session ≡ m.session) × ((of_line m p).made ≡ [])
-  unfolding resting begun
-  line_rest p (Refuses reason) = (refl, refl)
-  line_rest p (Keeps n answer k) = absurd k
-  line_rest p (Ended d answer done left) = (refl, (made_tags NoWord g (begun m.line) d done.0).0)
+  station_rest : {H F : Type 0} {ends : Ends F} (p : Plan StationMemory (Result H F)) → Planned alone ends m.station Nothing (λ d (a : H). Made NoWord g (empty_draft m.station) d × Few m.station d) p
+      → ((of_station m p).memory.session ≡ m.session) × ((of_station m p).made ≡ [])
+  unfolding resting empty_draft
+  station_rest p (Refuses reason) = (refl, refl)
+  station_rest p (Keeps n answer k) = absurd k
+  station_rest p (Ended d answer done left) = (refl, (made_tags NoWord g (empty_draft m.station) d done.0).0)
 
-  pub line_quietly : {H F : Type 0} (ends : Ends F) (p : Plan Line (Result H F)) → Planned alone ends m.line Nothing (λ d (a : H). Made NoWord g (begun m.line) d × Few m.line d) p → Quietly m (of_line m p)
-  line_quietly ends p s = record {
-    leads = λ b. plan_grown b NoWord NoGrant NoPair NoEui g m no_words offers (λ eui k. absurd k) (λ eui psk k. absurd k) (λ r k granted none. absurd none) ends Nothing (λ n answer k. absurd k) (of_line m p)
-        (of_line_planned Coordinator NoWord no_words g m offers p s) (waits_little m h);
-    ring = line_puts p s;
-    session = (line_rest p s).0;
-    made = (line_rest p s).1;
+  pub station_quietly : {H F : Type 0} (ends : Ends F) (p : Plan StationMemory (Result H F)) → Planned alone ends m.station Nothing (λ d (a : H). Made NoWord g (empty_draft m.station) d × Few m.station d) p → Quietly m (of_station m p)
+  station_quietly ends p s = record {
+    leads = λ b. plan_grown b NoWord NoGrant NoPair NoEui g m no_words offers (λ eui k. absurd k) (λ eui psk k. absurd k) (λ r k granted none. absurd none) ends Nothing (λ n answer k. absurd k) (of_station m p)
+        (of_station_planned Coordinator NoWord no_words g m offers p s) (waits_little m h);
+    ring = station_puts p s;
+    session = (station_rest p s).0;
+    made = (station_rest p s).1;
   }
 
 given_rest : (m : Memory) (value : Rand) → ((give_random m value).memory.session ≡ m.session) × ((give_random m value).made ≡ [])
-unfolding choose begun resting remembered
+unfolding choose empty_draft resting with_memory_by
 given_rest m value = by_room (nat_lt 7 (length m.randoms))
   where
-    by_room : (b : Bool) → let p : Plan Memory (Result (Unit {0}) RandomFault) = (if b then refused given_ends m RandomsFull else sealing in_memory given_ends (remembered (λ n. record n { randoms = n.randoms ++ value ∷ [] }) (begun m)) tt) in (p.memory.session ≡ m.session) × (p.made ≡ [])
+    by_room : (b : Bool) → let p : Plan Memory (Result (Unit {0}) RandomFault) = (if b then refused given_ends m RandomsFull else sealing in_memory given_ends (with_memory_by (λ n. record n { randoms = n.randoms ++ value ∷ [] }) (empty_draft m)) tt) in (p.memory.session ≡ m.session) × (p.made ≡ [])
     by_room true = (refl, refl)
     by_room false = (refl, refl)
 
 module _ (m : Memory) (h : IsSized m) where
-  pub send_quietly : (to : ℕ) (datagram : List ℕ) (note now : ℕ) → Quietly m (of_line m (calls.send m.line to datagram note now))
-  send_quietly to datagram note now = line_quietly (call_given 0 note now) m h (call_offers 0 note now) calls.sending_ends _ (send_is NoWord (call_given 0 note now) m.line to datagram (λ some short. tt))
+  pub send_quietly : (to : ℕ) (datagram : List ℕ) (note now : ℕ) → Quietly m (of_station m (calls.send m.station to datagram note now))
+  send_quietly to datagram note now = station_quietly (call_given 0 note now) m h (call_offers 0 note now) calls.sending_ends _ (send_is NoWord (call_given 0 note now) m.station to datagram (λ some short. tt))
 
-  pub near_quietly : (to cost now : ℕ) → to < 0xFFFE → cost < 2 ^ 16 → Quietly m (of_line m (calls.preset_near m.line to cost now))
-  near_quietly to cost now short low = line_quietly (near_given to cost now) m h (near_offers to cost now short low) calls.presetting_ends _ (near_is NoWord (near_given to cost now) m.line to refl)
+  pub near_quietly : (to cost now : ℕ) → to < 0xFFFE → cost < 2 ^ 16 → Quietly m (of_station m (calls.preset_near m.station to cost now))
+  near_quietly to cost now short low = station_quietly (near_given to cost now) m h (near_offers to cost now short low) calls.presetting_ends _ (near_is NoWord (near_given to cost now) m.station to refl)
 
-  pub counter_quietly : (value : ℕ) → value < 2 ^ 32 → Quietly m (of_line m (calls.preset_counter m.line value))
+  pub counter_quietly : (value : ℕ) → value < 2 ^ 32 → Quietly m (of_station m (calls.preset_counter m.station value))
   unfolding resting
   counter_quietly value fits = record {
-    leads = λ b. line_grown b m m.line (record m.line { counter = counter.counting_at value }) _
-        (low_one (Rest Coordinator m) (rest_lasts Coordinator m) m.line _ _ (omega arith) (λ r k. limit_kept m.line r (counter.counting_at value) k fits (omega arith)));
+    leads = λ b. station_grown b m m.station (record m.station { counter = counter.counting_at value }) _
+        (low_one (Rest Coordinator m) (rest_lasts Coordinator m) m.station _ _ (omega arith) (λ r k. limit_kept m.station r (counter.counting_at value) k fits (omega arith)));
     ring = λ S none here reads. (Away _ (omega arith), tt);
     session = refl;
     made = refl;
   }
 
-  pub number_quietly : (value : ℕ) → 1 ≤ value → value < 2 ^ 16 → Quietly m (of_line m (calls.preset_number m.line value))
+  pub number_quietly : (value : ℕ) → 1 ≤ value → value < 2 ^ 16 → Quietly m (of_station m (calls.preset_number m.station value))
   unfolding resting
   number_quietly value low fits = record {
-    leads = λ b. line_grown b m m.line (record m.line { own_number = own_number.numbering_at value }) _
-        (low_one (Rest Coordinator m) (rest_lasts Coordinator m) m.line _ _ (omega arith) (λ r k. number_kept m.line r (own_number.numbering_at value) k low fits (omega arith)));
+    leads = λ b. station_grown b m m.station (record m.station { own_number = own_number.numbering_at value }) _
+        (low_one (Rest Coordinator m) (rest_lasts Coordinator m) m.station _ _ (omega arith) (λ r k. number_kept m.station r (own_number.numbering_at value) k low fits (omega arith)));
     ring = λ S none here reads. (Away _ (omega arith), tt);
     session = refl;
     made = refl;
   }
 
-  pub broke_quietly : {A : Type 0} (next : ℕ) (answer : A) → Quietly m (resting (with_line (calls.broke next m.line) m) answer answer)
+  pub broke_quietly : {A : Type 0} (next : ℕ) (answer : A) → Quietly m (resting (with_station (calls.broke next m.station) m) answer answer)
   unfolding resting
   broke_quietly next answer = record {
-    leads = λ b. leads_beside (Grown b) m _ (λ r k. record { kept = record { line = ended_kept m.line r (routing.goes_by next) k.kept.line; book = k.kept.book; sessions = k.kept.sessions }; grows = k.grows });
+    leads = λ b. leads_beside (Grown b) m _ (λ r k. record { kept = record { station = ended_kept m.station r (routing.goes_by next) k.kept.station; book = k.kept.book; sessions = k.kept.sessions }; grows = k.grows });
     ring = λ S none here reads. tt;
     session = refl;
     made = refl;
@@ -215,39 +215,39 @@ mark_away S table from counter = by_place (marks.place_of table from)
     by_place (Some place) = by_stored place (nat_le counter (marks.peer_at table place).stored)
 
 module _ (ciphers : Ciphers) (fits : KeepsRanges ciphers) (octets : List ℕ) (are : AreOctets octets) where
-  accepting_quietly : (m : Memory) (p : Accepting) → Accepts m.line (arrived ciphers octets) p → Quietly m (of_line m p)
+  accepting_quietly : (m : Memory) (p : Accepting) → Accepts m.station (arrived ciphers octets) p → Quietly m (of_station m p)
   unfolding resting marking
   accepting_quietly m p (Turned reason) = record { leads = λ b. leads_beside (Grown b) m m (λ r k. k); ring = λ S none here reads. tt; session = refl; made = refl }
   accepting_quietly m p (Plain got plain) = record { leads = λ b. leads_beside (Grown b) m m (λ r k. k); ring = λ S none here reads. tt; session = refl; made = refl }
   accepting_quietly m p (Marked from counter got a) =
-      let in_range = admitted_fits ciphers fits octets are m.line from counter got a in
+      let in_range = admitted_fits ciphers fits octets are m.station from counter got a in
       record {
-        leads = λ b. line_grown b m m.line (record m.line { marks = marks.kept_after m.line.marks from counter }) _
-            (marks_lead (Rest Coordinator m) (rest_lasts Coordinator m) m.line from counter in_range.0 in_range.1 a.room);
-        ring = λ S none here reads. mark_away S m.line.marks from counter;
+        leads = λ b. station_grown b m m.station (record m.station { marks = marks.kept_after m.station.marks from counter }) _
+            (marks_lead (Rest Coordinator m) (rest_lasts Coordinator m) m.station from counter in_range.0 in_range.1 a.room);
+        ring = λ S none here reads. mark_away S m.station.marks from counter;
         session = refl;
         made = refl;
       }
 
-  pub accept_quietly : (m : Memory) (own : Eui) → Quietly m (of_line m (accept m.line own (arrived ciphers octets)))
-  accept_quietly m own = accepting_quietly m _ (accept_is m.line own (arrived ciphers octets))
+  pub accept_quietly : (m : Memory) (own : Eui) → Quietly m (of_station m (accept m.station own (arrived ciphers octets)))
+  accept_quietly m own = accepting_quietly m _ (accept_is m.station own (arrived ciphers octets))
 
 -- # The coordinator
 
 -- what the coordinator does to its ring
-abbrev pub CenterWord : RingWord → Type 0
-CenterWord (Carry to note load) = Unit {0}
-CenterWord Drop = ⊥
-CenterWord (Install granted) = ⊥
-CenterWord (Draw index key) = IsHeld (Some key)
-CenterWord (Activate index) = index ≤ 1
+abbrev pub CoordinatorWord : RingWord → Type 0
+CoordinatorWord (Carry to note load) = Unit {0}
+CoordinatorWord Drop = ⊥
+CoordinatorWord (Install granted) = ⊥
+CoordinatorWord (Draw index key) = IsHeld (Some key)
+CoordinatorWord (Activate index) = index ≤ 1
 
-center_words : (w : RingWord) → CenterWord w → WordFits w
-center_words (Carry to note load) w = tt
-center_words Drop w = absurd w
-center_words (Install granted) w = absurd w
-center_words (Draw index key) w = w
-center_words (Activate index) w = w
+coordinator_words : (w : RingWord) → CoordinatorWord w → WordFits w
+coordinator_words (Carry to note load) w = tt
+coordinator_words Drop w = absurd w
+coordinator_words (Install granted) w = absurd w
+coordinator_words (Draw index key) w = w
+coordinator_words (Activate index) w = w
 
 keyed_nought : (g : Granted) (index : ℕ) (key : Key) → g.address ≡ 0 → (keyed g index key).address ≡ 0
 keyed_nought g index key e = by_index (index == 0)
@@ -256,10 +256,10 @@ keyed_nought g index key e = by_index (index == 0)
     by_index true = e
     by_index false = e
 
-center_changes : (r y : ring.Ring) → RingChange CenterWord r y → IfSome r IsReadable → Nought r → Nought y × IfSome y IsReadable
-center_changes r y change reads here = (nought r y change here, ring_fits CenterWord center_words r y change reads)
+coordinator_changes : (r y : ring.Ring) → RingChange CoordinatorWord r y → IfSome r IsReadable → Nought r → Nought y × IfSome y IsReadable
+coordinator_changes r y change reads here = (nought r y change here, ring_fits CoordinatorWord coordinator_words r y change reads)
   where
-    nought : (r y : ring.Ring) → RingChange CenterWord r y → Nought r → Nought y
+    nought : (r y : ring.Ring) → RingChange CoordinatorWord r y → Nought r → Nought y
     nought r y Drops k = tt
     nought r y (Installs granted w) k = absurd w
     nought None y (Draws index key w) k = tt
@@ -273,43 +273,43 @@ HasEui eui = length eui.0 ≡ 8
 abbrev HasPair : Eui → Key → Type 0
 HasPair eui psk = length psk.0 ≡ 16
 
-handed_grown : (b : book.Book) (m : Memory) (h : IsSized m) (g : Given) (n : Memory) (a : CoordinatorHeard) → HandedIn coordinator_heard.Line g m n a → (r : Records) → Grown b m r → Grown b n r
-handed_grown b m h g n a k r q = record { kept = handed_kept Coordinator m h coordinator_heard.Line g n a k r q.kept; grows = subst (Grows b) (sym (same_book k)) q.grows }
+handed_grown : (b : book.Book) (m : Memory) (h : IsSized m) (g : Given) (n : Memory) (a : CoordinatorHeard) → HandedIn coordinator_heard.Station g m n a → (r : Records) → Grown b m r → Grown b n r
+handed_grown b m h g n a k r q = record { kept = handed_kept Coordinator m h coordinator_heard.Station g n a k r q.kept; grows = subst (Grows b) (sym (same_book k)) q.grows }
   where
     same_book : {H : Type 0} {n : Memory} {a : H} {word : _ → H} → HandedIn word g m n a → n.book ≡ m.book
-    same_book (ByLine l x y) = refl
+    same_book (ByStation l x y) = refl
 
-module _ (ciphers : Ciphers) (fits : KeepsRanges ciphers) (own : coordinators.CoordinatorIdentity) (m : Memory) (h : IsSized m) (b : book.Book) (nought : Nought m.line.ring) (reads : IfSome m.line.ring IsReadable) where
+module _ (ciphers : Ciphers) (fits : KeepsRanges ciphers) (own : coordinators.CoordinatorIdentity) (m : Memory) (h : IsSized m) (b : book.Book) (nought : Nought m.station.ring) (reads : IfSome m.station.ring IsReadable) where
   heard_eui : (octets : List ℕ) (join : JoinMessage) → join_in octets ≡ Some join → HasEui join.eui
   heard_eui octets join e = (join_ranges octets join e).0
 
-  center_leads : {H F : Type 0} (g : Given) → ((address : Option ℕ) (by origin : ℕ) (rank : Rank) → Offered g address by origin rank → EntryFits (routing.offered_entry origin rank by g.now))
+  coordinator_leads : {H F : Type 0} (g : Given) → ((address : Option ℕ) (by origin : ℕ) (rank : Rank) → Offered g address by origin rank → EntryFits (routing.offered_entry origin rank by g.now))
       → (ends : Ends F) (K : Memory → H → Type 0) (N : H → Type 0) → ((n : Memory) (answer : H) → K n answer → (r : Records) → Grown b m r → Grown b n r)
-      → (p : Plan Memory (Result H F)) → Planned in_memory ends m K (MadeBy CenterWord (IsGranted m) HasPair HasEui g m N) p → Leads (Grown b) m p.puts p.memory × RingWrites Nought p.puts
-  center_leads g offers ends K N beside p s = (
-    plan_grown b CenterWord (IsGranted m) HasPair HasEui g m center_words offers (λ eui k. k) (λ eui psk k. k) (granted_keys Coordinator m) ends K beside p
-        (planned_weaker p (λ n answer k. k) (few_of N m CenterWord (IsGranted m) HasPair HasEui g) s) (waits_little m h),
-    plan_rung Nought CenterWord (IsGranted m) HasPair HasEui g m center_changes nought reads ends K _ (λ d a x. x.0) p s,
+      → (p : Plan Memory (Result H F)) → Planned in_memory ends m K (MadeBy CoordinatorWord (IsGranted m) HasPair HasEui g m N) p → Leads (Grown b) m p.puts p.memory × RingWrites Nought p.puts
+  coordinator_leads g offers ends K N beside p s = (
+    plan_grown b CoordinatorWord (IsGranted m) HasPair HasEui g m coordinator_words offers (λ eui k. k) (λ eui psk k. k) (granted_keys Coordinator m) ends K beside p
+        (planned_weaker p (λ n answer k. k) (few_of N m CoordinatorWord (IsGranted m) HasPair HasEui g) s) (waits_little m h),
+    plan_rung Nought CoordinatorWord (IsGranted m) HasPair HasEui g m coordinator_changes nought reads ends K _ (λ d a x. x.0) p s,
   )
 
-  pub hears_center : (got : Accepted) (cost note now : ℕ) → RoutesFit got → (keyed : Result CoordinatorHeard Dropped → Option SentGrant) (done : Result CoordinatorHeard Dropped → Option CompletedJoining)
+  pub hears_coordinator : (got : Accepted) (cost note now : ℕ) → RoutesFit got → (keyed : Result CoordinatorHeard Dropped → Option SentGrant) (done : Result CoordinatorHeard Dropped → Option CompletedJoining)
       → ((a : CoordinatorHeard) → keyed (Ok a) ≡ keyed_in a) → ((a : CoordinatorHeard) → done (Ok a) ≡ done_in a) → ((f : Dropped) → done (Err f) ≡ None)
-      → let p : Plan Memory (Result CoordinatorHeard Dropped) = coordinators.hear_coordinator own m got cost note now in CenterPlan b m (keyed p.answer) p × CenterTags m (keyed p.answer) (done p.answer) p
-  hears_center got cost note now routes keyed done same finished failed =
+      → let p : Plan Memory (Result CoordinatorHeard Dropped) = coordinators.hear_coordinator own m got cost note now in CoordinatorPlan b m (keyed p.answer) p × CoordinatorTags m (keyed p.answer) (done p.answer) p
+  hears_coordinator got cost note now routes keyed done same finished failed =
       let g = heard_given got cost note now in
       let p = coordinators.hear_coordinator own m got cost note now in
-      let l = center_leads g (heard_offers got cost note now routes) dropped (HandedIn coordinator_heard.Line g m) HandsNothingUp (handed_grown b m h g) p (coordinator_is CenterWord HasPair HasEui heard_eui g own m (λ to there join said. tt) got refl) in
-      let t = says_tags m dropped (λ n a. done_in a ≡ None) keyed done same finished failed (λ a n k. k) p (center_hears own m g got refl) in
+      let l = coordinator_leads g (heard_offers got cost note now routes) dropped (HandedIn coordinator_heard.Station g m) HandsNothingUp (handed_grown b m h g) p (coordinator_is CoordinatorWord HasPair HasEui heard_eui g own m (λ to there join said. tt) got refl) in
+      let t = says_tags m dropped (λ n a. done_in a ≡ None) keyed done same finished failed (λ a n k. k) p (coordinator_hears own m g got refl) in
       (record { leads = l.0; ring = l.1; made = t.made }, t)
 
-  order_plan : {H : Type 0} (now : ℕ) (p : Plan Memory (Result H CoordinatorRefusal)) → Planned in_memory coordinators.orders m Nothing (MadeBy CenterWord (IsGranted m) HasPair HasEui (call_given 0 0 now) m AnyAnswer) p → p.made ≡ [] → CenterPlan b m None p
+  order_plan : {H : Type 0} (now : ℕ) (p : Plan Memory (Result H CoordinatorRefusal)) → Planned in_memory coordinators.orders m Nothing (MadeBy CoordinatorWord (IsGranted m) HasPair HasEui (call_given 0 0 now) m AnyAnswer) p → p.made ≡ [] → CoordinatorPlan b m None p
   order_plan now p s none =
-      let l = center_leads (call_given 0 0 now) (call_offers 0 0 now) coordinators.orders Nothing AnyAnswer (λ n answer k. absurd k) p s in
-      record { leads = l.0; ring = l.1; made = subst (Each (CenterTag m None)) (sym none) tt }
+      let l = coordinator_leads (call_given 0 0 now) (call_offers 0 0 now) coordinators.orders Nothing AnyAnswer (λ n answer k. absurd k) p s in
+      record { leads = l.0; ring = l.1; made = subst (Each (CoordinatorTag m None)) (sym none) tt }
 
 -- # Orders make no tag
 
-abbrev Unmade : {H : Type 0} → Doing Memory → H → Type 0
+abbrev Unmade : {H : Type 0} → Draft Memory → H → Type 0
 Unmade d a = d.made ≡ []
 
 unmade_plan : {H F : Type 0} {ends : Ends F} {m : Memory} (p : Plan Memory (Result H F)) → Planned in_memory ends m Nothing Unmade p → p.made ≡ []
@@ -318,16 +318,16 @@ unmade_plan p (Refuses reason) = refl
 unmade_plan p (Keeps n answer k) = absurd k
 unmade_plan p (Ended d answer done left) = done
 
-commanded_unmade : (to : ℕ) (join : JoinMessage) (now : ℕ) (d : Doing Memory) → d.made ≡ [] → (is_commanded to join now d).made ≡ []
+commanded_unmade : (to : ℕ) (join : JoinMessage) (now : ℕ) (d : Draft Memory) → d.made ≡ [] → (is_commanded to join now d).made ≡ []
 commanded_unmade to join now d e = (commanded_leaves (λ r. ⊤) to join now d).made ∙ e
 
 -- whether something is left or not does not matter to what is made
-sealing_made : {H F : Type 0} (ends : Ends F) (d : Doing Memory) (answer : H) → d.made ≡ [] → (sealing in_memory ends d answer).made ≡ []
+sealing_made : {H F : Type 0} (ends : Ends F) (d : Draft Memory) (answer : H) → d.made ≡ [] → (sealing in_memory ends d answer).made ≡ []
 sealing_made ends d answer e = e
 
-sealed_made : {H F : Type 0} (ends : Ends F) (m : Memory) (d : Doing Memory) (answer : H) → d.made ≡ [] → (sealed in_memory ends m d answer).made ≡ []
+sealed_made : {H F : Type 0} (ends : Ends F) (m : Memory) (d : Draft Memory) (answer : H) → d.made ≡ [] → (sealed in_memory ends m d answer).made ≡ []
 unfolding sealed resting
-sealed_made ends m d answer e = by_test (nat_lt (counters_left m.line) (length d.units))
+sealed_made ends m d answer e = by_test (nat_lt (counters_left m.station) (length d.units))
   where
     by_test : (b : Bool) → (if b then refused ends m ends.spent else sealing in_memory ends d answer).made ≡ []
     by_test true = refl
@@ -351,28 +351,28 @@ option_made : {A X : Type 0} (f : X → Plan Memory A) (o : Option X) (q : Plan 
 option_made f None q e g = g
 option_made f (Some x) q e g = e x
 
-begun_made : (m : Memory) → (begun m).made ≡ []
-unfolding begun
+begun_made : (m : Memory) → (empty_draft m).made ≡ []
+unfolding empty_draft
 begun_made m = refl
 
 changed_made : (m : Memory) (e : BookEntry) → (coordinators.changed m e).made ≡ []
-unfolding begun coordinators.entered remembered
+unfolding empty_draft coordinators.with_book_entry with_memory_by
 changed_made m e = by_change (coordinators.changes m e)
   where
-    by_change : (b : Bool) → (if b then remembered (coordinators.without_session e.eui) (coordinators.entered e (begun m)) else begun m).made ≡ []
+    by_change : (b : Bool) → (if b then with_memory_by (coordinators.without_session e.eui) (coordinators.with_book_entry e (empty_draft m)) else empty_draft m).made ≡ []
     by_change true = refl
     by_change false = refl
 
-entered_made : (e : BookEntry) (d : Doing Memory) → d.made ≡ [] → (coordinators.entered e d).made ≡ []
-unfolding coordinators.entered
+entered_made : (e : BookEntry) (d : Draft Memory) → d.made ≡ [] → (coordinators.with_book_entry e d).made ≡ []
+unfolding coordinators.with_book_entry
 entered_made e d h = h
 
-remembered_made : (change : Memory → Memory) (d : Doing Memory) → d.made ≡ [] → (remembered change d).made ≡ []
-unfolding remembered
+remembered_made : (change : Memory → Memory) (d : Draft Memory) → d.made ≡ [] → (with_memory_by change d).made ≡ []
+unfolding with_memory_by
 remembered_made change d h = h
 
-rung_made : (m : Memory) (r : ring.Ring) → (on_line (ringed r) (begun m)).made ≡ []
-unfolding begun on_line ringed
+rung_made : (m : Memory) (r : ring.Ring) → (on_station (with_ring r) (empty_draft m)).made ≡ []
+unfolding empty_draft on_station with_ring
 rung_made m r = refl
 
 module _ (m : Memory) where
@@ -386,23 +386,23 @@ module _ (m : Memory) where
   depot_made eui psk =
       let d = coordinators.changed m (book.allowed_entry eui psk (book.entry_for m.book eui)) in
       choose_made (book.has_room m.book eui) _ _
-      (option_made (λ granted. option_map_or (λ e. sealing in_memory coordinators.orders (coordinators.entered (book.issued_entry eui granted e) d) granted) (book.allowed_one d.memory.book eui) (refused coordinators.orders m refusal.MetersFull))
+      (option_made (λ granted. option_map_or (λ e. sealing in_memory coordinators.orders (coordinators.with_book_entry (book.issued_entry eui granted e) d) granted) (book.allowed_one d.memory.book eui) (refused coordinators.orders m refusal.MetersFull))
       (coordinators.grant_for d.memory eui) (refused coordinators.orders m refusal.MetersFull)
-      (λ granted. option_made (λ e. sealing in_memory coordinators.orders (coordinators.entered (book.issued_entry eui granted e) d) granted) (book.allowed_one d.memory.book eui) (refused coordinators.orders m refusal.MetersFull)
+      (λ granted. option_made (λ e. sealing in_memory coordinators.orders (coordinators.with_book_entry (book.issued_entry eui granted e) d) granted) (book.allowed_one d.memory.book eui) (refused coordinators.orders m refusal.MetersFull)
       (λ e. entered_made (book.issued_entry eui granted e) d (changed_made m (book.allowed_entry eui psk (book.entry_for m.book eui)))) (refused_order _ refusal.MetersFull))
       (refused_order _ refusal.MetersFull)) (refused_order _ refusal.MetersFull)
 
   pub rekey_made : (index : ℕ) (key : Key) → (coordinators.rekey m index key).made ≡ []
-  rekey_made index key = choose_made (option_map_or (λ (g : Granted). g.active == index) m.line.ring false) _ _ (refused_order _ refusal.IndexActive) (rung_made m (ring.with_key m.line.ring index key))
+  rekey_made index key = choose_made (option_map_or (λ (g : Granted). g.active == index) m.station.ring false) _ _ (refused_order _ refusal.IndexActive) (rung_made m (ring.with_key m.station.ring index key))
 
   pub activate_self_made : (index : ℕ) → (coordinators.activate_self m index).made ≡ []
-  activate_self_made index = choose_made (is_some (ring.key_in_ring m.line.ring index)) _ _ (rung_made m (ring.with_active m.line.ring index)) (refused_order _ refusal.NotHeld)
+  activate_self_made index = choose_made (is_some (ring.key_in_ring m.station.ring index)) _ _ (rung_made m (ring.with_active m.station.ring index)) (refused_order _ refusal.NotHeld)
 
   pub challenge_made : (own eui : Eui) (now : ℕ) → (coordinators.challenge own m eui now).made ≡ []
   challenge_made own eui now = option_made (coordinators.challenge_at own m eui now) (coordinators.allowed_address m eui) _
       (λ to. checked_made coordinators.orders m _ _
       (option_made (λ value. coordinators.challenge_by own m to now (server_for eui own value)) (oldest m) _
-      (λ value. checked_made coordinators.orders m _ _ (sealed_made coordinators.orders m _ _ (commanded_unmade to _ now _ (remembered_made _ (begun m) (begun_made m))))) (refused_order _ refusal.NoRandom))) (refused_order _ refusal.NotAllowed)
+      (λ value. checked_made coordinators.orders m _ _ (sealed_made coordinators.orders m _ _ (commanded_unmade to _ now _ (remembered_made _ (empty_draft m) (begun_made m))))) (refused_order _ refusal.NoRandom))) (refused_order _ refusal.NotAllowed)
 
   pub activate_made : (eui : Eui) (index now : ℕ) → (coordinators.activate m eui index now).made ≡ []
   activate_made eui index now = option_made (λ e. option_map_or (coordinators.activate_by m e index now) (book.address_of m.book eui) (refused coordinators.orders m refusal.NotAllowed)) (coordinators.allowed_entry m eui) _
@@ -411,42 +411,42 @@ module _ (m : Memory) where
 
   pub kick_made : (eui : Eui) → (coordinators.kick m eui).made ≡ []
   kick_made eui = option_made (λ e. option_map_or (coordinators.kick_by m e) (book.address_of m.book eui) (refused coordinators.orders m refusal.NotAllowed)) (coordinators.allowed_entry m eui) _
-      (λ e. option_made (coordinators.kick_by m e) (book.address_of m.book eui) _ (λ to. by_route e to (is_some (next_hop m.line to) && nat_lt 0 (counters_left m.line))) (refused_order _ refusal.NotAllowed)) (refused_order _ refusal.NotAllowed)
+      (λ e. option_made (coordinators.kick_by m e) (book.address_of m.book eui) _ (λ to. by_route e to (is_some (next_hop m.station to) && nat_lt 0 (counters_left m.station))) (refused_order _ refusal.NotAllowed)) (refused_order _ refusal.NotAllowed)
     where
-      kicked : BookEntry → Doing Memory
-      kicked e = remembered (coordinators.without_session e.eui) (coordinators.entered (book.kicked_entry e.eui e) (begun m))
+      kicked : BookEntry → Draft Memory
+      kicked e = with_memory_by (coordinators.without_session e.eui) (coordinators.with_book_entry (book.kicked_entry e.eui e) (empty_draft m))
 
       kicked_unmade : (e : BookEntry) → (kicked e).made ≡ []
-      kicked_unmade e = remembered_made (coordinators.without_session e.eui) _ (entered_made (book.kicked_entry e.eui e) (begun m) (begun_made m))
+      kicked_unmade e = remembered_made (coordinators.without_session e.eui) _ (entered_made (book.kicked_entry e.eui e) (empty_draft m) (begun_made m))
 
       by_route : (e : BookEntry) (to : ℕ) (b : Bool) → (if b then is_commanded to (message e.eui body.Kick) 0 (kicked e) else kicked e).made ≡ []
       by_route e to true = commanded_unmade to (message e.eui body.Kick) 0 (kicked e) (kicked_unmade e)
       by_route e to false = kicked_unmade e
 
-module _ (ciphers : Ciphers) (fits : KeepsRanges ciphers) (own : coordinators.CoordinatorIdentity) (m : Memory) (h : IsSized m) (b : book.Book) (nought : Nought m.line.ring) (reads : IfSome m.line.ring IsReadable) where
+module _ (ciphers : Ciphers) (fits : KeepsRanges ciphers) (own : coordinators.CoordinatorIdentity) (m : Memory) (h : IsSized m) (b : book.Book) (nought : Nought m.station.ring) (reads : IfSome m.station.ring IsReadable) where
   abbrev Order : {H : Type 0} → Plan Memory (Result H CoordinatorRefusal) → Type 0
-  Order p = CenterPlan b m None p
+  Order p = CoordinatorPlan b m None p
 
   known_eui : (octets : List ℕ) (join : JoinMessage) → join_in octets ≡ Some join → HasEui join.eui
   known_eui octets join e = (join_ranges octets join e).0
 
-  pub allow_center : (eui : Eui) (psk : Key) → HasEui eui → HasPair eui psk → Order (coordinators.allow m eui psk)
-  allow_center eui psk known pair = order_plan ciphers fits own m h b nought reads 0 _ (allow_is CenterWord HasPair HasEui known_eui (call_given 0 0 0) own m (λ to there join said. tt) eui psk known pair) (allow_made m eui psk)
+  pub allow_coordinator : (eui : Eui) (psk : Key) → HasEui eui → HasPair eui psk → Order (coordinators.allow m eui psk)
+  allow_coordinator eui psk known pair = order_plan ciphers fits own m h b nought reads 0 _ (allow_is CoordinatorWord HasPair HasEui known_eui (call_given 0 0 0) own m (λ to there join said. tt) eui psk known pair) (allow_made m eui psk)
 
-  pub depot_center : (eui : Eui) (psk : Key) → HasEui eui → HasPair eui psk → Order (coordinators.depot m eui psk)
-  depot_center eui psk known pair = order_plan ciphers fits own m h b nought reads 0 _ (depot_is CenterWord HasPair HasEui known_eui (call_given 0 0 0) own m (λ to there join said. tt) eui psk known pair) (depot_made m eui psk)
+  pub depot_coordinator : (eui : Eui) (psk : Key) → HasEui eui → HasPair eui psk → Order (coordinators.depot m eui psk)
+  depot_coordinator eui psk known pair = order_plan ciphers fits own m h b nought reads 0 _ (depot_is CoordinatorWord HasPair HasEui known_eui (call_given 0 0 0) own m (λ to there join said. tt) eui psk known pair) (depot_made m eui psk)
 
-  pub rekey_center : (index : ℕ) (key : Key) → IsHeld (Some key) → Order (coordinators.rekey m index key)
-  rekey_center index key held = order_plan ciphers fits own m h b nought reads 0 _ (rekey_is CenterWord HasPair HasEui known_eui (call_given 0 0 0) own m (λ to there join said. tt) index key held) (rekey_made m index key)
+  pub rekey_coordinator : (index : ℕ) (key : Key) → IsHeld (Some key) → Order (coordinators.rekey m index key)
+  rekey_coordinator index key held = order_plan ciphers fits own m h b nought reads 0 _ (rekey_is CoordinatorWord HasPair HasEui known_eui (call_given 0 0 0) own m (λ to there join said. tt) index key held) (rekey_made m index key)
 
-  pub activate_self_center : (index : ℕ) → index ≤ 1 → Order (coordinators.activate_self m index)
-  activate_self_center index low = order_plan ciphers fits own m h b nought reads 0 _ (activate_self_is CenterWord HasPair HasEui known_eui (call_given 0 0 0) own m (λ to there join said. tt) index low) (activate_self_made m index)
+  pub activate_self_coordinator : (index : ℕ) → index ≤ 1 → Order (coordinators.activate_self m index)
+  activate_self_coordinator index low = order_plan ciphers fits own m h b nought reads 0 _ (activate_self_is CoordinatorWord HasPair HasEui known_eui (call_given 0 0 0) own m (λ to there join said. tt) index low) (activate_self_made m index)
 
-  pub challenge_center : (eui : Eui) (now : ℕ) → HasEui eui → Order (coordinators.challenge own.eui m eui now)
-  challenge_center eui now known = order_plan ciphers fits own m h b nought reads now _ (challenge_is CenterWord HasPair HasEui known_eui (call_given 0 0 now) own m (λ to there join said. tt) eui known) (challenge_made m own.eui eui now)
+  pub challenge_coordinator : (eui : Eui) (now : ℕ) → HasEui eui → Order (coordinators.challenge own.eui m eui now)
+  challenge_coordinator eui now known = order_plan ciphers fits own m h b nought reads now _ (challenge_is CoordinatorWord HasPair HasEui known_eui (call_given 0 0 now) own m (λ to there join said. tt) eui known) (challenge_made m own.eui eui now)
 
-  pub activate_center : (eui : Eui) (index now : ℕ) → Order (coordinators.activate m eui index now)
-  activate_center eui index now = order_plan ciphers fits own m h b nought reads now _ (activate_is CenterWord HasPair HasEui known_eui (call_given 0 0 now) own m (λ to there join said. tt) eui index) (activate_made m eui index now)
+  pub activate_coordinator : (eui : Eui) (index now : ℕ) → Order (coordinators.activate m eui index now)
+  activate_coordinator eui index now = order_plan ciphers fits own m h b nought reads now _ (activate_is CoordinatorWord HasPair HasEui known_eui (call_given 0 0 now) own m (λ to there join said. tt) eui index) (activate_made m eui index now)
 
-  pub kick_center : (eui : Eui) → HasEui eui → Order (coordinators.kick m eui)
-  kick_center eui known = order_plan ciphers fits own m h b nought reads 0 _ (kick_is CenterWord HasPair HasEui known_eui (call_given 0 0 0) own m (λ to there join said. tt) eui known) (kick_made m eui)
+  pub kick_coordinator : (eui : Eui) → HasEui eui → Order (coordinators.kick m eui)
+  kick_coordinator eui known = order_plan ciphers fits own m h b nought reads 0 _ (kick_is CoordinatorWord HasPair HasEui known_eui (call_given 0 0 0) own m (λ to there join said. tt) eui known) (kick_made m eui)

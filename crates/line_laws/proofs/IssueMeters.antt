@@ -29,15 +29,15 @@ use Rattle.node_rules.specs.declared.refusal.JoinRefusal.TheVariants.{AlreadyJoi
 use Rattle.node_rules.specs.declared.refusal.LeaveRefusal.{LeaveRefusal}
 use Rattle.node_rules.specs.declared.refusal.LeaveRefusal.TheVariants as leaving
 use Rattle.node_rules.specs.declared.refusal.Dropped.TheVariants.{BadUnit, NoSession, NoRandom}
-use Rattle.node_rules.specs.Memory.{Line, Memory, MeterSession, Course, ByAgent, ByCommand, address_of}
+use Rattle.node_rules.specs.Memory.{StationMemory, Memory, MeterSession, Course, ByAgent, ByCommand, address_of}
 use Rattle.node_rules.specs.Plans.{Plan, resting}
-use Rattle.node_rules.specs.Doings.{Doing, Ends, alone, begun, checked, choose, ringed, sealing, refused}
-use Rattle.node_rules.specs.Hearing as station
+use Rattle.node_rules.specs.Drafts.{Draft, Ends, alone, empty_draft, checked, choose, with_ring, sealing, refused}
+use Rattle.node_rules.specs.Hearing as station_rules
 use Rattle.node_rules.specs.Hearing.{dropped}
 use Rattle.node_rules.specs.Joining.{peer_for, peer_agrees, identifier_of, message}
-use Rattle.node_rules.specs.Holding.{in_memory, with_line, goes_up, goes_down, is_commanded, oldest, without_oldest, Unread, unread, packet_fault, remembered, tagged_with, on_line}
+use Rattle.node_rules.specs.MemoryDrafts.{in_memory, with_station, goes_up, goes_down, is_commanded, oldest, without_oldest, Unread, unread, packet_fault, with_memory_by, with_pair_tags, on_station}
 use Rattle.node_rules.specs.Meters.{Hearing, Identity, with_session, drop_it, ends, says, leaves, carry_up, carries_down, carry_down, reply_with, reply, take_with, take_by, take, takes, replies, challenged, declined, kicked, activated, hear_near, hear_order, hear_join, hear_join_in, heard_by, hear_meter, joining_ends, join, leaving_ends, leave}
-use Rattle.node_rules.proofs.HoldingShapes.{whole}
+use Rattle.node_rules.proofs.MemoryDraftShapes.{whole}
 use Rattle.line_laws.specs.Stores.{IsReadable}
 use Rattle.line_laws.proofs.Planned.{Planned, Refuses, Keeps, Ended, checked_planned, choose_planned, sealed_planned, option_planned, sealing_planned}
 use Rattle.line_laws.proofs.Made.{RingWord, RingChange, Drops, Installs, Draws, Activates, Given, Made}
@@ -76,39 +76,39 @@ abbrev pub took_in : MeterHeard → Option Agreed
 took_in (heard.Took agreed) = Some agreed
 took_in _ = None
 
-pub record MeterDone (eui : Eui) (old : ring.Ring) (took : Option Agreed) (d : Doing Memory) : Type 0 where
+pub record MeterDone (eui : Eui) (old : ring.Ring) (took : Option Agreed) (d : Draft Memory) : Type 0 where
   pub puts : RingWrites (From eui old d.opened) d.puts
-  pub ring : From eui old d.opened d.memory.line.ring
-  pub reads : IfSome d.memory.line.ring IsReadable
+  pub ring : From eui old d.opened d.memory.station.ring
+  pub reads : IfSome d.memory.station.ring IsReadable
   pub session : PeerIs eui d.memory.session
   pub made : Each (MeterTag eui took) d.made
 
 -- # Words
 
 module _ (eui : Eui) (old : ring.Ring) (took : Option Agreed) where
-  abbrev Done : Doing Memory → Type 0
+  abbrev Done : Draft Memory → Type 0
   Done d = MeterDone eui old took d
 
-  commanded : (to : ℕ) (join : JoinMessage) (now : ℕ) (d : Doing Memory) → Done d → Done (is_commanded to join now d)
+  commanded : (to : ℕ) (join : JoinMessage) (now : ℕ) (d : Draft Memory) → Done d → Done (is_commanded to join now d)
   commanded to join now d h =
       let l = commanded_leaves (From eui old d.opened) to join now d in
       record {
         puts = subst (λ o. RingWrites (From eui old o) (is_commanded to join now d).puts) (sym l.opened) (l.puts h.puts h.reads h.ring);
-        ring = subst (λ o. From eui old o (is_commanded to join now d).memory.line.ring) (sym l.opened) (subst (From eui old d.opened) (sym l.ring) h.ring);
+        ring = subst (λ o. From eui old o (is_commanded to join now d).memory.station.ring) (sym l.opened) (subst (From eui old d.opened) (sym l.ring) h.ring);
         reads = subst (λ r. IfSome r IsReadable) (sym l.ring) h.reads;
         session = subst (PeerIs eui) (sym l.session) h.session;
         made = subst (Each (MeterTag eui took)) (sym l.made) h.made;
       }
 
-  up : (agent : ℕ) (own : Eui) (join : JoinMessage) (d : Doing Memory) → Done d → Done (goes_up agent own join d)
+  up : (agent : ℕ) (own : Eui) (join : JoinMessage) (d : Draft Memory) → Done d → Done (goes_up agent own join d)
   unfolding goes_up
   up agent own join d h = record { puts = h.puts; ring = h.ring; reads = h.reads; session = h.session; made = h.made }
 
-  down : (own : ℕ) (join : JoinMessage) (d : Doing Memory) → Done d → Done (goes_down own join d)
+  down : (own : ℕ) (join : JoinMessage) (d : Draft Memory) → Done d → Done (goes_down own join d)
   unfolding goes_down
   down own join d h = record { puts = h.puts; ring = h.ring; reads = h.reads; session = h.session; made = h.made }
 
-  pub said : (course : Course) (own : Eui) (join : JoinMessage) (now : ℕ) (d : Doing Memory) → Done d → Done (says course own join now d)
+  pub said : (course : Course) (own : Eui) (join : JoinMessage) (now : ℕ) (d : Draft Memory) → Done d → Done (says course own join now d)
   said (ByAgent agent) own join now d h = up agent own join d h
   said ByCommand own join now d h = commanded 0 join now d h
 
@@ -116,25 +116,25 @@ held_from : (eui : Eui) (x : ring.Ring) → From eui x [] x
 held_from eui None = tt
 held_from eui (Some g) = Held g refl (same_here g)
 
-begun_done : (eui : Eui) (took : Option Agreed) (m : Memory) → IfSome m.line.ring IsReadable → PeerIs eui m.session → MeterDone eui m.line.ring took (begun m)
-unfolding begun
-begun_done eui took m reads session = record { puts = tt; ring = held_from eui m.line.ring; reads = reads; session = session; made = tt }
+begun_done : (eui : Eui) (took : Option Agreed) (m : Memory) → IfSome m.station.ring IsReadable → PeerIs eui m.session → MeterDone eui m.station.ring took (empty_draft m)
+unfolding empty_draft
+begun_done eui took m reads session = record { puts = tt; ring = held_from eui m.station.ring; reads = reads; session = session; made = tt }
 
 -- another session
-with_done : (eui : Eui) (took : Option Agreed) (m : Memory) (change : Memory → Memory) → IfSome m.line.ring IsReadable → (change m).line.ring ≡ m.line.ring → PeerIs eui (change m).session → MeterDone eui m.line.ring took (remembered change (begun m))
-unfolding begun remembered
-with_done eui took m change reads same session = record { puts = tt; ring = subst (From eui m.line.ring []) (sym same) (held_from eui m.line.ring); reads = subst (λ r. IfSome r IsReadable) (sym same) reads; session = session; made = tt }
+with_done : (eui : Eui) (took : Option Agreed) (m : Memory) (change : Memory → Memory) → IfSome m.station.ring IsReadable → (change m).station.ring ≡ m.station.ring → PeerIs eui (change m).session → MeterDone eui m.station.ring took (with_memory_by change (empty_draft m))
+unfolding empty_draft with_memory_by
+with_done eui took m change reads same session = record { puts = tt; ring = subst (From eui m.station.ring []) (sym same) (held_from eui m.station.ring); reads = subst (λ r. IfSome r IsReadable) (sym same) reads; session = session; made = tt }
 
 -- the ring is dropped
-left_done : (eui : Eui) (took : Option Agreed) (m : Memory) → MeterDone eui m.line.ring took (leaves m)
-unfolding begun remembered on_line ringed
+left_done : (eui : Eui) (took : Option Agreed) (m : Memory) → MeterDone eui m.station.ring took (leaves m)
+unfolding empty_draft with_memory_by on_station with_ring
 left_done eui took m = record { puts = (Puts None tt tt, tt); ring = tt; reads = tt; session = tt; made = tt }
 
 -- another key seals
-turned_done : (eui : Eui) (took : Option Agreed) (m : Memory) (index : ℕ) → index ≤ 1 → is_some (ring.key_in_ring m.line.ring index) ≡ true → IfSome m.line.ring IsReadable → PeerIs eui m.session
-    → MeterDone eui m.line.ring took (on_line (ringed (ring.with_active m.line.ring index)) (begun m))
-unfolding begun on_line ringed
-turned_done eui took m index low held reads session = record { puts = (Puts (ring.with_active m.line.ring index) (fits m.line.ring held reads) (from m.line.ring), tt); ring = from m.line.ring; reads = fits m.line.ring held reads; session = session; made = tt }
+turned_done : (eui : Eui) (took : Option Agreed) (m : Memory) (index : ℕ) → index ≤ 1 → is_some (ring.key_in_ring m.station.ring index) ≡ true → IfSome m.station.ring IsReadable → PeerIs eui m.session
+    → MeterDone eui m.station.ring took (on_station (with_ring (ring.with_active m.station.ring index)) (empty_draft m))
+unfolding empty_draft on_station with_ring
+turned_done eui took m index low held reads session = record { puts = (Puts (ring.with_active m.station.ring index) (fits m.station.ring held reads) (from m.station.ring), tt); ring = from m.station.ring; reads = fits m.station.ring held reads; session = session; made = tt }
   where
     from : (x : ring.Ring) → From eui x [] (ring.with_active x index)
     from None = tt
@@ -145,13 +145,13 @@ turned_done eui took m index low held reads session = record { puts = (Puts (rin
     fits (Some g) e h = record { grant = record { index = low; held = e }; address = h.address; key0 = h.key0; key1 = h.key1 }
 
 -- the second packet
-replied_done : (x : Identity) (took : Option Agreed) (m : Memory) (course : Course) (peer : Peer) (now : ℕ) → peer.eui ≡ x.eui → IfSome m.line.ring IsReadable
-    → MeterDone x.eui m.line.ring took (tagged_with (mac_p_tag peer.eui peer.id_s peer.rand_s peer.rand_p ∷ []) []
-    (remembered (λ n. with_session (Some (record { course = course; peer = Some peer; since = now })) (without_oldest n)) (begun m)))
-unfolding begun remembered tagged_with
+replied_done : (x : Identity) (took : Option Agreed) (m : Memory) (course : Course) (peer : Peer) (now : ℕ) → peer.eui ≡ x.eui → IfSome m.station.ring IsReadable
+    → MeterDone x.eui m.station.ring took (with_pair_tags (mac_p_tag peer.eui peer.id_s peer.rand_s peer.rand_p ∷ []) []
+    (with_memory_by (λ n. with_session (Some (record { course = course; peer = Some peer; since = now })) (without_oldest n)) (empty_draft m)))
+unfolding empty_draft with_memory_by with_pair_tags
 replied_done x took m course peer now own reads = record {
   puts = tt;
-  ring = held_from x.eui m.line.ring;
+  ring = held_from x.eui m.station.ring;
   reads = reads;
   session = own;
   made = (subst (λ e. MeterTag x.eui took (tags.MacP e (mac_octets))) (sym own) (Second mac_octets), tt);
@@ -162,10 +162,10 @@ replied_done x took m course peer now own reads = record {
 
 -- the fourth packet, and the ring of the third
 took_done : (eui : Eui) (m : Memory) (peer : Peer) (identifier : ℕ) (granted : Granted) → peer.eui ≡ eui → IsReadable granted
-    → MeterDone eui m.line.ring (Some (peer_agrees peer)) (tagged_with (success_tag peer.eui identifier peer.rand_s peer.rand_p ∷ [])
+    → MeterDone eui m.station.ring (Some (peer_agrees peer)) (with_pair_tags (success_tag peer.eui identifier peer.rand_s peer.rand_p ∷ [])
     (mac_s_tag peer.eui peer.id_s peer.rand_p ∷ granting_tag peer.eui identifier peer.rand_s peer.rand_p (granting_text granted) ∷ [])
-    (on_line (ringed (Some granted)) (remembered (with_session None) (begun m))))
-unfolding begun remembered tagged_with on_line ringed
+    (on_station (with_ring (Some granted)) (with_memory_by (with_session None) (empty_draft m))))
+unfolding empty_draft with_memory_by with_pair_tags on_station with_ring
 took_done eui m peer identifier granted own readable = record {
   puts = (Puts (Some granted) readable came, tt);
   ring = came;
@@ -174,7 +174,7 @@ took_done eui m peer identifier granted own readable = record {
   made = (subst (λ e. MeterTag eui (Some (peer_agrees peer)) (success_tag e identifier peer.rand_s peer.rand_p)) (sym own) (Fourth identifier peer.rand_s peer.rand_p refl), tt);
 }
   where
-    came : CameBy eui m.line.ring (mac_s_tag peer.eui peer.id_s peer.rand_p ∷ granting_tag peer.eui identifier peer.rand_s peer.rand_p (granting_text granted) ∷ []) granted
+    came : CameBy eui m.station.ring (mac_s_tag peer.eui peer.id_s peer.rand_p ∷ granting_tag peer.eui identifier peer.rand_s peer.rand_p (granting_text granted) ∷ []) granted
     came = Opened identifier peer.rand_s peer.rand_p granted
         (subst (λ e. Among (granting_tag e identifier peer.rand_s peer.rand_p (granting_text granted)) (mac_s_tag peer.eui peer.id_s peer.rand_p ∷ granting_tag peer.eui identifier peer.rand_s peer.rand_p (granting_text granted) ∷ [])) own
         (Later _ _ (Here []))) readable (same_here granted)
@@ -183,32 +183,32 @@ took_done eui m peer identifier granted own readable = record {
 
 -- the ring and the session stay
 pub record Stays (m n : Memory) : Type 0 where
-  pub ring : n.line.ring ≡ m.line.ring
+  pub ring : n.station.ring ≡ m.station.ring
   pub session : n.session ≡ m.session
   pub book : n.book ≡ m.book
 
 abbrev NoWord : RingWord → Type 0
 NoWord w = ⊥
 
-module _ (x : Identity) (m : Memory) (now : ℕ) (reads : IfSome m.line.ring IsReadable) (peer_is : PeerIs x.eui m.session)
+module _ (x : Identity) (m : Memory) (now : ℕ) (reads : IfSome m.station.ring IsReadable) (peer_is : PeerIs x.eui m.session)
     (granted_fits : (peer : Peer) (packet : List ℕ) (granted : Granted) → x.ciphers.third_fault x.psk peer packet ≡ None → x.ciphers.granted x.psk peer packet ≡ Some granted → IsReadable granted)
     (index_fits : (octets : List ℕ) (join : JoinMessage) (index : ℕ) → join_in octets ≡ Some join → join.body ≡ body.Activate index → index ≤ 1) where
-  abbrev pub DoneBy : Doing Memory → MeterHeard → Type 0
-  DoneBy d a = MeterDone x.eui m.line.ring (took_in a) d
+  abbrev pub DoneBy : Draft Memory → MeterHeard → Type 0
+  DoneBy d a = MeterDone x.eui m.station.ring (took_in a) d
 
   abbrev pub Is : Hearing → Type 0
   Is p = Planned in_memory dropped m (λ n (a : MeterHeard). Stays m n) DoneBy p
 
-  start : (took : Option Agreed) → MeterDone x.eui m.line.ring took (begun m)
+  start : (took : Option Agreed) → MeterDone x.eui m.station.ring took (empty_draft m)
   start took = begun_done x.eui took m reads peer_is
 
   carry_up_is : (from : Eui) (join : JoinMessage) (b : JoinBody) → Is (carry_up m from join b now)
-  carry_up_is from join (body.Join eap) = choose_planned (λ own. checked_planned (λ e. sealed_planned _ _ (commanded x.eui m.line.ring None 0 join now (begun m) (start None)))) (λ other. Refuses _)
+  carry_up_is from join (body.Join eap) = choose_planned (λ own. checked_planned (λ e. sealed_planned _ _ (commanded x.eui m.station.ring None 0 join now (empty_draft m) (start None)))) (λ other. Refuses _)
   carry_up_is from join _ = Refuses _
 
   carries_down_is : (join : JoinMessage) → Is (carries_down m join)
-  carries_down_is join = option_planned (λ own. ends m (goes_down own join (begun m)) heard.Carried) (address_of m.line) (drop_it m BadUnit)
-      (λ own e. sealed_planned _ _ (down x.eui m.line.ring None own join _ (start None))) (λ e. Refuses _)
+  carries_down_is join = option_planned (λ own. ends m (goes_down own join (empty_draft m)) heard.Carried) (address_of m.station) (drop_it m BadUnit)
+      (λ own e. sealed_planned _ _ (down x.eui m.station.ring None own join _ (start None))) (λ e. Refuses _)
 
   carry_down_is : (join : JoinMessage) (b : JoinBody) → Is (carry_down m join b)
   carry_down_is join (body.Challenge eap) = carries_down_is join
@@ -217,7 +217,7 @@ module _ (x : Identity) (m : Memory) (now : ℕ) (reads : IfSome m.line.ring IsR
   carry_down_is join _ = Refuses _
 
   replies_is : (course : Course) (peer : Peer) (join : JoinMessage) → peer.eui ≡ x.eui → Is (replies m course peer join now)
-  replies_is course peer join own = checked_planned (λ e. sealed_planned _ _ (said x.eui m.line.ring None course peer.eui join now _ (replied_done x None m course peer now own reads)))
+  replies_is course peer join own = checked_planned (λ e. sealed_planned _ _ (said x.eui m.station.ring None course peer.eui join now _ (replied_done x None m course peer now own reads)))
 
   reply_is : (course : Course) (packet : List ℕ) → Is (reply x m course packet now)
   reply_is course packet = checked_planned (λ e.
@@ -227,7 +227,7 @@ module _ (x : Identity) (m : Memory) (now : ℕ) (reads : IfSome m.line.ring IsR
 
   takes_is : (course : Course) (peer : Peer) (identifier : ℕ) (granted : Granted) (join : JoinMessage) → peer.eui ≡ x.eui → IsReadable granted → Is (takes m course peer identifier granted join now)
   takes_is course peer identifier granted join own readable = checked_planned (λ e.
-      sealed_planned _ _ (said x.eui m.line.ring (Some (peer_agrees peer)) course peer.eui join now _ (took_done x.eui m peer identifier granted own readable)))
+      sealed_planned _ _ (said x.eui m.station.ring (Some (peer_agrees peer)) course peer.eui join now _ (took_done x.eui m peer identifier granted own readable)))
 
   no_fault : {A B : Type 0} (f : A → B) (o : Option A) → option_map f o ≡ None → o ≡ None
   no_fault f None e = refl
@@ -261,7 +261,7 @@ module _ (x : Identity) (m : Memory) (now : ℕ) (reads : IfSome m.line.ring IsR
   activated_is : (index : ℕ) → index ≤ 1 → Is (activated m index)
   activated_is index low = choose_planned (λ held. sealed_planned _ _ (turned_done x.eui None m index low held reads peer_is)) (λ none. Refuses _)
 
-  noted_is : Is (ends m (begun m) heard.Noted)
+  noted_is : Is (ends m (empty_draft m) heard.Noted)
   noted_is = sealed_planned _ _ (start None)
 
   near_is : (agent : ℕ) (b : JoinBody) → Is (hear_near x m agent b now)
@@ -280,7 +280,7 @@ module _ (x : Identity) (m : Memory) (now : ℕ) (reads : IfSome m.line.ring IsR
   join_is : (octets : List ℕ) (way : Way) (join : JoinMessage) → join_in octets ≡ Some join → Is (hear_join x m way join now)
   join_is octets (Air from) join read = carry_up_is from join join.body
   join_is octets (Near agent) join read = choose_planned (λ mine. near_is agent join.body) (λ other. Refuses _)
-  join_is octets (Mesh origin) join read = choose_planned (λ center. choose_planned (λ mine. order_is join.body (λ index e. index_fits octets join index read e)) (λ other. carry_down_is join join.body)) (λ other. Refuses _)
+  join_is octets (Mesh origin) join read = choose_planned (λ coordinator. choose_planned (λ mine. order_is join.body (λ index e. index_fits octets join index read e)) (λ other. carry_down_is join join.body)) (λ other. Refuses _)
 
   join_in_is : (octets : List ℕ) (way : Way) (join : Option JoinMessage) → join_in octets ≡ join → Is (hear_join_in x m way join now)
   join_in_is octets way None read = Refuses _
@@ -295,11 +295,11 @@ module _ (eui : Eui) (old : ring.Ring) where
   no_changes r y (Draws index key w) h k = absurd w
   no_changes r y (Activates index w held) h k = absurd w
 
-  pub station_done : (took : Option Agreed) (g : Given) (m : Memory) (d : Doing Line) → old ≡ m.line.ring → IfSome m.line.ring IsReadable → PeerIs eui m.session → Made NoWord g (begun m.line) d → MeterDone eui old took (whole m d)
-  unfolding begun
+  pub station_done : (took : Option Agreed) (g : Given) (m : Memory) (d : Draft StationMemory) → old ≡ m.station.ring → IfSome m.station.ring IsReadable → PeerIs eui m.session → Made NoWord g (empty_draft m.station) d → MeterDone eui old took (whole m d)
+  unfolding empty_draft
   station_done took g m d same reads session made =
-      let t = made_tags NoWord g (begun m.line) d made in
-      let x = made_rung (From eui old []) NoWord g no_changes (begun m.line) d made (record { puts = tt; ring = subst (λ o. From eui o [] m.line.ring) (sym same) (held_from eui m.line.ring); reads = reads }) in
+      let t = made_tags NoWord g (empty_draft m.station) d made in
+      let x = made_rung (From eui old []) NoWord g no_changes (empty_draft m.station) d made (record { puts = tt; ring = subst (λ o. From eui o [] m.station.ring) (sym same) (held_from eui m.station.ring); reads = reads }) in
       record {
         puts = subst (λ o. RingWrites (From eui old o) d.puts) (sym t.1) x.puts;
         ring = subst (λ o. From eui old o d.memory.ring) (sym t.1) x.ring;
@@ -308,27 +308,27 @@ module _ (eui : Eui) (old : ring.Ring) where
         made = subst (Each (MeterTag eui took)) (sym t.0) tt;
       }
 
-handed_ring : (g : Given) (l n : Line) (a : Heard) → Handed g l n a → n.ring ≡ l.ring
+handed_ring : (g : Given) (l n : StationMemory) (a : Heard) → Handed g l n a → n.ring ≡ l.ring
 handed_ring g l n a (HandsUp by own mesh octets came here mine) = refl
 handed_ring g l n a (HandsOn x none) = refl
 handed_ring g l n a (Gathers by own mesh piece came here mine e) = refl
 handed_ring g l n a (Completes by own mesh piece note octets came here mine e) = refl
 
-pub handed_stays : (g : Given) (m : Memory) (n : Line) (a : Heard) → Handed g m.line n a → Stays m (with_line n m)
-handed_stays g m n a k = record { ring = handed_ring g m.line n a k; session = refl; book = refl }
+pub handed_stays : (g : Given) (m : Memory) (n : StationMemory) (a : Heard) → Handed g m.station n a → Stays m (with_station n m)
+handed_stays g m n a k = record { ring = handed_ring g m.station n a k; session = refl; book = refl }
 
-module _ (x : Identity) (m : Memory) (g : Given) (reads : IfSome m.line.ring IsReadable) (peer_is : PeerIs x.eui m.session)
+module _ (x : Identity) (m : Memory) (g : Given) (reads : IfSome m.station.ring IsReadable) (peer_is : PeerIs x.eui m.session)
     (granted_fits : (peer : Peer) (packet : List ℕ) (granted : Granted) → x.ciphers.third_fault x.psk peer packet ≡ None → x.ciphers.granted x.psk peer packet ≡ Some granted → IsReadable granted)
     (index_fits : (octets : List ℕ) (join : JoinMessage) (index : ℕ) → join_in octets ≡ Some join → join.body ≡ body.Activate index → index ≤ 1) where
-  heard_by_is : (p : Plan Line (Result Heard Dropped)) (u : Option Unread) → Planned alone dropped m.line (Handed g m.line) (MadeOf NoWord g m.line) p → Is x m g.now reads peer_is granted_fits index_fits (heard_by x m g.now p u)
+  heard_by_is : (p : Plan StationMemory (Result Heard Dropped)) (u : Option Unread) → Planned alone dropped m.station (Handed g m.station) (MadeOf NoWord g m.station) p → Is x m g.now reads peer_is granted_fits index_fits (heard_by x m g.now p u)
   unfolding resting
   heard_by_is p None (Refuses reason) = Refuses reason
-  heard_by_is p None (Keeps n answer k) = Keeps (with_line n m) (heard.Line answer) (handed_stays g m n answer k)
-  heard_by_is p None (Ended d answer done left) = Ended (whole m d) (heard.Line answer) (station_done x.eui m.line.ring None g m d refl reads peer_is done.0) left
+  heard_by_is p None (Keeps n answer k) = Keeps (with_station n m) (heard.Station answer) (handed_stays g m n answer k)
+  heard_by_is p None (Ended d answer done left) = Ended (whole m d) (heard.Station answer) (station_done x.eui m.station.ring None g m d refl reads peer_is done.0) left
   heard_by_is p (Some u) s = join_in_is x m g.now reads peer_is granted_fits index_fits u.body u.way (join_in u.body) refl
 
   pub meter_hears : (got : Accepted) → g.got ≡ Some got → Is x m g.now reads peer_is granted_fits index_fits (hear_meter x m got g.cost g.note g.now)
-  meter_hears got is = let p = station.hear m.line got g.cost g.note g.now in heard_by_is p (unread p.answer) (hear_is NoWord g m.line got is)
+  meter_hears got is = let p = station_rules.hear m.station got g.cost g.note g.now in heard_by_is p (unread p.answer) (hear_is NoWord g m.station got is)
 
 -- # Plans
 
@@ -338,68 +338,68 @@ pub record MeterPlan (eui : Eui) (old : ring.Ring) {A : Type 0} (took : Option A
   pub session : PeerIs eui p.memory.session
   pub made : Each (MeterTag eui took) p.made
 
-pub meter_plan : {H F : Type 0} (eui : Eui) (m : Memory) (ends : Ends F) (took : H → Option Agreed) (answered : Result H F → Option Agreed) → ((a : H) → answered (Ok a) ≡ took a) → IfSome m.line.ring IsReadable → PeerIs eui m.session
-    → (p : Plan Memory (Result H F)) → Planned in_memory ends m (λ n (a : H). Stays m n) (λ d (a : H). MeterDone eui m.line.ring (took a) d) p → MeterPlan eui m.line.ring (answered p.answer) p
+pub meter_plan : {H F : Type 0} (eui : Eui) (m : Memory) (ends : Ends F) (took : H → Option Agreed) (answered : Result H F → Option Agreed) → ((a : H) → answered (Ok a) ≡ took a) → IfSome m.station.ring IsReadable → PeerIs eui m.session
+    → (p : Plan Memory (Result H F)) → Planned in_memory ends m (λ n (a : H). Stays m n) (λ d (a : H). MeterDone eui m.station.ring (took a) d) p → MeterPlan eui m.station.ring (answered p.answer) p
 unfolding resting
 meter_plan eui m ends took answered same reads session p (Refuses reason) = record { puts = tt; session = session; made = tt }
 meter_plan eui m ends took answered same reads session p (Keeps n answer k) = record { puts = tt; session = subst (PeerIs eui) (sym k.session) session; made = tt }
 meter_plan eui m ends took answered same reads session p (Ended d answer done left) = record {
-  puts = writes_append (From eui m.line.ring d.opened) d.puts _ done.puts (counter_away (From eui m.line.ring d.opened) d.memory.line.counter (length d.units));
+  puts = writes_append (From eui m.station.ring d.opened) d.puts _ done.puts (counter_away (From eui m.station.ring d.opened) d.memory.station.counter (length d.units));
   session = done.session;
   made = subst (λ t. Each (MeterTag eui t) d.made) (sym (same answer)) done.made;
 }
 
 -- # What a meter does by itself
 
-asked_done : (eui : Eui) (m : Memory) (agent : ℕ) (own : Eui) (join : JoinMessage) (s : MeterSession) → s.peer ≡ None → IfSome m.line.ring IsReadable → MeterDone eui m.line.ring None (goes_up agent own join (remembered (with_session (Some s)) (begun m)))
-asked_done eui m agent own join s none reads = up eui m.line.ring None agent own join _ (with_done eui None m (with_session (Some s)) reads refl (subst (λ o. IfSome o (λ p. p.eui ≡ eui)) (sym none) tt))
+asked_done : (eui : Eui) (m : Memory) (agent : ℕ) (own : Eui) (join : JoinMessage) (s : MeterSession) → s.peer ≡ None → IfSome m.station.ring IsReadable → MeterDone eui m.station.ring None (goes_up agent own join (with_memory_by (with_session (Some s)) (empty_draft m)))
+asked_done eui m agent own join s none reads = up eui m.station.ring None agent own join _ (with_done eui None m (with_session (Some s)) reads refl (subst (λ o. IfSome o (λ p. p.eui ≡ eui)) (sym none) tt))
 
-asked_none : (m : Memory) (agent : ℕ) (own : Eui) (join : JoinMessage) (change : Memory → Memory) → (goes_up agent own join (remembered change (begun m))).units ≡ []
-unfolding begun remembered goes_up
+asked_none : (m : Memory) (agent : ℕ) (own : Eui) (join : JoinMessage) (change : Memory → Memory) → (goes_up agent own join (with_memory_by change (empty_draft m))).units ≡ []
+unfolding empty_draft with_memory_by goes_up
 asked_none m agent own join change = refl
 
 left_none : (m : Memory) → (leaves m).units ≡ []
-unfolding begun remembered on_line ringed
+unfolding empty_draft with_memory_by on_station with_ring
 left_none m = refl
 
 few_units : {A : Type 0} (units : List A) (n : ℕ) → units ≡ [] → length units ≤ n
 few_units units n e = rw e (omega arith)
 
-pub joins_plan : (x : Identity) (m : Memory) (agent now : ℕ) → IfSome m.line.ring IsReadable → PeerIs x.eui m.session → MeterPlan x.eui m.line.ring None (join x m agent now)
+pub joins_plan : (x : Identity) (m : Memory) (agent now : ℕ) → IfSome m.station.ring IsReadable → PeerIs x.eui m.session → MeterPlan x.eui m.station.ring None (join x m agent now)
 joins_plan x m agent now reads session = meter_plan x.eui m joining_ends (λ a. None) (λ a. None) (λ a. refl) reads session _
     (choose_planned (λ joined. Refuses _) (λ outside. sealing_planned _ tt (asked_done x.eui m agent x.eui _ (record { course = ByAgent agent; peer = None; since = now }) refl reads) (few_units _ _ (asked_none m agent x.eui _ _))))
 
-pub leaves_plan : (eui : Eui) (m : Memory) → IfSome m.line.ring IsReadable → PeerIs eui m.session → MeterPlan eui m.line.ring None (leave m)
+pub leaves_plan : (eui : Eui) (m : Memory) → IfSome m.station.ring IsReadable → PeerIs eui m.session → MeterPlan eui m.station.ring None (leave m)
 leaves_plan eui m reads session = meter_plan eui m leaving_ends (λ a. None) (λ a. None) (λ a. refl) reads session _
     (choose_planned (λ joined. sealing_planned (leaves m) tt (left_done eui None m) (few_units _ _ (left_none m))) (λ outside. Refuses _))
 
 pub joins_opened : (x : Identity) (m : Memory) (agent now : ℕ) → (join x m agent now).opened ≡ []
-unfolding choose begun remembered goes_up resting
-joins_opened x m agent now = by_joined (is_some m.line.ring)
+unfolding choose empty_draft with_memory_by goes_up resting
+joins_opened x m agent now = by_joined (is_some m.station.ring)
   where
-    by_joined : (b : Bool) → let p : Plan Memory (Result (Unit {0}) JoinRefusal) = (if b then refused joining_ends m AlreadyJoined else sealing in_memory joining_ends (goes_up agent x.eui (message x.eui (body.Join [])) (remembered (with_session (Some (record { course = ByAgent agent; peer = None; since = now }))) (begun m))) tt) in p.opened ≡ []
+    by_joined : (b : Bool) → let p : Plan Memory (Result (Unit {0}) JoinRefusal) = (if b then refused joining_ends m AlreadyJoined else sealing in_memory joining_ends (goes_up agent x.eui (message x.eui (body.Join [])) (with_memory_by (with_session (Some (record { course = ByAgent agent; peer = None; since = now }))) (empty_draft m))) tt) in p.opened ≡ []
     by_joined true = refl
     by_joined false = refl
 
 pub leaves_opened : (m : Memory) → (leave m).opened ≡ []
-unfolding choose begun remembered on_line ringed resting
-leaves_opened m = by_joined (is_some m.line.ring)
+unfolding choose empty_draft with_memory_by on_station with_ring resting
+leaves_opened m = by_joined (is_some m.station.ring)
   where
     by_joined : (b : Bool) → let p : Plan Memory (Result (Unit {0}) LeaveRefusal) = (if b then sealing in_memory leaving_ends (leaves m) tt else refused leaving_ends m leaving.NotJoined) in p.opened ≡ []
     by_joined true = refl
     by_joined false = refl
 
 pub joins_made : (x : Identity) (m : Memory) (agent now : ℕ) → (join x m agent now).made ≡ []
-unfolding choose begun remembered goes_up resting
-joins_made x m agent now = by_joined (is_some m.line.ring)
+unfolding choose empty_draft with_memory_by goes_up resting
+joins_made x m agent now = by_joined (is_some m.station.ring)
   where
-    by_joined : (b : Bool) → let p : Plan Memory (Result (Unit {0}) JoinRefusal) = (if b then refused joining_ends m AlreadyJoined else sealing in_memory joining_ends (goes_up agent x.eui (message x.eui (body.Join [])) (remembered (with_session (Some (record { course = ByAgent agent; peer = None; since = now }))) (begun m))) tt) in p.made ≡ []
+    by_joined : (b : Bool) → let p : Plan Memory (Result (Unit {0}) JoinRefusal) = (if b then refused joining_ends m AlreadyJoined else sealing in_memory joining_ends (goes_up agent x.eui (message x.eui (body.Join [])) (with_memory_by (with_session (Some (record { course = ByAgent agent; peer = None; since = now }))) (empty_draft m))) tt) in p.made ≡ []
     by_joined true = refl
     by_joined false = refl
 
 pub leaves_made : (m : Memory) → (leave m).made ≡ []
-unfolding choose begun remembered on_line ringed resting
-leaves_made m = by_joined (is_some m.line.ring)
+unfolding choose empty_draft with_memory_by on_station with_ring resting
+leaves_made m = by_joined (is_some m.station.ring)
   where
     by_joined : (b : Bool) → let p : Plan Memory (Result (Unit {0}) LeaveRefusal) = (if b then sealing in_memory leaving_ends (leaves m) tt else refused leaving_ends m leaving.NotJoined) in p.made ≡ []
     by_joined true = refl

@@ -29,12 +29,12 @@ use Rattle.group_keys.proofs.Books.{address_kept}
 use Rattle.node_rules.specs.declared.refusal.CoordinatorRefusal.{CoordinatorRefusal}
 use Rattle.node_rules.specs.declared.refusal.CoordinatorRefusal.TheVariants as refusal
 use Rattle.node_rules.specs.Plans.{resting}
-use Rattle.node_rules.specs.Doings.{Doing, begun, choose, refused, ringed, sealing}
-use Rattle.node_rules.specs.Holding.{in_memory}
+use Rattle.node_rules.specs.Drafts.{Draft, empty_draft, choose, refused, with_ring, sealing}
+use Rattle.node_rules.specs.MemoryDrafts.{in_memory}
 use Rattle.node_rules.specs.Meters.{provision}
-use Rattle.node_rules.specs.Coordinators.{grant_for, depot, depot_by, changed, entered, orders}
+use Rattle.node_rules.specs.Coordinators.{grant_for, depot, depot_by, changed, with_book_entry, orders}
 use Rattle.line_rules.specs.Worlds.{Issued, same_tag, is_forged_tag}
-use Rattle.node_rules.specs.NodeSteps.{Did, acts, stays, left_by}
+use Rattle.node_rules.specs.NodeSteps.{NodeStep, acts, stays, left_by}
 use Rattle.line_rules.specs.Steps.{issued_at, issued_by, issued_of}
 use Rattle.node_rules.proofs.Writing.{clean}
 use Rattle.line_laws.specs.Stores.{IsHeld, IsReadable, IsBookKept, IsKept}
@@ -45,7 +45,7 @@ use Rattle.line_laws.proofs.AddressPuts.{RingIn, RingWrites, Puts, counter_away,
 use Rattle.line_laws.proofs.AddressBook.{Grows, Grown, one_book}
 use Rattle.line_laws.proofs.IssueWords.{Among, Here, Each, Found, among_left, among_right, each_weaker, none_any, any_found}
 use Rattle.line_laws.proofs.IssueMeters.{IsSame, Held, Opened, From, PeerIs, MeterTag, Second, Fourth, MeterPlan}
-use Rattle.line_laws.proofs.IssueCenter.{CenterTag, ServerMac, Third}
+use Rattle.line_laws.proofs.IssueCoordinator.{CoordinatorTag, ServerMac, Third}
 
 -- # What was given
 
@@ -178,7 +178,7 @@ meter_tag : (b : book.Book) (given : List Issued) (eui : Eui) (took : Option Agr
 meter_tag b given eui took t (Second octets) = tt
 meter_tag b given eui took t (Fourth i s p e) = λ k. absurd (cc)
 
-pub record MeterDid (b : book.Book) (given : List Issued) (x : Node) {A : Type 0} (d : Did A) : Type 0 where
+pub record MeterDid (b : book.Book) (given : List Issued) (x : Node) {A : Type 0} (d : NodeStep A) : Type 0 where
   pub node : MeterOk b given d.node
   pub eui : d.node.eui ≡ x.eui
   pub role : d.node.role ≡ x.role
@@ -186,7 +186,7 @@ pub record MeterDid (b : book.Book) (given : List Issued) (x : Node) {A : Type 0
 
 module _ (b : book.Book) (given : List Issued) where
   pub meter_acts : {A : Type 0} (x : Node) (halted : A) (plan : Memory → Plan Memory A) (made : List PairTag) → NodeOk x → MeterOk b given x → Each (TagOk b given) made → AllMade made (acts x halted plan).opened
-      → (took : A → Option Agreed) → ((m : Memory) → x.memory ≡ Some m → IsKept x.role m x.store.records → PeerIs x.eui m.session → MeterPlan x.eui m.line.ring (took (plan m).answer) (plan m)) → MeterDid b given x (acts x halted plan)
+      → (took : A → Option Agreed) → ((m : Memory) → x.memory ≡ Some m → IsKept x.role m x.store.records → PeerIs x.eui m.session → MeterPlan x.eui m.station.ring (took (plan m).answer) (plan m)) → MeterDid b given x (acts x halted plan)
   unfolding acts
   meter_acts {A = A} x halted plan made ok h each right took f = by_memory x.memory refl ok.kept h.session right
     where
@@ -194,11 +194,11 @@ module _ (b : book.Book) (given : List Issued) where
           → MeterDid b given x (left_by x (carry_out x.store.records x.store.cut (plan m)))
       by_outcome m there kept session all =
           let p = f m there kept session in
-          let old : RingOk b given x.eui m.line.ring = h.ring m.line.ring kept.line.ring.stored in
+          let old : RingOk b given x.eui m.station.ring = h.ring m.station.ring kept.station.ring.stored in
           let o : Outcome Memory A = carry_out x.store.records x.store.cut (plan m) in
           let c = clean x.store.records x.store.cut (plan m) in
           let opened : o.opened ≡ (plan m).opened = ⊎_elim (λ (w : IsWhole x.store.records x.store.cut (plan m) o). w.opened) (λ (w : IsCutOff x.store.records x.store.cut (plan m) o). w.opened) c in
-          let puts = writes_weaker (From x.eui m.line.ring (plan m).opened) (RingOk b given x.eui) (from_ok b given x.eui m.line.ring made (plan m).opened old (subst (AllMade made) opened all) each) (plan m).puts p.puts in
+          let puts = writes_weaker (From x.eui m.station.ring (plan m).opened) (RingOk b given x.eui) (from_ok b given x.eui m.station.ring made (plan m).opened old (subst (AllMade made) opened all) each) (plan m).puts p.puts in
           record {
             node = record {
               ring = carried_in (RingOk b given x.eui) x.store.records x.store.cut (plan m) puts h.ring;
@@ -224,13 +224,13 @@ pub record MeterSound (b : book.Book) (given : List Issued) (eui : Eui) {A : Typ
 
 module _ (b : book.Book) (given : List Issued) where
   pub sound_acts : {A : Type 0} (x : Node) (halted : A) (plan : Memory → Plan Memory A) → NodeOk x → RingIn (RingOk b given x.eui) x.store.records → IfSome x.memory (λ m. PeerIs x.eui m.session)
-      → ((m : Memory) → x.memory ≡ Some m → IsKept x.role m x.store.records → PeerIs x.eui m.session → RingOk b given x.eui m.line.ring → MeterSound b given x.eui (plan m)) → MeterDid b given x (acts x halted plan)
+      → ((m : Memory) → x.memory ≡ Some m → IsKept x.role m x.store.records → PeerIs x.eui m.session → RingOk b given x.eui m.station.ring → MeterSound b given x.eui (plan m)) → MeterDid b given x (acts x halted plan)
   unfolding acts
   sound_acts {A = A} x halted plan ok rings peer f = by_memory x.memory refl ok.kept peer
     where
       by_outcome : (m : Memory) → x.memory ≡ Some m → IsKept x.role m x.store.records → PeerIs x.eui m.session → MeterDid b given x (left_by x (carry_out x.store.records x.store.cut (plan m)))
       by_outcome m there kept session =
-          let p = f m there kept session (rings m.line.ring kept.line.ring.stored) in
+          let p = f m there kept session (rings m.station.ring kept.station.ring.stored) in
           let o : Outcome Memory A = carry_out x.store.records x.store.cut (plan m) in
           let c = clean x.store.records x.store.cut (plan m) in
           record {
@@ -255,24 +255,24 @@ module _ (b : book.Book) (given : List Issued) where
 abbrev pub Nought : ring.Ring → Type 0
 Nought x = IfSome x (λ g. g.address ≡ 0)
 
-pub record CenterOk (b : book.Book) (c : Node) : Type 0 where
+pub record CoordinatorOk (b : book.Book) (c : Node) : Type 0 where
   pub role : c.role ≡ Coordinator
   pub book_kept : IsBookKept b c.store.records
   pub ring : RingIn Nought c.store.records
 
 -- What a node did as the coordinator: the book has grown, and its tags are of what was issued.
-pub record CenterDid (b : book.Book) (given more : List Issued) (x : Node) {A : Type 0} (d : Did A) : Type 0 where
+pub record CoordinatorDid (b : book.Book) (given more : List Issued) (x : Node) {A : Type 0} (d : NodeStep A) : Type 0 where
   pub book : book.Book
-  pub node : CenterOk book d.node
+  pub node : CoordinatorOk book d.node
   pub grows : Grows b book
   pub eui : d.node.eui ≡ x.eui
   pub made : Each (TagOk book (given ++ more)) d.made
 
 -- What a plan of the coordinator does.
-pub record CenterPlan (b : book.Book) (m : Memory) (keyed : Option SentGrant) {A : Type 0} (p : Plan Memory A) : Type 0 where
+pub record CoordinatorPlan (b : book.Book) (m : Memory) (keyed : Option SentGrant) {A : Type 0} (p : Plan Memory A) : Type 0 where
   pub leads : Leads (Grown b) m p.puts p.memory
   pub ring : RingWrites Nought p.puts
-  pub made : Each (CenterTag m keyed) p.made
+  pub made : Each (CoordinatorTag m keyed) p.made
 
 at_index : (given : List Issued) (eui : Eui) (g : Granted) (key : Key) → g.key0 ≡ Some key → IsGivenTo (given ++ issued_by eui g) eui 0 key
 at_index given eui g key e =
@@ -306,34 +306,34 @@ granted_address r b eui g = by_place (book.address_of b eui) r
     by_place (Some a) None e = absurd (cc)
     by_place (Some a) (Some x) e = let same : record x { address = a } ≡ g = same_Some _ _ e in ap (λ (y : Granted). Some y.address) same
 
-center_tag : (b c : book.Book) (given : List Issued) (m : Memory) (keyed : Option SentGrant) → IfSome m.line.ring IsReadable → length m.book ≤ 999 → m.book ≡ b → Grows b c → (t : PairTag) → CenterTag m keyed t → TagOk c (given ++ issued_of keyed) t
-center_tag b c given m keyed reads short same grows t (ServerMac eui octets) = tt
-center_tag b c given m keyed reads short same grows t (Third eui i s p granted is grant) = λ e.
-    let address : book.address_of m.book eui ≡ Some granted.address = granted_address m.line.ring m.book eui granted grant in
+coordinator_tag : (b c : book.Book) (given : List Issued) (m : Memory) (keyed : Option SentGrant) → IfSome m.station.ring IsReadable → length m.book ≤ 999 → m.book ≡ b → Grows b c → (t : PairTag) → CoordinatorTag m keyed t → TagOk c (given ++ issued_of keyed) t
+coordinator_tag b c given m keyed reads short same grows t (ServerMac eui octets) = tt
+coordinator_tag b c given m keyed reads short same grows t (Third eui i s p granted is grant) = λ e.
+    let address : book.address_of m.book eui ≡ Some granted.address = granted_address m.station.ring m.book eui granted grant in
     let keys = issued_keys given eui granted in
     record {
       granted = granted;
       is = refl;
-      readable = granted_readable m.line.ring m.book eui granted reads short grant;
+      readable = granted_readable m.station.ring m.book eui granted reads short grant;
       right = subst (λ o. GrantOk c (given ++ issued_of o) eui granted) (sym is) (record { address = grows eui granted.address (subst (λ x. book.address_of x eui ≡ Some granted.address) same address); key0 = keys.0; key1 = keys.1 });
     }
 
 module _ (b : book.Book) (given : List Issued) where
-  pub center_acts : {A : Type 0} (x : Node) (halted : A) (plan : Memory → Plan Memory A) (more : List Issued) → NodeOk x → CenterOk b x
+  pub coordinator_acts : {A : Type 0} (x : Node) (halted : A) (plan : Memory → Plan Memory A) (more : List Issued) → NodeOk x → CoordinatorOk b x
       → (keyed : A → Option SentGrant) → ((m : Memory) → x.memory ≡ Some m → (acts x halted plan).answer ≡ (plan m).answer → issued_of (keyed (plan m).answer) ≡ more)
-      → ((m : Memory) → x.memory ≡ Some m → IsKept Coordinator m x.store.records → CenterPlan b m (keyed (plan m).answer) (plan m)) → CenterDid b given more x (acts x halted plan)
+      → ((m : Memory) → x.memory ≡ Some m → IsKept Coordinator m x.store.records → CoordinatorPlan b m (keyed (plan m).answer) (plan m)) → CoordinatorDid b given more x (acts x halted plan)
   unfolding acts
-  center_acts {A = A} x halted plan more ok h keyed said f = by_memory x.memory refl (subst (λ role. Left (IsKept role) x.store.records x.memory) h.role ok.kept) said
+  coordinator_acts {A = A} x halted plan more ok h keyed said f = by_memory x.memory refl (subst (λ role. Left (IsKept role) x.store.records x.memory) h.role ok.kept) said
     where
-      book_of : (o : Outcome Memory A) → Left (Grown b) o.records o.memory → RingIn Nought o.records → (made : (c : book.Book) → Grows b c → Each (TagOk c (given ++ more)) o.made) → CenterDid b given more x (left_by x o)
+      book_of : (o : Outcome Memory A) → Left (Grown b) o.records o.memory → RingIn Nought o.records → (made : (c : book.Book) → Grows b c → Each (TagOk c (given ++ more)) o.made) → CoordinatorDid b given more x (left_by x o)
       book_of o left ring made = by_left o.memory left
         where
-          by_left : (q : Option Memory) → Left (Grown b) o.records q → CenterDid b given more x (left_by x o)
+          by_left : (q : Option Memory) → Left (Grown b) o.records q → CoordinatorDid b given more x (left_by x o)
           by_left None k = record { book = k.memory.book; node = record { role = h.role; book_kept = k.kept.kept.book; ring = ring }; grows = k.kept.grows; eui = refl; made = made k.memory.book k.kept.grows }
           by_left (Some n) k = record { book = n.book; node = record { role = h.role; book_kept = k.kept.book; ring = ring }; grows = k.grows; eui = refl; made = made n.book k.grows }
 
       by_outcome : (m : Memory) → x.memory ≡ Some m → IsKept Coordinator m x.store.records → ((carry_out x.store.records x.store.cut (plan m)).answer ≡ (plan m).answer → issued_of (keyed (plan m).answer) ≡ more)
-          → CenterDid b given more x (left_by x (carry_out x.store.records x.store.cut (plan m)))
+          → CoordinatorDid b given more x (left_by x (carry_out x.store.records x.store.cut (plan m)))
       by_outcome m there kept said =
           let p = f m there kept in
           let o : Outcome Memory A = carry_out x.store.records x.store.cut (plan m) in
@@ -343,12 +343,12 @@ module _ (b : book.Book) (given : List Issued) where
           book_of o (carried (Grown b) x.store.records x.store.cut (plan m) m old p.leads) (carried_in Nought x.store.records x.store.cut (plan m) p.ring h.ring)
           (λ d grows. ⊎_elim
           (λ (w : IsWhole x.store.records x.store.cut (plan m) o). subst (Each (TagOk d (given ++ more))) (sym w.made)
-          (each_weaker (CenterTag m (keyed (plan m).answer)) (TagOk d (given ++ more)) (λ t k. subst (λ l. TagOk d (given ++ l) t) (said w.answer) (center_tag b d given m (keyed (plan m).answer) kept.line.range.ring kept.book.table.short same grows t k)) (plan m).made p.made))
+          (each_weaker (CoordinatorTag m (keyed (plan m).answer)) (TagOk d (given ++ more)) (λ t k. subst (λ l. TagOk d (given ++ l) t) (said w.answer) (coordinator_tag b d given m (keyed (plan m).answer) kept.station.range.ring kept.book.table.short same grows t k)) (plan m).made p.made))
           (λ (w : IsCutOff x.store.records x.store.cut (plan m) o). subst (Each (TagOk d (given ++ more))) (sym w.made) tt) c)
 
       by_memory : (q : Option Memory) → x.memory ≡ q → Left (IsKept Coordinator) x.store.records q
           → ((m : Memory) → q ≡ Some m → (option_map_or (λ m. left_by x (carry_out x.store.records x.store.cut (plan m))) q (stays x halted)).answer ≡ (plan m).answer → issued_of (keyed (plan m).answer) ≡ more)
-          → CenterDid b given more x (option_map_or (λ m. left_by x (carry_out x.store.records x.store.cut (plan m))) q (stays x halted))
+          → CoordinatorDid b given more x (option_map_or (λ m. left_by x (carry_out x.store.records x.store.cut (plan m))) q (stays x halted))
       by_memory None there kept said = record { book = b; node = h; grows = λ eui a e. e; eui = refl; made = tt }
       by_memory (Some m) there kept said = by_outcome m there kept (said m refl)
 
@@ -406,24 +406,24 @@ module _ (m : Memory) (eui : Eui) (psk : Key) (g : Granted) where
       not_ok : (s : CoordinatorRefusal) (a : Granted) → Err s ≡ Ok a → ⊥
       not_ok s a e = cc
 
-  entered_address : (d : Doing Memory) (granted : Granted) (e : BookEntry) → book.address_of d.memory.book eui ≡ Some granted.address → book.address_of (entered e d).memory.book eui ≡ Some granted.address
-  unfolding entered
+  entered_address : (d : Draft Memory) (granted : Granted) (e : BookEntry) → book.address_of d.memory.book eui ≡ Some granted.address → book.address_of (with_book_entry e d).memory.book eui ≡ Some granted.address
+  unfolding with_book_entry
   entered_address d granted e h = address_kept d.memory.book e eui granted.address h
 
-  by_doing : (d : Doing Memory) → (depot_by m eui psk d).answer ≡ Ok g → book.address_of (depot_by m eui psk d).memory.book eui ≡ Some g.address
+  by_doing : (d : Draft Memory) → (depot_by m eui psk d).answer ≡ Ok g → book.address_of (depot_by m eui psk d).memory.book eui ≡ Some g.address
   by_doing d = by_grant (grant_for d.memory eui) refl
     where
       by_entry : (granted : Granted) (o : Option BookEntry) → grant_for d.memory eui ≡ Some granted
-          → let p : Plan Memory (Result Granted CoordinatorRefusal) = option_map_or (λ e. sealing in_memory orders (entered (book.issued_entry eui granted e) d) granted) o (refused orders m refusal.MetersFull) in
+          → let p : Plan Memory (Result Granted CoordinatorRefusal) = option_map_or (λ e. sealing in_memory orders (with_book_entry (book.issued_entry eui granted e) d) granted) o (refused orders m refusal.MetersFull) in
           p.answer ≡ Ok g → book.address_of p.memory.book eui ≡ Some g.address
       by_entry granted None is e = absurd (refused_not _ e)
       by_entry granted (Some x) is e =
           let this : granted ≡ g = cc in
-          subst (λ (y : Granted). book.address_of (entered (book.issued_entry eui granted x) d).memory.book eui ≡ Some y.address) this
-          (entered_address d granted (book.issued_entry eui granted x) (granted_address d.memory.line.ring d.memory.book eui granted is))
+          subst (λ (y : Granted). book.address_of (with_book_entry (book.issued_entry eui granted x) d).memory.book eui ≡ Some y.address) this
+          (entered_address d granted (book.issued_entry eui granted x) (granted_address d.memory.station.ring d.memory.book eui granted is))
 
       by_grant : (o : Option Granted) → grant_for d.memory eui ≡ o
-          → let p : Plan Memory (Result Granted CoordinatorRefusal) = option_map_or (λ granted. option_map_or (λ e. sealing in_memory orders (entered (book.issued_entry eui granted e) d) granted) (book.allowed_one d.memory.book eui) (refused orders m refusal.MetersFull)) o (refused orders m refusal.MetersFull) in
+          → let p : Plan Memory (Result Granted CoordinatorRefusal) = option_map_or (λ granted. option_map_or (λ e. sealing in_memory orders (with_book_entry (book.issued_entry eui granted e) d) granted) (book.allowed_one d.memory.book eui) (refused orders m refusal.MetersFull)) o (refused orders m refusal.MetersFull) in
           p.answer ≡ Ok g → book.address_of p.memory.book eui ≡ Some g.address
       by_grant None is e = absurd (refused_not _ e)
       by_grant (Some granted) is e = by_entry granted (book.allowed_one d.memory.book eui) is e
@@ -439,9 +439,9 @@ module _ (m : Memory) (eui : Eui) (psk : Key) (g : Granted) where
 
 -- the grant of the workshop is installed
 pub installs_ring : (S : ring.Ring → Type 0) (m : Memory) (g : Granted) → IsReadable g → S (Some g) → RingWrites S (provision m g).puts
-unfolding begun ringed
-installs_ring S m g readable s = (Puts (Some g) readable s, counter_away S m.line.counter 0)
+unfolding empty_draft with_ring
+installs_ring S m g readable s = (Puts (Some g) readable s, counter_away S m.station.counter 0)
 
 pub installs_rest : (m : Memory) (g : Granted) → ((provision m g).memory.session ≡ m.session) × ((provision m g).made ≡ [])
-unfolding begun ringed
+unfolding empty_draft with_ring
 installs_rest m g = (refl, refl)

@@ -13,7 +13,7 @@ use Rattle.group_keys.specs.KeyBook as books
 use Rattle.node_rules.specs.Ciphers.{Ciphers}
 use Rattle.line_rules.specs.Events.{IsEvent, IsEui}
 use Rattle.node_rules.specs.Memory.{Memory, Role, Coordinator, Meter, Node}
-use Rattle.line_rules.specs.Worlds.{World, Issued, Deeds, node_at, start}
+use Rattle.line_rules.specs.Worlds.{World, Issued, Trace, node_at, start}
 use Rattle.line_rules.specs.Steps.{Step}
 use Rattle.line_rules.specs.Runs.{Entry, IsRun, all_of, issued, IsIssued, HoldsIssued, HasIssuedKeys, HasOnlyIssuedKeys}
 use Rattle.line_laws.specs.Stores.{IsKept}
@@ -81,17 +81,17 @@ all_from P xs f k d lt = f k (get_or xs k d) (slice_get-get_or xs k d lt)
 module _ (w : World) (given : List Issued) (ok : WorldOk w) (k : Keyed w given) (names : Each IsNamed given) where
   node_holds : (n : ℕ) (x : Node) → node_at w n ≡ Some x → HasIssuedKeys given x.eui x.role x.memory
   node_holds n x there = ⊎_elim
-      (λ (e : n ≡ 0). center x.role ((k.center x (ap (slice_get w.nodes) (sym e) ∙ there)).role))
+      (λ (e : n ≡ 0). coordinator x.role ((k.coordinator x (ap (slice_get w.nodes) (sym e) ∙ there)).role))
       (λ (ne : n ≢ 0). meter (k.meters n x ne there) x.role x.memory (at_place NodeOk w.nodes n x there ok.nodes).kept) (cases_eq n 0)
     where
-      center : (role : Role) → role ≡ Coordinator → HasIssuedKeys given x.eui role x.memory
-      center Coordinator e = tt
-      center (Meter psk) e = absurd (cc)
+      coordinator : (role : Role) → role ≡ Coordinator → HasIssuedKeys given x.eui role x.memory
+      coordinator Coordinator e = tt
+      coordinator (Meter psk) e = absurd (cc)
 
       meter : MeterOk k.book given x → (role : Role) (o : Option Memory) → Left (IsKept role) x.store.records o → HasIssuedKeys given x.eui role o
       meter h Coordinator o q = tt
       meter h (Meter psk) None q = tt
-      meter h (Meter psk) (Some m) q = holds k.book given names x.eui (k.named n x there) m.line.ring (h.ring m.line.ring q.line.ring.stored)
+      meter h (Meter psk) (Some m) q = holds k.book given names x.eui (k.named n x there) m.station.ring (h.ring m.station.ring q.station.ring.stored)
 
   pub world_holds : HasOnlyIssuedKeys given w
   world_holds = all_from (λ (x : Node). HasIssuedKeys given x.eui x.role x.memory) w.nodes node_holds
@@ -101,7 +101,7 @@ module _ (w : World) (given : List Issued) (ok : WorldOk w) (k : Keyed w given) 
 pub start_keyed : Keyed start []
 start_keyed = record {
   book = [];
-  center = λ c e. absurd (cc);
+  coordinator = λ c e. absurd (cc);
   meters = λ n x ne e. absurd (none n x e);
   made = tt;
   roles = λ n x ne e. absurd (none n x e);
@@ -121,15 +121,15 @@ pub kept : (w : World) (given : List Issued) (s : Step) → StepKeyed w given s 
 kept w given s (Fails fault) = tt
 kept w given s (Taken r f) = f
 
-pub all_of_one : {A : Type 0} (told : Deeds → List A) (xs : List Entry) (x : Entry) → all_of told (xs ++ x ∷ []) ≡ all_of told xs ++ told x.deeds
-all_of_one told [] x = append-nil (told x.deeds)
-all_of_one told (y ∷ ys) x = ap (λ zs. told y.deeds ++ zs) (all_of_one told ys x) ∙ sym (append_assoc (told y.deeds) (all_of told ys) (told x.deeds))
+pub all_of_one : {A : Type 0} (told : Trace → List A) (xs : List Entry) (x : Entry) → all_of told (xs ++ x ∷ []) ≡ all_of told xs ++ told x.trace
+all_of_one told [] x = append-nil (told x.trace)
+all_of_one told (y ∷ ys) x = ap (λ zs. told y.trace ++ zs) (all_of_one told ys x) ∙ sym (append_assoc (told y.trace) (all_of told ys) (told x.trace))
 
 abbrev pub EntryFlies : Entry → Type 0
 EntryFlies x = All FlightFits x.after.flights
 
 abbrev EntryNamed : Entry → Type 0
-EntryNamed x = All IsNamed x.deeds.issued
+EntryNamed x = All IsNamed x.trace.issued
 
 pub only_from : (ciphers : Ciphers) → KeepsRanges ciphers → (w : World) → WorldOk w → All FlightFits w.flights → (before : List Entry) → Keyed w (issued before) → Each IsNamed (issued before)
     → (entries : List Entry) → AreSaid entries → FlightsAreOctets entries → IssuedAreNamed entries → IsRun ciphers w entries → IsIssuedAfter before entries
@@ -138,9 +138,9 @@ only_from ciphers fits w ok flown before k names (x ∷ xs) says fly named run =
     let event = All-head (λ (y : Entry). IsEvent y.event) x xs says in
     let g = taken_good ciphers fits w ok flown x event run.2 in
     let same = all_of_one (λ d. d.issued) before x in
-    let next : Keyed x.after (issued before ++ x.deeds.issued) = subst (Kept (issued before)) run.2 (kept w (issued before) _ (step_keyed ciphers fits w ok flown (issued before) k x.event event)) honest in
+    let next : Keyed x.after (issued before ++ x.trace.issued) = subst (Kept (issued before)) run.2 (kept w (issued before) _ (step_keyed ciphers fits w ok flown (issued before) k x.event event)) honest in
     let k' : Keyed x.after (issued (before ++ x ∷ [])) = subst (Keyed x.after) (sym same) next in
-    let names' : Each IsNamed (issued (before ++ x ∷ [])) = subst (Each IsNamed) (sym same) (each_append IsNamed (issued before) x.deeds.issued names (each_from IsNamed x.deeds.issued (All-head EntryNamed x xs named))) in (
+    let names' : Each IsNamed (issued (before ++ x ∷ [])) = subst (Each IsNamed) (sym same) (each_append IsNamed (issued before) x.trace.issued names (each_from IsNamed x.trace.issued (All-head EntryNamed x xs named))) in (
       world_holds x.after (issued (before ++ x ∷ [])) g.0 k' names',
       only_from ciphers fits x.after g.0 (All-head EntryFlies x xs fly) (before ++ x ∷ []) k' names' xs (All-tail (λ (y : Entry). IsEvent y.event) x xs says) (All-tail EntryFlies x xs fly) (All-tail EntryNamed x xs named) run.3,
     )

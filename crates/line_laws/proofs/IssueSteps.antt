@@ -33,35 +33,35 @@ use Rattle.node_rules.specs.declared.refusal.LeaveRefusal.TheVariants as leaves
 use Rattle.node_rules.specs.declared.refusal.SendRefusal.TheVariants as sends
 use Rattle.node_rules.specs.Ciphers.{Ciphers}
 use Rattle.node_rules.specs.Frames.{arrived}
-use Rattle.node_rules.specs.Memory.{Line, Memory, Role, Coordinator, Meter, Node, address_of, node_address}
+use Rattle.node_rules.specs.Memory.{StationMemory, Memory, Role, Coordinator, Meter, Node, address_of, node_address}
 use Rattle.node_rules.specs.Plans.{Plan, resting, within}
 use Rattle.node_rules.specs.Accepting.{accept}
 use Rattle.node_rules.specs.Calls as calls
 use Rattle.node_rules.specs.Meters as meters
 use Rattle.node_rules.specs.Coordinators as coordinator_rules
-use Rattle.node_rules.specs.Opening.{first_grant, remembering, memory_of}
+use Rattle.node_rules.specs.StoreReading.{first_grant, remembering, memory_of}
 use Rattle.line_rules.specs.Answers.{Reception, meter_reception, coordinator_reception, random_word, join_word, leave_word, sent_word, ordered_word, frame_word}
 use Rattle.group_keys.specs.declared.fault.RingFault.TheVariants.{Store as RingStore}
-use Rattle.node_rules.specs.Doings.{choose, begun, ringed}
-use Rattle.node_rules.specs.Holding.{with_line}
+use Rattle.node_rules.specs.Drafts.{choose, empty_draft, with_ring}
+use Rattle.node_rules.specs.MemoryDrafts.{with_station}
 use Rattle.line_rules.specs.Events.{IsEvent}
-use Rattle.line_rules.specs.Worlds.{World, Flight, Deeds, node_at, flight_at, is_forged_tag}
-use Rattle.line_rules.specs.Steps.{Step, set_up, ran, told, acted, once_begun, in_setup, has_begun, takes_setup, on_node, on_meter, blank_node, identity, hears, restarts, memory_by, ticked, rand, join, joins_by, leave, send, sends_by, sent_if, breaks, breaks_by, lose, tick, restart, cut, show, psk_of, deeds, happened, coordinator, coordinator_node, meter, is_known, depot, depot_by, near, near_by, keeps_rank, ranks_full, offered_near, preset, allow, allowed, deliver, inject, arrives, accepted_by, received, by_coordinator, forged_by, note_by, rekey, challenge, activate, kick, step}
-use Rattle.node_rules.specs.NodeSteps.{Did, acts, stays, answering, of_line}
+use Rattle.line_rules.specs.Worlds.{World, Flight, Trace, node_at, flight_at, is_forged_tag}
+use Rattle.line_rules.specs.Steps.{Step, set_up, ran, told, acted, once_begun, in_setup, has_begun, takes_setup, on_node, on_meter, blank_node, identity, hears, restarts, memory_by, ticked, rand, join, joins_by, leave, send, sends_by, sent_if, breaks, breaks_by, lose, tick, restart, cut, show, psk_of, trace_of, happened, coordinator, coordinator_node, meter, is_known, depot, depot_by, near, near_by, keeps_rank, ranks_full, offered_near, preset, allow, allowed, deliver, inject, arrives, accepted_by, received, by_coordinator, forged_by, note_by, rekey, challenge, activate, kick, step}
+use Rattle.node_rules.specs.NodeSteps.{NodeStep, acts, stays, answering, of_station}
 use Rattle.plc_base.specs.declared.tags.PairTag.{PairTag}
 use Rattle.std.proofs.Common.{append-nil}
 use Rattle.node_rules.specs.declared.heard.Heard.{Heard}
-use Rattle.node_rules.specs.declared.heard.Heard.TheVariants as line_heard
+use Rattle.node_rules.specs.declared.heard.Heard.TheVariants as station_heard
 use Rattle.node_rules.specs.declared.heard.MeterHeard.{MeterHeard}
 use Rattle.node_rules.specs.declared.heard.MeterHeard.TheVariants as meter_heard
 use Rattle.node_rules.specs.declared.heard.CoordinatorHeard.{CoordinatorHeard}
 use Rattle.node_rules.specs.declared.heard.CoordinatorHeard.TheVariants as coordinator_heard
 use Rattle.node_rules.specs.declared.refusal.Dropped.{Dropped}
-use Rattle.line_rules.specs.Answers.{line_reception}
+use Rattle.line_rules.specs.Answers.{station_reception}
 use Rattle.line_rules.specs.Worlds.{Issued}
 use Rattle.line_rules.specs.Steps.{issued_of, issued_by}
 use Rattle.plc_base.specs.declared.keeper.BadStore.{BadStore}
-use Rattle.node_rules.specs.Opening.{line_of, reading}
+use Rattle.node_rules.specs.StoreReading.{station_of, reading}
 use Rattle.node_rules.specs.Hearing.{dropped}
 use Rattle.node_rules.specs.Memory.{MeterSession}
 use Rattle.line_laws.specs.Stores.{IsReadable, IsKept, IsBookKept}
@@ -71,10 +71,10 @@ use Rattle.line_laws.proofs.Readings.{join_ranges}
 use Rattle.line_laws.proofs.Keeping.{Left}
 use Rattle.line_laws.proofs.Nodes.{NodeOk}
 use Rattle.line_laws.proofs.NodeCalls.{RoutesFit, no_some, heard_given}
-use Rattle.line_laws.proofs.CenterCalls.{accept_ok, accept_failed, accepted_routes, depot_ok, depot_failed}
+use Rattle.line_laws.proofs.CoordinatorCalls.{accept_ok, accept_failed, accepted_routes, depot_ok, depot_failed}
 use Rattle.line_laws.proofs.StoreMarks.{accept_is}
 use Rattle.line_laws.proofs.Answered.{acts_answered, depot_grants}
-use Rattle.line_laws.proofs.StepsOk.{blank_ok, begin_ok, center_acts as center_ok}
+use Rattle.line_laws.proofs.StepsOk.{blank_ok, begin_ok, coordinator_acts as coordinator_ok}
 use Rattle.plc_base.proofs.SlotTables.{slice_get-push}
 use Rattle.line_laws.proofs.Nodes.{DidOk, acts_ok}
 use Rattle.line_laws.proofs.Worlds.{NodeFits, FlightFits, WorldOk, at_place}
@@ -82,35 +82,35 @@ use Rattle.line_laws.proofs.AddressPuts.{RingIn, RingWrites, Puts, counter_away}
 use Rattle.line_laws.proofs.AddressBook.{one_book}
 use Rattle.line_laws.proofs.IssueWords.{Among, Each, none_among}
 use Rattle.line_laws.proofs.IssueMeters.{PeerIs, MeterPlan, took_in, meter_plan, meter_hears, joins_plan, leaves_plan, joins_opened, leaves_opened}
-use Rattle.line_laws.proofs.IssueCenter.{keyed_in, done_in}
-use Rattle.line_laws.proofs.IssueNodes.{RingOk, TagOk, MeterOk, MeterDid, Nought, CenterOk, CenterDid, CenterPlan, meter_acts, sound_acts, center_acts, all_made, acts_opened, acts_ring, acts_whole, depot_address, installs_ring, installs_rest, issued_keys}
-use Rattle.line_laws.proofs.IssueCalls.{Quietly, quiet_center, send_quietly, near_quietly, counter_quietly, number_quietly, broke_quietly, random_quietly, accept_quietly, hears_center, allow_center, depot_center, rekey_center, activate_self_center, challenge_center, activate_center, kick_center}
-use Rattle.line_laws.proofs.IssueWorlds.{Keyed, IsMeter, same_keyed, told_meter, told_center, told_here, keyed_more}
+use Rattle.line_laws.proofs.IssueCoordinator.{keyed_in, done_in}
+use Rattle.line_laws.proofs.IssueNodes.{RingOk, TagOk, MeterOk, MeterDid, Nought, CoordinatorOk, CoordinatorDid, CoordinatorPlan, meter_acts, sound_acts, coordinator_acts, all_made, acts_opened, acts_ring, acts_whole, depot_address, installs_ring, installs_rest, issued_keys}
+use Rattle.line_laws.proofs.IssueCalls.{Quietly, quiet_coordinator, send_quietly, near_quietly, counter_quietly, number_quietly, broke_quietly, random_quietly, accept_quietly, hears_coordinator, allow_coordinator, depot_coordinator, rekey_coordinator, activate_self_coordinator, challenge_coordinator, activate_coordinator, kick_coordinator}
+use Rattle.line_laws.proofs.IssueWorlds.{Keyed, IsMeter, same_keyed, told_meter, told_coordinator, told_here, keyed_more}
 use Rattle.node_rules.specs.Accepting.{same_eui}
 use Rattle.line_rules.specs.Events.{IsEui}
 
 pub data StepKeyed (w : World) (given : List Issued) : Step → Type 0 where
   Fails : (fault : StepFault) → StepKeyed w given (Err fault)
-  Taken : (r : World × Deeds) → (r.1.happened.forged ≡ false → Keyed r.0 (given ++ r.1.issued)) → StepKeyed w given (Ok r)
+  Taken : (r : World × Trace) → (r.1.happened.forged ≡ false → Keyed r.0 (given ++ r.1.issued)) → StepKeyed w given (Ok r)
 
 -- the answer does not matter
-told_as : {A B : Type 0} (ciphers : Ciphers) (w : World) (number : ℕ) (reads : A → B) (d : Did A) (given : List Issued) → Keyed (told ciphers w number d) given → Keyed (told ciphers w number (answering reads d)) given
+told_as : {A B : Type 0} (ciphers : Ciphers) (w : World) (number : ℕ) (reads : A → B) (d : NodeStep A) (given : List Issued) → Keyed (told ciphers w number d) given → Keyed (told ciphers w number (answering reads d)) given
 unfolding told
 told_as ciphers w number reads d given k = same_keyed _ _ given k refl refl
 
-line_took : (h : Heard) → ((line_reception h).took ≡ None) × ((line_reception h).keyed ≡ None) × ((line_reception h).done ≡ None)
-line_took (line_heard.Up from note octets) = (refl, refl, refl)
-line_took line_heard.Held = (refl, refl, refl)
-line_took line_heard.Relayed = (refl, refl, refl)
-line_took line_heard.Answered = (refl, refl, refl)
-line_took line_heard.Learned = (refl, refl, refl)
-line_took line_heard.Broken = (refl, refl, refl)
-line_took line_heard.Reported = (refl, refl, refl)
-line_took (line_heard.Joining way body) = (refl, refl, refl)
-line_took (line_heard.Local from all code body) = (refl, refl, refl)
+station_took : (h : Heard) → ((station_reception h).took ≡ None) × ((station_reception h).keyed ≡ None) × ((station_reception h).done ≡ None)
+station_took (station_heard.Up from note octets) = (refl, refl, refl)
+station_took station_heard.Held = (refl, refl, refl)
+station_took station_heard.Relayed = (refl, refl, refl)
+station_took station_heard.Answered = (refl, refl, refl)
+station_took station_heard.Learned = (refl, refl, refl)
+station_took station_heard.Broken = (refl, refl, refl)
+station_took station_heard.Reported = (refl, refl, refl)
+station_took (station_heard.Joining way body) = (refl, refl, refl)
+station_took (station_heard.Local from all code body) = (refl, refl, refl)
 
 pub took_same : (a : MeterHeard) → (meter_reception (Ok a)).took ≡ took_in a
-took_same (meter_heard.Line h) = (line_took h).0
+took_same (meter_heard.Station h) = (station_took h).0
 took_same meter_heard.Carried = refl
 took_same meter_heard.Replied = refl
 took_same (meter_heard.Took agreed) = refl
@@ -120,7 +120,7 @@ took_same meter_heard.Left = refl
 took_same meter_heard.Activated = refl
 
 pub no_keys : (r : Result MeterHeard Dropped) → (meter_reception r).keyed ≡ None
-no_keys (Ok (meter_heard.Line h)) = (line_took h).1
+no_keys (Ok (meter_heard.Station h)) = (station_took h).1
 no_keys (Ok meter_heard.Carried) = refl
 no_keys (Ok meter_heard.Replied) = refl
 no_keys (Ok (meter_heard.Took agreed)) = refl
@@ -131,7 +131,7 @@ no_keys (Ok meter_heard.Activated) = refl
 no_keys (Err reason) = refl
 
 pub keyed_same : (a : CoordinatorHeard) → ((coordinator_reception (Ok a)).keyed ≡ keyed_in a) × ((coordinator_reception (Ok a)).done ≡ done_in a)
-keyed_same (coordinator_heard.Line h) = let t = line_took h in (t.1, t.2)
+keyed_same (coordinator_heard.Station h) = let t = station_took h in (t.1, t.2)
 keyed_same coordinator_heard.Challenged = (refl, refl)
 keyed_same (coordinator_heard.Keyed eui granted) = (refl, refl)
 keyed_same (coordinator_heard.Done eui agreed) = (refl, refl)
@@ -149,29 +149,29 @@ module _ (ciphers : Ciphers) (fits : KeepsRanges ciphers) where
   quiet_told : {A : Type 0} (w : World) (given : List Issued) (k : Keyed w given) (number : ℕ) (x : Node) → node_at w number ≡ Some x → NodeOk x → (halted : A) (plan : Memory → Plan Memory A)
       → ((m : Memory) → IsSized m → Quietly m (plan m)) → Keyed (told ciphers w number (acts x halted plan)) given
   quiet_told w given k number x there ok halted plan q = ⊎_elim
-      (λ (e : number ≡ 0). subst (Keyed _) (append-nil given) (told_center ciphers w number x (acts x halted plan) there (quiet_did e).eui given [] k e (quiet_did e)))
+      (λ (e : number ≡ 0). subst (Keyed _) (append-nil given) (told_coordinator ciphers w number x (acts x halted plan) there (quiet_did e).eui given [] k e (quiet_did e)))
       (λ (ne : number ≢ 0). let d = meter_did ne in told_meter ciphers w number x (acts x halted plan) there d.eui given k ne d)
       (cases_eq number 0)
     where
-      quiet_did : number ≡ 0 → CenterDid k.book given [] x (acts x halted plan)
+      quiet_did : number ≡ 0 → CoordinatorDid k.book given [] x (acts x halted plan)
       quiet_did e =
-          let c = k.center x (ap (slice_get w.nodes) (sym e) ∙ there) in
-          center_acts k.book given x halted plan [] ok c (λ a. None) (λ m here said. refl)
-          (λ m here kept. quiet_center k.book None m (plan m) (q m (sized_at x m ok here)) (c.ring m.line.ring kept.line.ring.stored) kept.line.range.ring)
+          let c = k.coordinator x (ap (slice_get w.nodes) (sym e) ∙ there) in
+          coordinator_acts k.book given x halted plan [] ok c (λ a. None) (λ m here said. refl)
+          (λ m here kept. quiet_coordinator k.book None m (plan m) (q m (sized_at x m ok here)) (c.ring m.station.ring kept.station.ring.stored) kept.station.range.ring)
 
       meter_did : number ≢ 0 → MeterDid k.book given x (acts x halted plan)
       meter_did ne =
           let h = k.meters number x ne there in
           sound_acts k.book given x halted plan ok h.ring h.session (λ m here kept session ring.
           let t = q m (sized_at x m ok here) in
-          record { puts = t.ring (RingOk k.book given x.eui) tt ring kept.line.range.ring; session = subst (PeerIs x.eui) (sym t.session) session; made = subst (Each (TagOk k.book given)) (sym t.made) tt })
+          record { puts = t.ring (RingOk k.book given x.eui) tt ring kept.station.range.ring; session = subst (PeerIs x.eui) (sym t.session) session; made = subst (Each (TagOk k.book given)) (sym t.made) tt })
 
   -- a call of a meter by itself
   own_told : {A : Type 0} (w : World) (given : List Issued) (k : Keyed w given) (number : ℕ) (x : Node) → number ≢ 0 → node_at w number ≡ Some x → NodeOk x → (halted : A) (plan : Memory → Plan Memory A)
-      → ((m : Memory) → IfSome m.line.ring IsReadable → PeerIs x.eui m.session → MeterPlan x.eui m.line.ring None (plan m)) → ((m : Memory) → (plan m).opened ≡ []) → Keyed (told ciphers w number (acts x halted plan)) given
+      → ((m : Memory) → IfSome m.station.ring IsReadable → PeerIs x.eui m.session → MeterPlan x.eui m.station.ring None (plan m)) → ((m : Memory) → (plan m).opened ≡ []) → Keyed (told ciphers w number (acts x halted plan)) given
   own_told {A = A} w given k number x ne there ok halted plan f none =
       let h = k.meters number x ne there in
-      let d : MeterDid k.book given x (acts x halted plan) = meter_acts k.book given x halted plan w.made ok h k.made (λ t among. absurd (no_tag t among)) (λ a. None) (λ m here kept session. f m kept.line.range.ring session) in
+      let d : MeterDid k.book given x (acts x halted plan) = meter_acts k.book given x halted plan w.made ok h k.made (λ t among. absurd (no_tag t among)) (λ a. None) (λ m here kept session. f m kept.station.range.ring session) in
       told_meter ciphers w number x (acts x halted plan) there d.eui given k ne d
     where
       no_tag : (t : PairTag) → Among t (acts x halted plan).opened → ⊥
@@ -207,7 +207,7 @@ module _ (ciphers : Ciphers) (fits : KeepsRanges ciphers) (w : World) (ok : Worl
   node_fits : (number : ℕ) (x : Node) → node_at w number ≡ Some x → NodeFits x
   node_fits number x e = at_place NodeFits w.nodes number x e ok.fits
 
-  taken_none : (r : World × Deeds) → r.1.issued ≡ [] → Keyed r.0 given → Good (Ok r)
+  taken_none : (r : World × Trace) → r.1.issued ≡ [] → Keyed r.0 given → Good (Ok r)
   taken_none r none h = Taken r (λ honest. subst (Keyed r.0) (sym (append-nil given) ∙ ap (λ more. given ++ more) (sym none)) h)
 
   ran_keyed : Keyed (ran w) given
@@ -216,7 +216,7 @@ module _ (ciphers : Ciphers) (fits : KeepsRanges ciphers) (w : World) (ok : Worl
   set_up_keyed : Keyed (set_up w) given
   set_up_keyed = same_keyed w (set_up w) given k refl refl
 
-  rests : (d : Deeds) → d.issued ≡ [] → Good (Ok (ran w, d))
+  rests : (d : Trace) → d.issued ≡ [] → Good (Ok (ran w, d))
   rests d none = taken_none (ran w, d) none ran_keyed
 
   -- calls of one node
@@ -227,14 +227,14 @@ module _ (ciphers : Ciphers) (fits : KeepsRanges ciphers) (w : World) (ok : Worl
   unfolding rand
   rand_keyed number value = once _ (at_node number _ (λ x there. acted_quiet number x random_word (Err randoms.Halted) _ there (λ m sized. random_quietly m sized value)))
 
-  sent_keyed : (from to : ℕ) (datagram : List ℕ) (tag : ℕ) (b : Bool) (r : World × Deeds) → r.1.issued ≡ [] → Keyed r.0 given → Good (Ok (sent_if w from to datagram tag b r))
+  sent_keyed : (from to : ℕ) (datagram : List ℕ) (tag : ℕ) (b : Bool) (r : World × Trace) → r.1.issued ≡ [] → Keyed r.0 given → Good (Ok (sent_if w from to datagram tag b r))
   sent_keyed from to datagram tag false r none h = taken_none r none h
   sent_keyed from to datagram tag true r none h = taken_none _ none (same_keyed r.0 (record r.0 { sends = r.0.sends + 1 }) given h refl refl)
 
   sends_keyed : (from to : ℕ) (datagram : List ℕ) (x : Node) (address : Option ℕ) → node_at w from ≡ Some x → Good (Ok (sends_by ciphers w from to datagram x address))
   sends_keyed from to datagram x None there = rests _ refl
   sends_keyed from to datagram x (Some a) there = sent_keyed from to datagram _ _ _ refl (told_as ciphers (ran w) from sent_word (acts x (Err sends.Halted) _) given
-      (quiet_told ciphers fits (ran w) given ran_keyed from x there (node_ok from x there) (Err sends.Halted) (λ m. of_line m (calls.send m.line a datagram (w.sends + 1) w.clock)) (λ m sized. send_quietly m sized a datagram (w.sends + 1) w.clock)))
+      (quiet_told ciphers fits (ran w) given ran_keyed from x there (node_ok from x there) (Err sends.Halted) (λ m. of_station m (calls.send m.station a datagram (w.sends + 1) w.clock)) (λ m sized. send_quietly m sized a datagram (w.sends + 1) w.clock)))
 
   send_keyed : (from to : ℕ) (datagram : List ℕ) → Good (send ciphers w from to datagram)
   unfolding send
@@ -274,41 +274,41 @@ module _ (ciphers : Ciphers) (fits : KeepsRanges ciphers) (w : World) (ok : Worl
   -- # Orders
 
   order_keyed : {A : Type 0} (c : Node) (answer : Answer) (order : Memory → Plan Memory (Result A CoordinatorRefusal)) → node_at w 0 ≡ Some c
-      → ((m : Memory) → IsSized m → (b : book.Book) → Nought m.line.ring → IfSome m.line.ring IsReadable → CenterPlan b m None (order m)) → CenterDid ran_keyed.book given [] c (acts c (Err orders.Halted) order)
+      → ((m : Memory) → IsSized m → (b : book.Book) → Nought m.station.ring → IfSome m.station.ring IsReadable → CoordinatorPlan b m None (order m)) → CoordinatorDid ran_keyed.book given [] c (acts c (Err orders.Halted) order)
   order_keyed c answer order there f =
-      let h = ran_keyed.center c there in
+      let h = ran_keyed.coordinator c there in
       let good = node_ok 0 c there in
-      center_acts ran_keyed.book given c (Err orders.Halted) order [] good h (λ a. None) (λ m here said. refl) (λ m here kept. f m (sized_at ciphers fits c m good here) ran_keyed.book (h.ring m.line.ring kept.line.ring.stored) kept.line.range.ring)
+      coordinator_acts ran_keyed.book given c (Err orders.Halted) order [] good h (λ a. None) (λ m here said. refl) (λ m here kept. f m (sized_at ciphers fits c m good here) ran_keyed.book (h.ring m.station.ring kept.station.ring.stored) kept.station.range.ring)
 
-  center_told : {A : Type 0} (c : Node) (d : Did A) → node_at w 0 ≡ Some c → CenterDid ran_keyed.book given [] c d → Keyed (told ciphers (ran w) 0 d) given
-  center_told c d there did = subst (Keyed _) (append-nil given) (told_center ciphers (ran w) 0 c d there did.eui given [] ran_keyed refl did)
+  coordinator_told : {A : Type 0} (c : Node) (d : NodeStep A) → node_at w 0 ≡ Some c → CoordinatorDid ran_keyed.book given [] c d → Keyed (told ciphers (ran w) 0 d) given
+  coordinator_told c d there did = subst (Keyed _) (append-nil given) (told_coordinator ciphers (ran w) 0 c d there did.eui given [] ran_keyed refl did)
 
   ordered_keyed : {A : Type 0} (c : Node) (answer : Answer) (order : Memory → Plan Memory (Result A CoordinatorRefusal)) → node_at w 0 ≡ Some c
-      → ((m : Memory) → IsSized m → (b : book.Book) → Nought m.line.ring → IfSome m.line.ring IsReadable → CenterPlan b m None (order m)) → Good (Ok (by_coordinator ciphers w c answer order))
-  ordered_keyed c answer order there f = taken_none _ refl (told_as ciphers (ran w) 0 (ordered_word answer) (acts c (Err orders.Halted) order) given (center_told c (acts c (Err orders.Halted) order) there (order_keyed c answer order there f)))
+      → ((m : Memory) → IsSized m → (b : book.Book) → Nought m.station.ring → IfSome m.station.ring IsReadable → CoordinatorPlan b m None (order m)) → Good (Ok (by_coordinator ciphers w c answer order))
+  ordered_keyed c answer order there f = taken_none _ refl (told_as ciphers (ran w) 0 (ordered_word answer) (acts c (Err orders.Halted) order) given (coordinator_told c (acts c (Err orders.Halted) order) there (order_keyed c answer order there f)))
 
   abbrev own_of : Node → coordinator_rules.CoordinatorIdentity
   own_of c = record { eui = c.eui; ciphers = ciphers }
 
   rekey_keyed : (index : ℕ) (key : Key) → length key.0 ≡ 16 → Good (rekey ciphers w index key)
   unfolding rekey
-  rekey_keyed index key long = once _ (at_node 0 _ (λ c there. ordered_keyed c said.Drawn _ there (λ m sized b nought reads. rekey_center ciphers fits (own_of c) m sized b nought reads index key (omega (arith, long)))))
+  rekey_keyed index key long = once _ (at_node 0 _ (λ c there. ordered_keyed c said.Drawn _ there (λ m sized b nought reads. rekey_coordinator ciphers fits (own_of c) m sized b nought reads index key (omega (arith, long)))))
 
   challenge_keyed : (number : ℕ) → Good (challenge ciphers w number)
   unfolding challenge
-  challenge_keyed number = once _ (at_meter number _ (λ ne x is. at_node 0 _ (λ c there. ordered_keyed c said.Challenged _ there (λ m sized b nought reads. challenge_center ciphers fits (own_of c) m sized b nought reads x.eui w.clock (node_fits number x is).eui))))
+  challenge_keyed number = once _ (at_meter number _ (λ ne x is. at_node 0 _ (λ c there. ordered_keyed c said.Challenged _ there (λ m sized b nought reads. challenge_coordinator ciphers fits (own_of c) m sized b nought reads x.eui w.clock (node_fits number x is).eui))))
 
   activate_keyed : (number index : ℕ) → index ≤ 1 → Good (activate ciphers w number index)
   unfolding activate
   activate_keyed number index low = once _ (at_node number _ (λ x is. at_node 0 _ (λ c there. by_number (number == 0) x c there)))
     where
       by_number : (b : Bool) (x c : Node) → node_at w 0 ≡ Some c → Good (Ok (if b then by_coordinator ciphers w c said.Activated (λ m. coordinator_rules.activate_self m index) else by_coordinator ciphers w c said.Ordered (λ m. coordinator_rules.activate m x.eui index w.clock)))
-      by_number true x c there = ordered_keyed c said.Activated _ there (λ m sized b nought reads. activate_self_center ciphers fits (own_of c) m sized b nought reads index low)
-      by_number false x c there = ordered_keyed c said.Ordered _ there (λ m sized b nought reads. activate_center ciphers fits (own_of c) m sized b nought reads x.eui index w.clock)
+      by_number true x c there = ordered_keyed c said.Activated _ there (λ m sized b nought reads. activate_self_coordinator ciphers fits (own_of c) m sized b nought reads index low)
+      by_number false x c there = ordered_keyed c said.Ordered _ there (λ m sized b nought reads. activate_coordinator ciphers fits (own_of c) m sized b nought reads x.eui index w.clock)
 
   kick_keyed : (number : ℕ) → Good (kick ciphers w number)
   unfolding kick
-  kick_keyed number = once _ (at_meter number _ (λ ne x is. at_node 0 _ (λ c there. ordered_keyed c said.Kicked _ there (λ m sized b nought reads. kick_center ciphers fits (own_of c) m sized b nought reads x.eui (node_fits number x is).eui))))
+  kick_keyed number = once _ (at_meter number _ (λ ne x is. at_node 0 _ (λ c there. ordered_keyed c said.Kicked _ there (λ m sized b nought reads. kick_coordinator ciphers fits (own_of c) m sized b nought reads x.eui (node_fits number x is).eui))))
 
   psk_is : (x : Node) (psk : Key) → psk_of x ≡ Some psk → x.role ≡ Meter psk
   psk_is x psk = by_role x.role
@@ -321,16 +321,16 @@ module _ (ciphers : Ciphers) (fits : KeepsRanges ciphers) (w : World) (ok : Worl
   unfolding allow
   allow_keyed number = once _ (at_meter number _ (λ ne x is. at_node 0 _ (λ c there.
       by_option (λ psk. Ok (allowed ciphers w number (acts c (Err orders.Halted) (λ m. coordinator_rules.allow m x.eui psk)))) (psk_of x) (Err faults.Node)
-      (λ psk pair. taken_none _ refl (center_told c _ there (order_keyed c said.Kicked _ there (λ m sized b nought reads. allow_center ciphers fits (own_of c) m sized b nought reads x.eui psk (node_fits number x is).eui ((node_fits number x is).psk psk (psk_is x psk pair)))))) (Fails faults.Node))))
+      (λ psk pair. taken_none _ refl (coordinator_told c _ there (order_keyed c said.Kicked _ there (λ m sized b nought reads. allow_coordinator ciphers fits (own_of c) m sized b nought reads x.eui psk (node_fits number x is).eui ((node_fits number x is).psk psk (psk_is x psk pair)))))) (Fails faults.Node))))
 
   -- # What changes no record
 
-  same_store : {A : Type 0} (number : ℕ) (x : Node) (d : Did A) → node_at w number ≡ Some x → d.node.store.records ≡ x.store.records → d.node.role ≡ x.role → d.node.eui ≡ x.eui → d.made ≡ []
+  same_store : {A : Type 0} (number : ℕ) (x : Node) (d : NodeStep A) → node_at w number ≡ Some x → d.node.store.records ≡ x.store.records → d.node.role ≡ x.role → d.node.eui ≡ x.eui → d.made ≡ []
       → (IsMeter x.role → IfSome d.node.memory (λ m. PeerIs d.node.eui m.session)) → Keyed (told ciphers (ran w) number d) given
   same_store number x d there records role eui made peer = ⊎_elim
       (λ (e : number ≡ 0).
-      let c = ran_keyed.center x (ap (slice_get w.nodes) (sym e) ∙ there) in
-      subst (Keyed _) (append-nil given) (told_center ciphers (ran w) number x d there eui given [] ran_keyed e
+      let c = ran_keyed.coordinator x (ap (slice_get w.nodes) (sym e) ∙ there) in
+      subst (Keyed _) (append-nil given) (told_coordinator ciphers (ran w) number x d there eui given [] ran_keyed e
       (record {
         book = ran_keyed.book;
         node = record { role = role ∙ c.role; book_kept = subst (IsBookKept ran_keyed.book) (sym records) c.book_kept; ring = subst (RingIn Nought) (sym records) c.ring };
@@ -352,11 +352,11 @@ module _ (ciphers : Ciphers) (fits : KeepsRanges ciphers) (w : World) (ok : Worl
   -- a restart leaves no session
   no_session : (eui : Eui) (role : Role) (r : Records) → IsMeter role → IfSome (memory_by (memory_of role r)) (λ m. PeerIs eui m.session)
   no_session eui Coordinator r meter = absurd meter
-  no_session eui (Meter psk) r meter = by_line (line_of r)
+  no_session eui (Meter psk) r meter = by_station (station_of r)
     where
-      by_line : (o : Result Line BadStore) → IfSome (memory_by (reading o (λ l. Ok (remembering l [])))) (λ m. PeerIs eui m.session)
-      by_line (Ok l) = tt
-      by_line (Err bad) = tt
+      by_station : (o : Result StationMemory BadStore) → IfSome (memory_by (reading o (λ l. Ok (remembering l [])))) (λ m. PeerIs eui m.session)
+      by_station (Ok l) = tt
+      by_station (Err bad) = tt
 
   restart_keyed : (number : ℕ) → Good (restart ciphers w number)
   unfolding restart
@@ -367,10 +367,10 @@ module _ (ciphers : Ciphers) (fits : KeepsRanges ciphers) (w : World) (ok : Worl
 
   cut_keyed : (number nth : ℕ) (keeps_new : Bool) → Good (cut ciphers w number nth keeps_new)
   unfolding cut
-  cut_keyed number nth keeps_new = once _ (at_node number _ (λ x there. taken_none _ refl (same_store number x _ there refl refl refl refl (λ meter. held_session number x there (λ e. not_center x meter (k.center x (ap (slice_get w.nodes) (sym e) ∙ there)).role)))))
+  cut_keyed number nth keeps_new = once _ (at_node number _ (λ x there. taken_none _ refl (same_store number x _ there refl refl refl refl (λ meter. held_session number x there (λ e. not_coordinator x meter (k.coordinator x (ap (slice_get w.nodes) (sym e) ∙ there)).role)))))
     where
-      not_center : (x : Node) → IsMeter x.role → x.role ≡ Coordinator → ⊥
-      not_center x meter e = subst IsMeter e meter
+      not_coordinator : (x : Node) → IsMeter x.role → x.role ≡ Coordinator → ⊥
+      not_coordinator x meter e = subst IsMeter e meter
 
   -- time
   ticked_session : (now : ℕ) (eui : Eui) (o : Option Memory) (psk : Key) → IfSome o (λ m. PeerIs eui m.session) → IfSome (option_map (meters.tick now) o) (λ m. PeerIs eui m.session)
@@ -408,7 +408,7 @@ module _ (ciphers : Ciphers) (fits : KeepsRanges ciphers) (w : World) (ok : Worl
   unfolding tick
   tick_keyed seconds = once _ (taken_none _ refl (record {
     book = k.book;
-    center = λ c is. let t = was_ticked now 0 c is in let h = k.center t.node t.is in subst (CenterOk k.book) t.same (record { role = h.role; book_kept = h.book_kept; ring = h.ring });
+    coordinator = λ c is. let t = was_ticked now 0 c is in let h = k.coordinator t.node t.is in subst (CoordinatorOk k.book) t.same (record { role = h.role; book_kept = h.book_kept; ring = h.ring });
     meters = λ n y ne is. let t = was_ticked now n y is in subst (MeterOk k.book given) t.same (ticked_meter now t.node k.book (k.roles n t.node ne t.is) (k.meters n t.node ne t.is));
     made = k.made;
     roles = λ n y ne is. let t = was_ticked now n y is in subst (λ (z : Node). IsMeter z.role) t.same (k.roles n t.node ne t.is);
@@ -434,45 +434,45 @@ module _ (ciphers : Ciphers) (fits : KeepsRanges ciphers) (w : World) (ok : Worl
       → MeterDid b given x (acts x (Err drops.Store) (λ m. meters.hear_meter (identity ciphers x psk) m got cost note now))
   meter_hears_did x psk got cost note now b good h each honest =
       meter_acts b given x (Err drops.Store) (λ m. meters.hear_meter (identity ciphers x psk) m got cost note now) w.made good h each (all_made w.made _ honest) (λ r. (meter_reception r).took)
-      (λ m here kept session. meter_plan x.eui m dropped took_in (λ r. (meter_reception r).took) took_same kept.line.range.ring session _
-      (meter_hears (identity ciphers x psk) m (heard_given got cost note now) kept.line.range.ring session (λ peer packet granted right is. fits.granted psk peer packet granted right is) (λ octets join index read e. (join_ranges octets join read).1 index e) got refl))
+      (λ m here kept session. meter_plan x.eui m dropped took_in (λ r. (meter_reception r).took) took_same kept.station.range.ring session _
+      (meter_hears (identity ciphers x psk) m (heard_given got cost note now) kept.station.range.ring session (λ peer packet granted right is. fits.granted psk peer packet granted right is) (λ octets join index read e. (join_ranges octets join read).1 index e) got refl))
 
-  center_hears_did : (x : Node) (got : Accepted) (cost note now : ℕ) (b : book.Book) → RoutesFit got → NodeOk x → CenterOk b x
-      → let d : Did (Result CoordinatorHeard Dropped) = acts x (Err drops.Store) (λ m. coordinator_rules.hear_coordinator (record { eui = x.eui; ciphers = ciphers }) m got cost note now) in
-      CenterDid b given (issued_of (coordinator_reception d.answer).keyed) x d
-  center_hears_did x got cost note now b routes good h =
+  coordinator_hears_did : (x : Node) (got : Accepted) (cost note now : ℕ) (b : book.Book) → RoutesFit got → NodeOk x → CoordinatorOk b x
+      → let d : NodeStep (Result CoordinatorHeard Dropped) = acts x (Err drops.Store) (λ m. coordinator_rules.hear_coordinator (record { eui = x.eui; ciphers = ciphers }) m got cost note now) in
+      CoordinatorDid b given (issued_of (coordinator_reception d.answer).keyed) x d
+  coordinator_hears_did x got cost note now b routes good h =
       let plan : Memory → Plan Memory (Result CoordinatorHeard Dropped) = λ m. coordinator_rules.hear_coordinator (record { eui = x.eui; ciphers = ciphers }) m got cost note now in
-      center_acts b given x (Err drops.Store) plan (issued_of (coordinator_reception (acts x (Err drops.Store) plan).answer).keyed) good h (λ r. (coordinator_reception r).keyed)
+      coordinator_acts b given x (Err drops.Store) plan (issued_of (coordinator_reception (acts x (Err drops.Store) plan).answer).keyed) good h (λ r. (coordinator_reception r).keyed)
       (λ m here same. ap (λ r. issued_of (coordinator_reception r).keyed) (sym same))
-      (λ m here kept. (hears_center ciphers fits (record { eui = x.eui; ciphers = ciphers }) m (sized_at ciphers fits x m good here) b (h.ring m.line.ring kept.line.ring.stored) kept.line.range.ring got cost note now routes
+      (λ m here kept. (hears_coordinator ciphers fits (record { eui = x.eui; ciphers = ciphers }) m (sized_at ciphers fits x m good here) b (h.ring m.station.ring kept.station.ring.stored) kept.station.range.ring got cost note now routes
       (λ r. (coordinator_reception r).keyed) (λ r. (coordinator_reception r).done) (λ a. (keyed_same a).0) (λ a. (keyed_same a).1) (λ f. refl)).0)
 
   -- a plan that is quiet, at the coordinator and at a meter
-  quiet_center_did : {A : Type 0} (x : Node) (halted : A) (plan : Memory → Plan Memory A) (b : book.Book) → NodeOk x → CenterOk b x → ((m : Memory) → IsSized m → Quietly m (plan m)) → CenterDid b given [] x (acts x halted plan)
-  quiet_center_did x halted plan b good c q = center_acts b given x halted plan [] good c (λ a. None) (λ m here said. refl)
-      (λ m here kept. quiet_center b None m (plan m) (q m (sized_at ciphers fits x m good here)) (c.ring m.line.ring kept.line.ring.stored) kept.line.range.ring)
+  quiet_coordinator_did : {A : Type 0} (x : Node) (halted : A) (plan : Memory → Plan Memory A) (b : book.Book) → NodeOk x → CoordinatorOk b x → ((m : Memory) → IsSized m → Quietly m (plan m)) → CoordinatorDid b given [] x (acts x halted plan)
+  quiet_coordinator_did x halted plan b good c q = coordinator_acts b given x halted plan [] good c (λ a. None) (λ m here said. refl)
+      (λ m here kept. quiet_coordinator b None m (plan m) (q m (sized_at ciphers fits x m good here)) (c.ring m.station.ring kept.station.ring.stored) kept.station.range.ring)
 
   pub quiet_meter_did : {A : Type 0} (x : Node) (halted : A) (plan : Memory → Plan Memory A) (b : book.Book) → NodeOk x → MeterOk b given x → ((m : Memory) → IsSized m → Quietly m (plan m)) → MeterDid b given x (acts x halted plan)
   quiet_meter_did x halted plan b good h q = sound_acts b given x halted plan good h.ring h.session (λ m here kept session ring.
       let t = q m (sized_at ciphers fits x m good here) in
-      record { puts = t.ring (RingOk b given x.eui) tt ring kept.line.range.ring; session = subst (PeerIs x.eui) (sym t.session) session; made = subst (Each (TagOk b given)) (sym t.made) tt })
+      record { puts = t.ring (RingOk b given x.eui) tt ring kept.station.range.ring; session = subst (PeerIs x.eui) (sym t.session) session; made = subst (Each (TagOk b given)) (sym t.made) tt })
 
-  told_answer : {A : Type 0} (number : ℕ) (d : Did A) (r : A) → Keyed (told ciphers (ran w) number d) given → Keyed (told ciphers (ran w) number (record d { answer = r })) given
+  told_answer : {A : Type 0} (number : ℕ) (d : NodeStep A) (r : A) → Keyed (told ciphers (ran w) number d) given → Keyed (told ciphers (ran w) number (record d { answer = r })) given
   unfolding told
   told_answer number d r h = same_keyed _ _ given h refl refl
 
-  received_keyed : (number : ℕ) (forged : Bool) (d : Did Reception) → (forged ≡ false → Keyed (told ciphers (ran w) number d) (given ++ issued_of d.answer.keyed)) → Good (Ok (received ciphers w number forged d))
+  received_keyed : (number : ℕ) (forged : Bool) (d : NodeStep Reception) → (forged ≡ false → Keyed (told ciphers (ran w) number d) (given ++ issued_of d.answer.keyed)) → Good (Ok (received ciphers w number forged d))
   received_keyed number forged d h = Taken _ (λ honest. same_keyed (told ciphers (ran w) number d) _ _ (h honest) refl refl)
 
-  told_later : {A : Type 0} (number : ℕ) (reads : A → Reception) (d : Did A) (more : List Issued) → Keyed (told ciphers (ran w) number d) (given ++ more) → Keyed (told ciphers (ran w) number (answering reads d)) (given ++ more)
+  told_later : {A : Type 0} (number : ℕ) (reads : A → Reception) (d : NodeStep A) (more : List Issued) → Keyed (told ciphers (ran w) number d) (given ++ more) → Keyed (told ciphers (ran w) number (answering reads d)) (given ++ more)
   told_later number reads d more h = told_as ciphers (ran w) number reads d (given ++ more) h
 
   hears_told : (number : ℕ) (x y : Node) (got : Accepted) (cost note now : ℕ) → node_at w number ≡ Some x → NodeOk y → y.role ≡ x.role → y.eui ≡ x.eui → RoutesFit got
-      → (number ≡ 0 → CenterDid ran_keyed.book given [] x (stays y (tt {0}))) → (number ≢ 0 → MeterOk ran_keyed.book given y)
+      → (number ≡ 0 → CoordinatorDid ran_keyed.book given [] x (stays y (tt {0}))) → (number ≢ 0 → MeterOk ran_keyed.book given y)
       → list_any (is_forged_tag w.made) (hears ciphers y got cost note now).opened ≡ false → Keyed (told ciphers (ran w) number (hears ciphers y got cost note now)) (given ++ issued_of (hears ciphers y got cost note now).answer.keyed)
-  hears_told number x y got cost note now there good role eui routes center meter = by_role y.role refl
+  hears_told number x y got cost note now there good role eui routes coordinator meter = by_role y.role refl
     where
-      hears_as : Role → Did Reception
+      hears_as : Role → NodeStep Reception
       hears_as Coordinator = answering coordinator_reception (acts y (Err drops.Store) (λ m. coordinator_rules.hear_coordinator (record { eui = y.eui; ciphers = ciphers }) m got cost note now))
       hears_as (Meter psk) = answering meter_reception (acts y (Err drops.Store) (λ m. meters.hear_meter (identity ciphers y psk) m got cost note now))
 
@@ -485,16 +485,16 @@ module _ (ciphers : Ciphers) (fits : KeepsRanges ciphers) (w : World) (ok : Worl
       by_role : (r : Role) → y.role ≡ r → list_any (is_forged_tag w.made) (hears_as r).opened ≡ false → Keyed (told ciphers (ran w) number (hears_as r)) (given ++ issued_of (hears_as r).answer.keyed)
       by_role Coordinator is honest = ⊎_elim
           (λ (e : number ≡ 0).
-          let c = center e in
+          let c = coordinator e in
           let plan : Memory → Plan Memory (Result CoordinatorHeard Dropped) = λ m. coordinator_rules.hear_coordinator (record { eui = y.eui; ciphers = ciphers }) m got cost note now in
-          let did = center_hears_did y got cost note now c.book routes good c.node in
+          let did = coordinator_hears_did y got cost note now c.book routes good c.node in
           let d = acts y (Err drops.Store) plan in
           let more = issued_of (coordinator_reception d.answer).keyed in
-          told_later number coordinator_reception d more (told_center ciphers (ran w) number x d there (did.eui ∙ eui) given more ran_keyed e
+          told_later number coordinator_reception d more (told_coordinator ciphers (ran w) number x d there (did.eui ∙ eui) given more ran_keyed e
           (record { book = did.book; node = did.node; grows = λ u a h. did.grows u a (c.grows u a h); eui = did.eui ∙ eui; made = did.made })))
           (λ (ne : number ≢ 0). absurd (wrong is ne)) (cases_eq number 0)
       by_role (Meter psk) is honest = ⊎_elim
-          (λ (e : number ≡ 0). absurd (not_meter psk (sym (ran_keyed.center x (ap (slice_get w.nodes) (sym e) ∙ there)).role ∙ sym role ∙ is)))
+          (λ (e : number ≡ 0). absurd (not_meter psk (sym (ran_keyed.coordinator x (ap (slice_get w.nodes) (sym e) ∙ there)).role ∙ sym role ∙ is)))
           (λ (ne : number ≢ 0).
           let did = meter_hears_did y psk got cost note now ran_keyed.book good (meter ne) ran_keyed.made honest in
           let d = acts y (Err drops.Store) (λ m. meters.hear_meter (identity ciphers y psk) m got cost note now) in
@@ -508,7 +508,7 @@ module _ (ciphers : Ciphers) (fits : KeepsRanges ciphers) (w : World) (ok : Worl
   arrives_keyed number x octets cost there are = by_answer (acts x (Err frames.Halted) plan).answer refl
     where
       plan : Memory → Plan Memory (Result Accepted FrameRefusal)
-      plan m = of_line m (accept m.line x.eui (arrived ciphers octets))
+      plan m = of_station m (accept m.station x.eui (arrived ciphers octets))
 
       did : DidOk x (acts x (Err frames.Halted) plan)
       did = acts_ok x (Err frames.Halted) plan (node_ok number x there) (λ m here kept sized. accept_ok ciphers fits octets are x.role m x.eui sized)
@@ -516,27 +516,27 @@ module _ (ciphers : Ciphers) (fits : KeepsRanges ciphers) (w : World) (ok : Worl
       quiet : (m : Memory) → IsSized m → Quietly m (plan m)
       quiet m sized = accept_quietly ciphers fits octets are m x.eui
 
-      center : number ≡ 0 → CenterDid ran_keyed.book given [] x (acts x (Err frames.Halted) plan)
-      center e = quiet_center_did x (Err frames.Halted) plan ran_keyed.book (node_ok number x there) (ran_keyed.center x (ap (slice_get w.nodes) (sym e) ∙ there)) quiet
+      coordinator : number ≡ 0 → CoordinatorDid ran_keyed.book given [] x (acts x (Err frames.Halted) plan)
+      coordinator e = quiet_coordinator_did x (Err frames.Halted) plan ran_keyed.book (node_ok number x there) (ran_keyed.coordinator x (ap (slice_get w.nodes) (sym e) ∙ there)) quiet
 
       meter : number ≢ 0 → MeterDid ran_keyed.book given x (acts x (Err frames.Halted) plan)
       meter ne = quiet_meter_did x (Err frames.Halted) plan ran_keyed.book (node_ok number x there) (ran_keyed.meters number x ne there) quiet
 
       routes : (got : Accepted) → (acts x (Err frames.Halted) plan).answer ≡ Ok got → RoutesFit got
       routes got e =
-          let a = acts_answered x frames.Halted frames.Store plan (λ m. accept_failed ciphers fits octets are m.line _ (accept_is m.line x.eui (arrived ciphers octets))) got e in
-          accepted_routes ciphers fits octets are a.memory.line _ got (accept_is a.memory.line x.eui (arrived ciphers octets)) a.is
+          let a = acts_answered x frames.Halted frames.Store plan (λ m. accept_failed ciphers fits octets are m.station _ (accept_is m.station x.eui (arrived ciphers octets))) got e in
+          accepted_routes ciphers fits octets are a.memory.station _ got (accept_is a.memory.station x.eui (arrived ciphers octets)) a.is
 
       by_answer : (r : Result Accepted FrameRefusal) → (acts x (Err frames.Halted) plan).answer ≡ r → Good (Ok (accepted_by ciphers w number octets cost (acts x (Err frames.Halted) plan)))
       by_answer (Err reason) e =
-          rw e (taken_none (told ciphers (ran w) number (record (acts x (Err frames.Halted) plan) { answer = Err reason }), deeds (happened w (frame_word reason))) refl
+          rw e (taken_none (told ciphers (ran w) number (record (acts x (Err frames.Halted) plan) { answer = Err reason }), trace_of (happened w (frame_word reason))) refl
           (told_answer number (acts x (Err frames.Halted) plan) (Err reason) (quiet_told ciphers fits (ran w) given ran_keyed number x there (node_ok number x there) (Err frames.Halted) plan quiet)))
       by_answer (Ok got) e =
           let y = (acts x (Err frames.Halted) plan).node in
           let d = hears ciphers y got cost (note_by w octets got.path) w.clock in
           rw e (received_keyed number (forged_by w octets got.path || list_any (is_forged_tag w.made) d.opened) d (λ honest.
           hears_told number x y got cost (note_by w octets got.path) w.clock there did.node did.role did.eui (routes got e)
-          (λ first. let c = center first in record { book = c.book; node = c.node; grows = c.grows; eui = did.eui; made = tt }) (λ ne. (meter ne).node) (or_false (forged_by w octets got.path) _ honest)))
+          (λ first. let c = coordinator first in record { book = c.book; node = c.node; grows = c.grows; eui = did.eui; made = tt }) (λ ne. (meter ne).node) (or_false (forged_by w octets got.path) _ honest)))
 
   pub flight_octets : (number : ℕ) (f : Flight) → flight_at w number ≡ Some f → FlightFits f
   flight_octets number f = by_number (number == 0)
@@ -556,7 +556,7 @@ module _ (ciphers : Ciphers) (fits : KeepsRanges ciphers) (w : World) (ok : Worl
 
   -- # Setup
 
-  preset_keyed : (number : ℕ) (plan : Line → calls.Presetting) → ((m : Memory) → IsSized m → Quietly m (of_line m (plan m.line))) → Good (preset ciphers w number plan)
+  preset_keyed : (number : ℕ) (plan : StationMemory → calls.Presetting) → ((m : Memory) → IsSized m → Quietly m (of_station m (plan m.station))) → Good (preset ciphers w number plan)
   preset_keyed number plan q = setup _ (at_node number _ (λ x there. taken_none _ refl (quiet_told ciphers fits (set_up w) given set_up_keyed number x there (node_ok number x there) (Ok tt) _ q)))
 
   -- an address of a node is below FFFE
@@ -567,17 +567,17 @@ module _ (ciphers : Ciphers) (fits : KeepsRanges ciphers) (w : World) (ok : Worl
       by_ring None q e = absurd (no_some _ e)
       by_ring (Some g) q e = let this : g.address ≡ address = same_Some _ _ e in let low = q.address in omega arith
 
-      by_memory : (o : Option Memory) → Left (IsKept x.role) x.store.records o → option_and_then (λ (m : Memory). address_of m.line) o ≡ Some address → address < 0xFFFE
+      by_memory : (o : Option Memory) → Left (IsKept x.role) x.store.records o → option_and_then (λ (m : Memory). address_of m.station) o ≡ Some address → address < 0xFFFE
       by_memory None q e = absurd (no_some _ e)
-      by_memory (Some m) q e = by_ring m.line.ring q.line.range.ring e
+      by_memory (Some m) q e = by_ring m.station.ring q.station.range.ring e
 
-  pub other_there : {A : Type 0} (a b : ℕ) (d : Did A) (y : Node) → b ≢ a → node_at w b ≡ Some y → node_at (told ciphers (set_up w) a d) b ≡ Some y
+  pub other_there : {A : Type 0} (a b : ℕ) (d : NodeStep A) (y : Node) → b ≢ a → node_at w b ≡ Some y → node_at (told ciphers (set_up w) a d) b ≡ Some y
   unfolding told
   other_there a b d y far there = slice_get-set_other w.nodes a b d.node far ∙ there
 
   offered_told : (v : World) → Keyed v given → (number : ℕ) (x : Node) → node_at v number ≡ Some x → NodeOk x → (to cost : ℕ) → to < 0xFFFE → cost ≤ 255 → Keyed (told ciphers v number (offered_near x to cost w.clock)) given
-  offered_told v kv number x there good to cost short low = told_as ciphers v number (λ _. tt) (acts x (Ok tt) (λ m. of_line m (calls.preset_near m.line to cost w.clock))) given
-      (quiet_told ciphers fits v given kv number x there good (Ok tt) (λ m. of_line m (calls.preset_near m.line to cost w.clock)) (λ m sized. near_quietly m sized to cost w.clock short (omega arith)))
+  offered_told v kv number x there good to cost short low = told_as ciphers v number (λ _. tt) (acts x (Ok tt) (λ m. of_station m (calls.preset_near m.station to cost w.clock))) given
+      (quiet_told ciphers fits v given kv number x there good (Ok tt) (λ m. of_station m (calls.preset_near m.station to cost w.clock)) (λ m sized. near_quietly m sized to cost w.clock short (omega arith)))
 
   near_by_keyed : (a b cost : ℕ) (x y : Node) (p q : Option ℕ) → cost ≤ 255 → node_at w a ≡ Some x → node_at w b ≡ Some y → node_address x ≡ p → node_address y ≡ q → Good (near_by ciphers w a b cost x y p q)
   near_by_keyed a b cost x y None q low hx hy ep eq = Fails faults.Setup
@@ -600,15 +600,15 @@ module _ (ciphers : Ciphers) (fits : KeepsRanges ciphers) (w : World) (ok : Worl
       subst S (same_Some _ _ (sym got ∙ e)) none
 
   begin_writes : (key : Key) → length key.0 ≡ 16 → (m : Memory) → RingWrites Nought (coordinator_rules.begin m (first_grant key)).puts
-  unfolding choose resting begun ringed
-  begin_writes key long m = by_ring (is_some m.line.ring)
+  unfolding choose resting empty_draft with_ring
+  begin_writes key long m = by_ring (is_some m.station.ring)
     where
       readable : IsReadable (first_grant key)
       readable = record { grant = record { index = omega arith; held = refl }; address = omega arith; key0 = omega (arith, long); key1 = refl }
 
-      by_ring : (b : Bool) → RingWrites Nought (if b then resting m (Ok tt) (Err RingStore) else within (λ l. with_line l m) (λ r. r) (calls.install m.line (first_grant key))).puts
+      by_ring : (b : Bool) → RingWrites Nought (if b then resting m (Ok tt) (Err RingStore) else within (λ l. with_station l m) (λ r. r) (calls.install m.station (first_grant key))).puts
       by_ring true = tt
-      by_ring false = (Puts (Some (first_grant key)) readable refl, counter_away Nought m.line.counter 0)
+      by_ring false = (Puts (Some (first_grant key)) readable refl, counter_away Nought m.station.counter 0)
 
   -- a node more
   record Pushed (x : Node) (n : ℕ) (y : Node) : Type 0 where
@@ -647,7 +647,7 @@ module _ (ciphers : Ciphers) (fits : KeepsRanges ciphers) (w : World) (ok : Worl
       let at_nought : (n : ℕ) → n ≡ length w.nodes → n ≡ 0 = λ n e. e ∙ ap length empty_is in
       taken_none _ refl (record {
         book = b.0;
-        center = λ c is. pushed_or x 0 c is (λ p. subst (CenterOk b.0) p.is.1 (record { role = did.role; book_kept = b.1; ring = nought })) (λ old. absurd (gone 0 c old));
+        coordinator = λ c is. pushed_or x 0 c is (λ p. subst (CoordinatorOk b.0) p.is.1 (record { role = did.role; book_kept = b.1; ring = nought })) (λ old. absurd (gone 0 c old));
         meters = λ n y ne is. pushed_or x n y is (λ p. absurd (ne (at_nought n p.is.0))) (λ old. absurd (gone n y old));
         made = subst (Each (TagOk b.0 given)) (sym (k.still empty_is)) tt;
         roles = λ n y ne is. pushed_or x n y is (λ p. absurd (ne (at_nought n p.is.0))) (λ old. absurd (gone n y old));
@@ -675,7 +675,7 @@ module _ (ciphers : Ciphers) (fits : KeepsRanges ciphers) (w : World) (ok : Worl
       let fresh : MeterOk k.book given x = record { ring = no_records (RingOk k.book given eui) tt; session = tt } in
       taken_none _ refl (record {
         book = k.book;
-        center = λ c is. pushed_or x 0 c is (λ p. absurd (let e = p.is.0 in omega arith)) (k.center c);
+        coordinator = λ c is. pushed_or x 0 c is (λ p. absurd (let e = p.is.0 in omega arith)) (k.coordinator c);
         meters = λ n y ne is. pushed_or x n y is (λ p. subst (MeterOk k.book given) p.is.1 fresh) (k.meters n y ne);
         made = k.made;
         roles = λ n y ne is. pushed_or x n y is (λ p. subst (λ (u : Node). IsMeter u.role) p.is.1 tt) (k.roles n y ne);
@@ -708,15 +708,15 @@ module _ (ciphers : Ciphers) (fits : KeepsRanges ciphers) (w : World) (ok : Worl
       good : NodeOk c
       good = node_ok 0 c hc
 
-      h : CenterOk set_up_keyed.book c
-      h = set_up_keyed.center c hc
+      h : CoordinatorOk set_up_keyed.book c
+      h = set_up_keyed.coordinator c hc
 
-      did : CenterDid set_up_keyed.book given [] c (acts c (Err orders.Halted) plan)
-      did = center_acts set_up_keyed.book given c (Err orders.Halted) plan [] good h (λ a. None) (λ m here said. refl)
-          (λ m here kept. depot_center ciphers fits (own_of c) m (sized_at ciphers fits c m good here) set_up_keyed.book (h.ring m.line.ring kept.line.ring.stored) kept.line.range.ring x.eui psk known long)
+      did : CoordinatorDid set_up_keyed.book given [] c (acts c (Err orders.Halted) plan)
+      did = coordinator_acts set_up_keyed.book given c (Err orders.Halted) plan [] good h (λ a. None) (λ m here said. refl)
+          (λ m here kept. depot_coordinator ciphers fits (own_of c) m (sized_at ciphers fits c m good here) set_up_keyed.book (h.ring m.station.ring kept.station.ring.stored) kept.station.range.ring x.eui psk known long)
 
       ok_did : DidOk c (acts c (Err orders.Halted) plan)
-      ok_did = center_ok c (Err orders.Halted) plan h.role good (λ m sized. depot_ok ciphers fits (own_of c) m sized x.eui psk known long)
+      ok_did = coordinator_ok c (Err orders.Halted) plan h.role good (λ m sized. depot_ok ciphers fits (own_of c) m sized x.eui psk known long)
 
       failed : (m : Memory) → (plan m).failed ≡ Err orders.Store
       failed m = depot_failed ciphers fits (own_of c) m x.eui psk known long
@@ -733,7 +733,7 @@ module _ (ciphers : Ciphers) (fits : KeepsRanges ciphers) (w : World) (ok : Worl
       readable g e =
           let a = acts_whole c orders.Halted orders.Store plan failed g e in
           let kept : Left (IsKept Coordinator) c.store.records (Some a.memory) = subst (λ o. Left (IsKept Coordinator) c.store.records o) a.there (subst (λ role. Left (IsKept role) c.store.records c.memory) h.role good.kept) in
-          depot_grants a.memory x.eui psk g kept.line.range.ring kept.book.table.short a.is
+          depot_grants a.memory x.eui psk g kept.station.range.ring kept.book.table.short a.is
 
       provisioned_keyed : (g : Granted) (v : World) (kv : Keyed v (given ++ issued_by x.eui g)) → node_at v number ≡ Some x → IsReadable g → book.address_of kv.book x.eui ≡ Some g.address
           → Keyed (told ciphers v number (acts x (Ok tt) (λ m. meters.provision m g))) (given ++ issued_by x.eui g)
@@ -752,14 +752,14 @@ module _ (ciphers : Ciphers) (fits : KeepsRanges ciphers) (w : World) (ok : Worl
       by_answer : (r : Result Granted CoordinatorRefusal) → (acts c (Err orders.Halted) plan).answer ≡ r → Good (depot_by ciphers w number x (acts c (Err orders.Halted) plan))
       by_answer (Err reason) e = rw e (Fails faults.Setup)
       by_answer (Ok g) e =
-          let d : Did (Result Granted CoordinatorRefusal) = record (acts c (Err orders.Halted) plan) { answer = Ok g } in
+          let d : NodeStep (Result Granted CoordinatorRefusal) = record (acts c (Err orders.Halted) plan) { answer = Ok g } in
           let v = told ciphers (set_up w) 0 d in
           let more = issued_by x.eui g in
-          let all : CenterDid set_up_keyed.book given [] c d = record { book = did.book; node = did.node; grows = did.grows; eui = did.eui; made = did.made } in
-          let first = told_center ciphers (set_up w) 0 c d hc did.eui given [] set_up_keyed refl all in
+          let all : CoordinatorDid set_up_keyed.book given [] c d = record { book = did.book; node = did.node; grows = did.grows; eui = did.eui; made = did.made } in
+          let first = told_coordinator ciphers (set_up w) 0 c d hc did.eui given [] set_up_keyed refl all in
           let kv : Keyed v (given ++ more) = keyed_more v given more (subst (Keyed v) (append-nil given) first) in
           rw e (Taken _ (λ honest. provisioned_keyed g v kv (other_there 0 number d x ne hx) (readable g e)
-          (let same = one_book did.book kv.book d.node.store.records did.node.book_kept (kv.center d.node (told_here ciphers (set_up w) 0 c d hc)).book_kept in subst (λ (y : book.Book). book.address_of y x.eui ≡ Some g.address) same (address g e))))
+          (let same = one_book did.book kv.book d.node.store.records did.node.book_kept (kv.coordinator d.node (told_here ciphers (set_up w) 0 c d hc)).book_kept in subst (λ (y : book.Book). book.address_of y x.eui ≡ Some g.address) same (address g e))))
 
   depot_keyed : (number : ℕ) → Good (depot ciphers w number)
   unfolding depot

@@ -5,9 +5,9 @@ use Rattle.std.specs.List.{list_any}
 use Rattle.std.specs.Option.{option_map_or}
 use Rattle.group_keys.specs.KeyRing as ring
 use Rattle.joining_messages.specs.declared.message.JoinMessage.{JoinMessage}
-use Rattle.node_rules.specs.Memory.{Line, Memory, Load, Command, address_of, next_hop}
-use Rattle.node_rules.specs.Doings.{Doing, ranked, numbered, tagged, ringed, rerouted, goes, body_goes, is_awaited, waits, seeks, seeks_once, sets_out, leave}
-use Rattle.node_rules.specs.Holding.{on_line, line_part, is_commanded}
+use Rattle.node_rules.specs.Memory.{StationMemory, Memory, Load, Command, address_of, next_hop}
+use Rattle.node_rules.specs.Drafts.{Draft, with_rank, with_own_number, with_next_tag, with_ring, with_routing_by, goes, body_goes, is_awaited, waits, seeks, seeks_once, sets_out, leave}
+use Rattle.node_rules.specs.MemoryDrafts.{on_station, station_part, is_commanded}
 use Rattle.node_rules.specs.Joining.{command_of}
 use Rattle.line_laws.specs.Stores.{IsReadable}
 use Rattle.line_laws.proofs.Made.{RingWord, Given, Made, Starts, Ranks, Numbers, Tags, Rings, Idles, Loses, Goes, Sends, Waits, Leaves}
@@ -68,30 +68,30 @@ any_found P test (x ∷ xs) e h = by_test (test x) refl e (λ k. any_found P tes
 
 -- # Words that leave rings and tags alone
 
-pub record LeavesAlone (S : ring.Ring → Type 0) (s d : Doing Line) : Type 0 where
+pub record LeavesAlone (S : ring.Ring → Type 0) (s d : Draft StationMemory) : Type 0 where
   pub rung : Rung S s → Rung S d
   pub ring : d.memory.ring ≡ s.memory.ring
   pub made : d.made ≡ s.made
   pub opened : d.opened ≡ s.opened
 
 module _ (S : ring.Ring → Type 0) where
-  goes_leaves : (own hop to note : ℕ) (load : Load) (d : Doing Line) → LeavesAlone S d (body_goes own hop to note load d)
+  goes_leaves : (own hop to note : ℕ) (load : Load) (d : Draft StationMemory) → LeavesAlone S d (body_goes own hop to note load d)
   unfolding body_goes
   goes_leaves own hop to note load d = record { rung = λ h. record { puts = h.puts; ring = h.ring; reads = h.reads }; ring = refl; made = refl; opened = refl }
 
-  waits_leaves : (to note : ℕ) (load : Load) (now : ℕ) (s d : Doing Line) → LeavesAlone S s d → LeavesAlone S s (waits to note load now d)
+  waits_leaves : (to note : ℕ) (load : Load) (now : ℕ) (s d : Draft StationMemory) → LeavesAlone S s d → LeavesAlone S s (waits to note load now d)
   unfolding waits
   waits_leaves to note load now s d l = record { rung = λ h. let x = l.rung h in record { puts = x.puts; ring = x.ring; reads = x.reads }; ring = l.ring; made = l.made; opened = l.opened }
 
-  seeks_leaves : (own dest : ℕ) (d : Doing Line) → LeavesAlone S d (seeks_once own dest d)
-  unfolding seeks_once numbered goes
+  seeks_leaves : (own dest : ℕ) (d : Draft StationMemory) → LeavesAlone S d (seeks_once own dest d)
+  unfolding seeks_once with_own_number goes
   seeks_leaves own dest d = by_wait (is_awaited d.memory dest)
     where
       by_wait : (b : Bool) → LeavesAlone S d (if b then d else seeks own dest d)
       by_wait true = record { rung = λ h. h; ring = refl; made = refl; opened = refl }
       by_wait false = record { rung = λ h. record { puts = writes_append S d.puts _ h.puts (number_away S d.memory.own_number); ring = h.ring; reads = h.reads }; ring = refl; made = refl; opened = refl }
 
-  pub sets_out_leaves : (own to note : ℕ) (load : Load) (now : ℕ) (d : Doing Line) → LeavesAlone S d (sets_out own to note load now d)
+  pub sets_out_leaves : (own to note : ℕ) (load : Load) (now : ℕ) (d : Draft StationMemory) → LeavesAlone S d (sets_out own to note load now d)
   sets_out_leaves own to note load now d = by_hop (next_hop d.memory to) refl
     where
       by_hop : (hop : Option ℕ) → next_hop d.memory to ≡ hop → LeavesAlone S d (sets_out own to note load now d)
@@ -99,27 +99,27 @@ module _ (S : ring.Ring → Type 0) where
       by_hop (Some hop) e = rw e (goes_leaves own hop to note load d)
 
 -- a command leaves all of it alone
-pub record LeavesIn (S : ring.Ring → Type 0) (s d : Doing Memory) : Type 0 where
-  pub puts : RingWrites S s.puts → IfSome s.memory.line.ring IsReadable → S s.memory.line.ring → RingWrites S d.puts
-  pub ring : d.memory.line.ring ≡ s.memory.line.ring
+pub record LeavesIn (S : ring.Ring → Type 0) (s d : Draft Memory) : Type 0 where
+  pub puts : RingWrites S s.puts → IfSome s.memory.station.ring IsReadable → S s.memory.station.ring → RingWrites S d.puts
+  pub ring : d.memory.station.ring ≡ s.memory.station.ring
   pub session : d.memory.session ≡ s.memory.session
   pub book : d.memory.book ≡ s.memory.book
   pub made : d.made ≡ s.made
   pub opened : d.opened ≡ s.opened
 
-pub commanded_leaves : (S : ring.Ring → Type 0) (to : ℕ) (message : JoinMessage) (now : ℕ) (d : Doing Memory) → LeavesIn S d (is_commanded to message now d)
-unfolding is_commanded on_line
-commanded_leaves S to message now d = by_address (address_of d.memory.line)
+pub commanded_leaves : (S : ring.Ring → Type 0) (to : ℕ) (message : JoinMessage) (now : ℕ) (d : Draft Memory) → LeavesIn S d (is_commanded to message now d)
+unfolding is_commanded on_station
+commanded_leaves S to message now d = by_address (address_of d.memory.station)
   where
-    by_address : (own : Option ℕ) → LeavesIn S d (option_map_or (λ own. on_line (sets_out own to 0 (Command (command_of message)) now) d) own d)
+    by_address : (own : Option ℕ) → LeavesIn S d (option_map_or (λ own. on_station (sets_out own to 0 (Command (command_of message)) now) d) own d)
     by_address None = record { puts = λ p r s. p; ring = refl; session = refl; book = refl; made = refl; opened = refl }
     by_address (Some own) =
-        let x = sets_out_leaves S own to 0 (Command (command_of message)) now (line_part d) in
+        let x = sets_out_leaves S own to 0 (Command (command_of message)) now (station_part d) in
         record { puts = λ p r s. (x.rung (record { puts = p; ring = s; reads = r })).puts; ring = x.ring; session = refl; book = refl; made = x.made; opened = x.opened }
 
 -- the words of a line make and open no pair tag
-pub made_tags : (W : RingWord → Type 0) (g : Given) (s d : Doing Line) → Made W g s d → (d.made ≡ s.made) × (d.opened ≡ s.opened)
-unfolding ranked numbered tagged ringed rerouted goes body_goes waits leave
+pub made_tags : (W : RingWord → Type 0) (g : Given) (s d : Draft StationMemory) → Made W g s d → (d.made ≡ s.made) × (d.opened ≡ s.opened)
+unfolding with_rank with_own_number with_next_tag with_ring with_routing_by goes body_goes waits leave
 made_tags W g s d Starts = (refl, refl)
 made_tags W g s d (Ranks by origin rank e made o fits) = made_tags W g s e made
 made_tags W g s d (Numbers e made left) = made_tags W g s e made

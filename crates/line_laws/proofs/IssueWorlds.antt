@@ -9,12 +9,12 @@ use Rattle.group_keys.specs.KeyBook as books
 use Rattle.node_rules.specs.Ciphers.{Ciphers}
 use Rattle.node_rules.specs.Memory.{Role, Coordinator, Meter, Node}
 use Rattle.line_rules.specs.Worlds.{World, Issued, node_at}
-use Rattle.node_rules.specs.NodeSteps.{Did}
+use Rattle.node_rules.specs.NodeSteps.{NodeStep}
 use Rattle.line_rules.specs.Steps.{told}
 use Rattle.line_rules.specs.Events.{IsEui}
 use Rattle.line_laws.proofs.Worlds.{within as place_within}
 use Rattle.line_laws.proofs.IssueWords.{Each, each_append, each_weaker}
-use Rattle.line_laws.proofs.IssueNodes.{TagOk, MeterOk, MeterDid, CenterOk, CenterDid, ring_later, tag_later}
+use Rattle.line_laws.proofs.IssueNodes.{TagOk, MeterOk, MeterDid, CoordinatorOk, CoordinatorDid, ring_later, tag_later}
 
 abbrev pub IsMeter : Role → Type 0
 IsMeter Coordinator = ⊥
@@ -24,7 +24,7 @@ IsMeter (Meter psk) = ⊤
 pub record Keyed (w : World) (given : List Issued) : Type 0 where
   -- the book that the coordinator's records give
   pub book : books.Book
-  pub center : (c : Node) → node_at w 0 ≡ Some c → CenterOk book c
+  pub coordinator : (c : Node) → node_at w 0 ≡ Some c → CoordinatorOk book c
   pub meters : (n : ℕ) (x : Node) → n ≢ 0 → node_at w n ≡ Some x → MeterOk book given x
   pub made : Each (TagOk book given) w.made
   pub roles : (n : ℕ) (x : Node) → n ≢ 0 → node_at w n ≡ Some x → IsMeter x.role
@@ -38,7 +38,7 @@ pub record Keyed (w : World) (given : List Issued) : Type 0 where
 pub same_keyed : (w v : World) (given : List Issued) → Keyed w given → v.nodes ≡ w.nodes → v.made ≡ w.made → Keyed v given
 same_keyed w v given k e f = record {
   book = k.book;
-  center = λ c is. k.center c (sym (ap (λ ns. slice_get ns 0) e) ∙ is);
+  coordinator = λ c is. k.coordinator c (sym (ap (λ ns. slice_get ns 0) e) ∙ is);
   meters = λ n x other is. k.meters n x other (sym (ap (λ ns. slice_get ns n) e) ∙ is);
   made = subst (Each (TagOk k.book given)) (sym f) k.made;
   roles = λ n x other is. k.roles n x other (sym (ap (λ ns. slice_get ns n) e) ∙ is);
@@ -53,7 +53,7 @@ record Was (nodes : List Node) (n : ℕ) (y : Node) : Type 0 where
   is : slice_get nodes n ≡ Some node
   eui : node.eui ≡ y.eui
 
-module _ {A : Type 0} (ciphers : Ciphers) (w : World) (number : ℕ) (x : Node) (d : Did A) (there : node_at w number ≡ Some x) (eui : d.node.eui ≡ x.eui) where
+module _ {A : Type 0} (ciphers : Ciphers) (w : World) (number : ℕ) (x : Node) (d : NodeStep A) (there : node_at w number ≡ Some x) (eui : d.node.eui ≡ x.eui) where
   here_is : (y : Node) → slice_get (slice_set w.nodes number d.node) number ≡ Some y → d.node ≡ y
   here_is y is = same_Some _ _ (sym (slice_get-set w.nodes number d.node (place_within w.nodes number x there)) ∙ is)
 
@@ -83,7 +83,7 @@ module _ {A : Type 0} (ciphers : Ciphers) (w : World) (number : ℕ) (x : Node) 
   unfolding told
   told_meter given k other did = record {
     book = k.book;
-    center = λ c is. k.center c (other_is 0 c (λ e. other (sym e)) is);
+    coordinator = λ c is. k.coordinator c (other_is 0 c (λ e. other (sym e)) is);
     meters = λ n y ne is. ⊎_elim
         (λ (e : n ≡ number). subst (MeterOk k.book given) (here_is y (ap (slice_get (slice_set w.nodes number d.node)) (sym e) ∙ is)) did.node)
         (λ (e : n ≢ number). k.meters n y ne (other_is n y e is))
@@ -98,11 +98,11 @@ module _ {A : Type 0} (ciphers : Ciphers) (w : World) (number : ℕ) (x : Node) 
     named = λ n y is. let p = was n y is in subst IsEui p.eui (k.named n p.node p.is);
   }
 
-  pub told_center : (given more : List Issued) (k : Keyed w given) → number ≡ 0 → CenterDid k.book given more x d → Keyed (told ciphers w number d) (given ++ more)
+  pub told_coordinator : (given more : List Issued) (k : Keyed w given) → number ≡ 0 → CoordinatorDid k.book given more x d → Keyed (told ciphers w number d) (given ++ more)
   unfolding told
-  told_center given more k first did = record {
+  told_coordinator given more k first did = record {
     book = did.book;
-    center = λ c is. subst (CenterOk did.book) (here_is c (ap (slice_get (slice_set w.nodes number d.node)) first ∙ is)) did.node;
+    coordinator = λ c is. subst (CoordinatorOk did.book) (here_is c (ap (slice_get (slice_set w.nodes number d.node)) first ∙ is)) did.node;
     meters = λ n y ne is.
         let h = k.meters n y ne (other_is n y (λ e. ne (e ∙ first)) is) in
         record { ring = λ r e. ring_later k.book did.book given more did.grows y.eui r (h.ring r e); session = h.session };
@@ -117,7 +117,7 @@ module _ {A : Type 0} (ciphers : Ciphers) (w : World) (number : ℕ) (x : Node) 
 pub keyed_more : (w : World) (given more : List Issued) → Keyed w given → Keyed w (given ++ more)
 keyed_more w given more k = record {
   book = k.book;
-  center = k.center;
+  coordinator = k.coordinator;
   meters = λ n x ne is. let h = k.meters n x ne is in record { ring = λ r e. ring_later k.book k.book given more (λ u a q. q) x.eui r (h.ring r e); session = h.session };
   made = each_weaker (TagOk k.book given) (TagOk k.book (given ++ more)) (tag_later k.book k.book given more (λ u a q. q)) w.made k.made;
   roles = k.roles;
@@ -127,6 +127,6 @@ keyed_more w given more k = record {
 }
 
 -- the node that is left stands where it was
-pub told_here : {A : Type 0} (ciphers : Ciphers) (w : World) (number : ℕ) (x : Node) (d : Did A) → node_at w number ≡ Some x → node_at (told ciphers w number d) number ≡ Some d.node
+pub told_here : {A : Type 0} (ciphers : Ciphers) (w : World) (number : ℕ) (x : Node) (d : NodeStep A) → node_at w number ≡ Some x → node_at (told ciphers w number d) number ≡ Some d.node
 unfolding told
 told_here ciphers w number x d there = slice_get-set w.nodes number d.node (place_within w.nodes number x there)

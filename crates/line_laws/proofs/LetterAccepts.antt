@@ -11,7 +11,7 @@ use Rattle.node_rules.specs.declared.heard.Path.TheVariants as paths
 use Rattle.node_rules.specs.declared.heard.Accepted.{Accepted}
 use Rattle.node_rules.specs.Ciphers.{Ciphers}
 use Rattle.node_rules.specs.Frames.{Letter, Sealed, Arrived, arrived_with, head_of, spelled, arrived, to_all}
-use Rattle.node_rules.specs.Memory.{Line}
+use Rattle.node_rules.specs.Memory.{StationMemory}
 use Rattle.line_laws.specs.Letters.{OpensWhatItSeals, IsLetter}
 use Rattle.line_laws.proofs.StoreMarks.{IsAdmitted}
 use Rattle.line_laws.proofs.LetterSeals.{letter_arrives, letter_opens, letter_unit}
@@ -40,8 +40,8 @@ pub record IsOfLetter (l : Letter) (from counter : ℕ) (got : Accepted) : Type 
   pub payload : got.payload ≡ spelling l.unit
   pub unit : unit_in got.payload ≡ Some l.unit
 
-module _ (ciphers : Ciphers) (opens : OpensWhatItSeals ciphers) (l : Letter) (fits : IsLetter l) (line : Line) (octets : List ℕ) (same : octets ≡ (spelled ciphers (Sealed l)).octets) where
-  pub accepts_letter : (from counter : ℕ) (got : Accepted) → (a : IsAdmitted line (arrived ciphers octets) from counter got) → a.key ≡ l.key → IsOfLetter l from counter got
+module _ (ciphers : Ciphers) (opens : OpensWhatItSeals ciphers) (l : Letter) (fits : IsLetter l) (station : StationMemory) (octets : List ℕ) (same : octets ≡ (spelled ciphers (Sealed l)).octets) where
+  pub accepts_letter : (from counter : ℕ) (got : Accepted) → (a : IsAdmitted station (arrived ciphers octets) from counter got) → a.key ≡ l.key → IsOfLetter l from counter got
   accepts_letter from counter got a key =
       let body : List ℕ = ciphers.seals l.key (head_of l) (spelling l.unit) in
       let came : Arrived = arrived_with ciphers (head_of l) (header (head_of l)) body in

@@ -8,7 +8,7 @@ pub mod StoreWords
 pub mod StoreRanks
 pub mod MadeIn
 pub mod SetsOut
-pub mod HoldingForms
+pub mod MemoryDraftForms
 pub mod MeterForms
 pub mod CoordinatorForms
 pub mod StoreFold
@@ -20,7 +20,7 @@ pub mod Restarting
 pub mod StoreMarks
 pub mod Nodes
 pub mod NodeCalls
-pub mod CenterCalls
+pub mod CoordinatorCalls
 pub mod LetterSeals
 pub mod LetterAccepts
 pub mod RangeUnits
@@ -64,7 +64,7 @@ pub mod Frontiers
 pub mod Readings
 pub mod HeadsSaid
 pub mod RouteRanges
-pub mod RangeCenter
+pub mod RangeCoordinator
 pub mod RangeArrives
 pub mod CustodyArrives
 pub mod CustodyQuiet
@@ -75,7 +75,7 @@ pub mod AddressPuts
 pub mod IssueWords
 pub mod IssueMeters
 pub mod AddressBook
-pub mod IssueCenter
+pub mod IssueCoordinator
 pub mod IssueNodes
 pub mod IssueCalls
 pub mod IssueWorlds

@@ -7,7 +7,7 @@ use Rattle.routing_set.specs.declared.rank.Rank.{Rank}
 use Rattle.routing_set.specs.Ranks.{Beats}
 use Rattle.routing_set.specs.RoutingSet as routing
 use Rattle.node_rules.specs.Ciphers.{Ciphers}
-use Rattle.node_rules.specs.Memory.{Line, Memory, Node, node_route, line_route, next_hop}
+use Rattle.node_rules.specs.Memory.{StationMemory, Memory, Node, node_route, station_route, next_hop}
 use Rattle.line_rules.specs.Worlds.{World, node_at}
 use Rattle.line_rules.specs.Runs.{HasRoute, HasAddress, Leads, HasNoLoop}
 use Rattle.line_laws.proofs.RankOrder.{beats_trans, beats_not_itself}
@@ -20,13 +20,13 @@ pub route_via : (x : Node) (dest next : ℕ) → node_route x dest ≡ Some next
 unfolding via next_hop
 route_via x dest next = by_memory x.memory
   where
-    by_ring : (l : Line) (r : ring.Ring) → option_and_then (λ _. routing.next_of l.routing dest) r ≡ Some next → routing.next_of l.routing dest ≡ Some next
+    by_ring : (l : StationMemory) (r : ring.Ring) → option_and_then (λ _. routing.next_of l.routing dest) r ≡ Some next → routing.next_of l.routing dest ≡ Some next
     by_ring l None e = absurd (none-some next e)
     by_ring l (Some g) e = e
 
-    by_memory : (o : Option Memory) → option_and_then (λ m. line_route m.line dest) o ≡ Some next → option_and_then (λ (m : Memory). routing.next_of m.line.routing dest) o ≡ Some next
+    by_memory : (o : Option Memory) → option_and_then (λ m. station_route m.station dest) o ≡ Some next → option_and_then (λ (m : Memory). routing.next_of m.station.routing dest) o ≡ Some next
     by_memory None e = absurd (none-some next e)
-    by_memory (Some m) e = by_ring m.line m.line.ring e
+    by_memory (Some m) e = by_ring m.station m.station.ring e
 
 -- A node that has a valid route.
 record Routed (w : World) (dest i next : ℕ) : Type 0 where

@@ -19,8 +19,8 @@ use Rattle.loadng_messages.specs.Reading.{message_in}
 use Rattle.node_rules.specs.declared.heard.Path.TheVariants as paths
 use Rattle.node_rules.specs.declared.heard.Accepted.{Accepted}
 use Rattle.node_rules.specs.Frames.{to_all}
-use Rattle.node_rules.specs.Memory.{Line, Load, load_octets, address_of, next_hop}
-use Rattle.node_rules.specs.Doings.{Doing, Outgoing, ranked, numbered, tagged, ringed, rerouted, goes, body_goes, waits, leave, no_room, numbers_spent}
+use Rattle.node_rules.specs.Memory.{StationMemory, Load, load_octets, address_of, next_hop}
+use Rattle.node_rules.specs.Drafts.{Draft, Outgoing, with_rank, with_own_number, with_next_tag, with_ring, with_routing_by, goes, body_goes, waits, leave, no_room, numbers_spent}
 use Rattle.node_rules.specs.Hearing.{rank_over, hop_less}
 use Rattle.node_rules.specs.Calls.{near_rank, idled}
 use Rattle.node_rules.specs.Laws.{IsShort}
@@ -85,10 +85,10 @@ pub data RingChange (W : RingWord → Type 0) (r : ring.Ring) : ring.Ring → Ty
   Activates : (index : ℕ) → W (Activate index) → is_some (ring.key_in_ring r index) ≡ true → RingChange W r (ring.with_active r index)
 
 -- the last that was done is that a rank was offered, and that what waited for the address left
-pub record JustRanked (g : Given) (by origin : ℕ) (rank : Rank) (d : Doing Line) : Type 0 where
-  pub before : Doing Line
+pub record JustRanked (g : Given) (by origin : ℕ) (rank : Rank) (d : Draft StationMemory) : Type 0 where
+  pub before : Draft StationMemory
   pub own : ℕ
-  pub is : d ≡ leave own origin by (ranked origin rank by g.now before)
+  pub is : d ≡ leave own origin by (with_rank origin rank by g.now before)
 
 -- the mesh header of a unit that has one
 abbrev pub mesh_of : MeshUnit → Option Mesh
@@ -107,12 +107,12 @@ abbrev pub AreUnnoted : List Outgoing → Type 0
 AreUnnoted units = AllByRecursion (λ (o : Outgoing). o.note ≡ 0) units
 
 -- what goes out under a note goes alone: nothing under a note went before, and nothing began to wait
-pub data IsAlone (s d : Doing Line) : ℕ → Type 0 where
+pub data IsAlone (s d : Draft StationMemory) : ℕ → Type 0 where
   Unnoted : IsAlone s d 0
   Alone : (note : ℕ) → d.memory.waiting ≡ s.memory.waiting → AreUnnoted d.units → IsAlone s d note
 
 -- a unit of a route message, or another node's unit with one hop less
-pub data IsSaid (W : RingWord → Type 0) (g : Given) (s d : Doing Line) : ℕ → MeshUnit → ℕ → Type 0 where
+pub data IsSaid (W : RingWord → Type 0) (g : Given) (s d : Draft StationMemory) : ℕ → MeshUnit → ℕ → Type 0 where
   Seeks : (own dest number note : ℕ) (load : Load) → address_of d.memory ≡ Some own → d.memory.own_number.last ≡ number → 0 < number → W (Carry dest note load) → IsSaid W g s d to_all (units.Local 1 (messages.spelling (Rreq number 0 own dest))) 0
   Answers : (own by origin number n c dest : ℕ) → address_of d.memory ≡ Some own → d.memory.own_number.last ≡ number → 0 < number → IsTold g by true (Rreq n c origin dest) → IsSaid W g s d by (units.Local 1 (messages.spelling (Rrep number 0 own origin))) 0
   Relays : (by origin dest n c : ℕ) (rank : Rank) → Offered g (address_of d.memory) by origin rank → JustRanked g by origin rank d → IsTold g by true (Rreq n c origin dest)
@@ -123,18 +123,18 @@ pub data IsSaid (W : RingWord → Type 0) (g : Given) (s d : Doing Line) : ℕ �
   Forwards : (by hop dest : ℕ) (unit less : MeshUnit) → IsCome g by false unit → IsLess unit less → next_hop d.memory dest ≡ Some hop → IsSaid W g s d hop less g.note
 
 -- The doing is made of words, from another one on.
-pub data Made (W : RingWord → Type 0) (g : Given) (s : Doing Line) : Doing Line → Type 0 where
+pub data Made (W : RingWord → Type 0) (g : Given) (s : Draft StationMemory) : Draft StationMemory → Type 0 where
   Starts : Made W g s s
-  Ranks : (by origin : ℕ) (rank : Rank) (d : Doing Line) → Made W g s d → Offered g (address_of d.memory) by origin rank → RankFits d.memory.routing origin rank g.now
-      → Made W g s (ranked origin rank by g.now d)
-  Numbers : (d : Doing Line) → Made W g s d → numbers_spent d.memory ≡ false → Made W g s (numbered d)
-  Tags : (d : Doing Line) → Made W g s d → Made W g s (tagged d)
-  Rings : (r : ring.Ring) (d : Doing Line) → Made W g s d → RingChange W d.memory.ring r → Made W g s (ringed r d)
-  Idles : (d : Doing Line) → Made W g s d → Made W g s (record d { memory = idled d.memory })
-  Loses : (lost by : ℕ) (d : Doing Line) → Made W g s d → Made W g s (rerouted (λ r. routing.without_next_to r lost by) d)
-  Goes : (to : ℕ) (unit : MeshUnit) (note : ℕ) (d : Doing Line) → Made W g s d → IsSaid W g s d to unit note → IsAlone s d note → Made W g s (goes to unit note d)
-  Sends : (own hop to note : ℕ) (load : Load) (d : Doing Line) → Made W g s d → address_of d.memory ≡ Some own → next_hop d.memory to ≡ Some hop → IsShort load → W (Carry to note load) → IsAlone s d note
+  Ranks : (by origin : ℕ) (rank : Rank) (d : Draft StationMemory) → Made W g s d → Offered g (address_of d.memory) by origin rank → RankFits d.memory.routing origin rank g.now
+      → Made W g s (with_rank origin rank by g.now d)
+  Numbers : (d : Draft StationMemory) → Made W g s d → numbers_spent d.memory ≡ false → Made W g s (with_own_number d)
+  Tags : (d : Draft StationMemory) → Made W g s d → Made W g s (with_next_tag d)
+  Rings : (r : ring.Ring) (d : Draft StationMemory) → Made W g s d → RingChange W d.memory.ring r → Made W g s (with_ring r d)
+  Idles : (d : Draft StationMemory) → Made W g s d → Made W g s (record d { memory = idled d.memory })
+  Loses : (lost by : ℕ) (d : Draft StationMemory) → Made W g s d → Made W g s (with_routing_by (λ r. routing.without_next_to r lost by) d)
+  Goes : (to : ℕ) (unit : MeshUnit) (note : ℕ) (d : Draft StationMemory) → Made W g s d → IsSaid W g s d to unit note → IsAlone s d note → Made W g s (goes to unit note d)
+  Sends : (own hop to note : ℕ) (load : Load) (d : Draft StationMemory) → Made W g s d → address_of d.memory ≡ Some own → next_hop d.memory to ≡ Some hop → IsShort load → W (Carry to note load) → IsAlone s d note
       → Made W g s (body_goes own hop to note load d)
-  Waits : (to note : ℕ) (load : Load) (now : ℕ) (d : Doing Line) → Made W g s d → next_hop d.memory to ≡ None → no_room d.memory (length (load_octets load)) ≡ false → IsShort load → W (Carry to note load) → IsAlone s d note
+  Waits : (to note : ℕ) (load : Load) (now : ℕ) (d : Draft StationMemory) → Made W g s d → next_hop d.memory to ≡ None → no_room d.memory (length (load_octets load)) ≡ false → IsShort load → W (Carry to note load) → IsAlone s d note
       → Made W g s (waits to note load now d)
-  Leaves : (own dest hop : ℕ) (rank : Rank) (d : Doing Line) → Made W g s d → address_of d.memory ≡ Some own → Offered g (address_of d.memory) hop dest rank → Made W g s (leave own dest hop d)
+  Leaves : (own dest hop : ℕ) (rank : Rank) (d : Draft StationMemory) → Made W g s d → address_of d.memory ≡ Some own → Offered g (address_of d.memory) hop dest rank → Made W g s (leave own dest hop d)

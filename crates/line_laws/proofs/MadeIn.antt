@@ -9,12 +9,12 @@ use Rattle.plc_base.specs.Grant.{Granted}
 use Rattle.group_keys.specs.declared.key_book.BookEntry.{BookEntry}
 use Rattle.group_keys.specs.KeyBook as book
 use Rattle.joining_messages.specs.declared.message.JoinMessage.{JoinMessage}
-use Rattle.node_rules.specs.Memory.{Line, Memory, MeterSession, CoordinatorSession}
-use Rattle.node_rules.specs.Doings.{Doing, begun}
-use Rattle.node_rules.specs.Holding.{on_line, line_part, remembered, tagged_with, goes_up, goes_down, oldest, without_oldest}
+use Rattle.node_rules.specs.Memory.{StationMemory, Memory, MeterSession, CoordinatorSession}
+use Rattle.node_rules.specs.Drafts.{Draft, empty_draft}
+use Rattle.node_rules.specs.MemoryDrafts.{on_station, station_part, with_memory_by, with_pair_tags, goes_up, goes_down, oldest, without_oldest}
 use Rattle.node_rules.specs.Meters as meters
 use Rattle.node_rules.specs.Coordinators as coordinators
-use Rattle.node_rules.proofs.HoldingShapes.{whole}
+use Rattle.node_rules.proofs.MemoryDraftShapes.{whole}
 use Rattle.line_laws.proofs.Made.{RingWord, Given, Made}
 
 -- what changes of a memory beside its line and its book, of which nothing is stored
@@ -43,12 +43,12 @@ abbrev pub unheard : Given → Given
 unheard g = record { got = None; cost = g.cost; note = 0; now = g.now; near = None }
 
 -- The doing is made of words.
-pub data MadeIn (W : RingWord → Type 0) (L : Granted → Type 0) (P : Eui → Key → Type 0) (E : Eui → Type 0) (g : Given) (m : Memory) : Doing Memory → Type 0 where
-  Begins : MadeIn W L P E g m (begun m)
-  Station : (d : Doing Line) → Made W g (begun m.line) d → MadeIn W L P E g m (whole m d)
-  OnLine : (word : Doing Line → Doing Line) (d : Doing Memory) → MadeIn W L P E g m d → Made W (unheard g) (line_part d) (word (line_part d)) → MadeIn W L P E g m (on_line word d)
-  Remembers : (change : Memory → Memory) (d : Doing Memory) → MadeIn W L P E g m d → Beside E d.memory (change d.memory) → MadeIn W L P E g m (remembered change d)
-  Tags : (made opened : List PairTag) (d : Doing Memory) → MadeIn W L P E g m d → MadeIn W L P E g m (tagged_with made opened d)
-  Enters : (e : BookEntry) (d : Doing Memory) → MadeIn W L P E g m d → EntryChange L P E m d.memory.book e → MadeIn W L P E g m (coordinators.entered e d)
-  Up : (agent : ℕ) (own : Eui) (message : JoinMessage) (d : Doing Memory) → MadeIn W L P E g m d → MadeIn W L P E g m (goes_up agent own message d)
-  Down : (own : ℕ) (message : JoinMessage) (d : Doing Memory) → MadeIn W L P E g m d → MadeIn W L P E g m (goes_down own message d)
+pub data MadeIn (W : RingWord → Type 0) (L : Granted → Type 0) (P : Eui → Key → Type 0) (E : Eui → Type 0) (g : Given) (m : Memory) : Draft Memory → Type 0 where
+  Begins : MadeIn W L P E g m (empty_draft m)
+  Station : (d : Draft StationMemory) → Made W g (empty_draft m.station) d → MadeIn W L P E g m (whole m d)
+  OnStation : (word : Draft StationMemory → Draft StationMemory) (d : Draft Memory) → MadeIn W L P E g m d → Made W (unheard g) (station_part d) (word (station_part d)) → MadeIn W L P E g m (on_station word d)
+  Remembers : (change : Memory → Memory) (d : Draft Memory) → MadeIn W L P E g m d → Beside E d.memory (change d.memory) → MadeIn W L P E g m (with_memory_by change d)
+  Tags : (made opened : List PairTag) (d : Draft Memory) → MadeIn W L P E g m d → MadeIn W L P E g m (with_pair_tags made opened d)
+  Enters : (e : BookEntry) (d : Draft Memory) → MadeIn W L P E g m d → EntryChange L P E m d.memory.book e → MadeIn W L P E g m (coordinators.with_book_entry e d)
+  Up : (agent : ℕ) (own : Eui) (message : JoinMessage) (d : Draft Memory) → MadeIn W L P E g m d → MadeIn W L P E g m (goes_up agent own message d)
+  Down : (own : ℕ) (message : JoinMessage) (d : Draft Memory) → MadeIn W L P E g m d → MadeIn W L P E g m (goes_down own message d)

@@ -22,28 +22,28 @@ use Rattle.node_rules.specs.declared.heard.Way.{Way}
 use Rattle.node_rules.specs.declared.heard.Way.TheVariants.{Air, Near, Mesh}
 use Rattle.node_rules.specs.declared.refusal.Dropped.{Dropped}
 use Rattle.node_rules.specs.declared.refusal.Dropped.TheVariants.{BadUnit, NoSession, NoRandom}
-use Rattle.node_rules.specs.Memory.{Line, Memory, Command, MeterSession, Course, ByAgent, ByCommand, address_of, next_hop}
+use Rattle.node_rules.specs.Memory.{StationMemory, Memory, Command, MeterSession, Course, ByAgent, ByCommand, address_of, next_hop}
 use Rattle.node_rules.specs.Plans.{Plan}
-use Rattle.node_rules.specs.Doings.{Doing, Outgoing, alone, begun, checked, ringed}
-use Rattle.node_rules.specs.Hearing as station
+use Rattle.node_rules.specs.Drafts.{Draft, Outgoing, alone, empty_draft, checked, with_ring}
+use Rattle.node_rules.specs.Hearing as station_rules
 use Rattle.node_rules.specs.Hearing.{dropped}
 use Rattle.node_rules.specs.Joining.{peer_for, identifier_of, message}
-use Rattle.node_rules.specs.Holding.{in_memory, goes_up, goes_down, oldest, without_oldest, Unread, unread, packet_fault, remembered, tagged_with, on_line}
+use Rattle.node_rules.specs.MemoryDrafts.{in_memory, goes_up, goes_down, oldest, without_oldest, Unread, unread, packet_fault, with_memory_by, with_pair_tags, on_station}
 use Rattle.node_rules.specs.Meters.{Hearing, Identity, with_session, drop_it, ends, leaves, carry_up, carries_down, carry_down, reply_with, reply, take_with, take_by, take, takes, replies, challenged, declined, kicked, activated, hear_near, hear_order, hear_join, hear_join_in, heard_by, hear_meter, joining_ends, join, leaving_ends, leave}
 use Rattle.node_rules.proofs.Words.{IsDone, Fits, memory_leaves, up_done, down_done, begun_fits, remembered_fits}
 use Rattle.line_laws.proofs.Planned.{Planned, Refuses, checked_planned, choose_planned, sealed_planned, option_planned, sealing_planned}
 use Rattle.line_laws.proofs.Made.{RingWord, Carry, Install, Activate, Given, Starts, Rings, Idles, Drops, Installs, Activates}
-use Rattle.line_laws.proofs.MadeIn.{MadeIn, Begins, OnLine, Remembers, Tags, Up, Down, Ends, Asks, Replies}
+use Rattle.line_laws.proofs.MadeIn.{MadeIn, Begins, OnStation, Remembers, Tags, Up, Down, Ends, Asks, Replies}
 use Rattle.line_laws.proofs.HearingForms.{IsNoUp, Handed, MadeOf, hear_is}
 use Rattle.line_laws.proofs.SetsOut.{LacksNothing, commanded_made}
-use Rattle.line_laws.proofs.HoldingForms.{HandedIn, commands_well, AnyAnswer, MadeBy, within_planned}
+use Rattle.line_laws.proofs.MemoryDraftForms.{HandedIn, commands_well, AnyAnswer, MadeBy, within_planned}
 
 -- These octets are those of a joining message that a frame brought.
 pub record IsBrought (g : Given) (m : Memory) (octets : List ℕ) : Type 0 where
   pub got : Accepted
   pub is : g.got ≡ Some got
   pub handed : Unread
-  pub on : unread (station.hear m.line got g.cost g.note g.now).answer ≡ Some handed
+  pub on : unread (station_rules.hear m.station got g.cost g.note g.now).answer ≡ Some handed
   pub body : handed.body ≡ octets
 
 -- A packet that a challenge brought.
@@ -80,7 +80,7 @@ pub data IsSaidUp (x : Identity) (m : Memory) : JoinMessage → Type 0 where
 
 -- why a meter's ring changes, and what it says
 pub data RingCause (g : Given) (x : Identity) (m : Memory) : RingWord → Type 0 where
-  ToCenter : (join : JoinMessage) → IsSaidUp x m join → RingCause g x m (Carry 0 0 (Command (command_of join)))
+  ToCoordinator : (join : JoinMessage) → IsSaidUp x m join → RingCause g x m (Carry 0 0 (Command (command_of join)))
   ByPacket : (granted : Granted) → IsTaken g x m granted → RingCause g x m (Install granted)
   ByOrder : (index : ℕ) → IsTold index → RingCause g x m (Activate index)
 
@@ -90,31 +90,31 @@ no_fault f (Some a) e = absurd (cc)
 
 -- a meter hands no datagram up
 abbrev pub HandsNothingUp : MeterHeard → Type 0
-HandsNothingUp (heard.Line h) = IsNoUp h
+HandsNothingUp (heard.Station h) = IsNoUp h
 HandsNothingUp _ = Unit {0}
 
 module _ (L : Granted → Type 0) (P : Eui → Key → Type 0) (E : Eui → Type 0) (g : Given) (x : Identity) (m : Memory) where
   abbrev pub W : RingWord → Type 0
   W word = RingCause g x m word
 
-  abbrev MadeHere : Doing Memory → Type 0
+  abbrev MadeHere : Draft Memory → Type 0
   MadeHere d = MadeIn W L P E g m d
 
   abbrev pub Is : Hearing → Type 0
-  Is p = Planned in_memory dropped m (HandedIn heard.Line g m) (MadeBy W L P E g m HandsNothingUp) p
+  Is p = Planned in_memory dropped m (HandedIn heard.Station g m) (MadeBy W L P E g m HandsNothingUp) p
 
   -- # Carrying the messages of others
 
   carry_up_is : (from : Eui) (octets : List ℕ) (join : JoinMessage) (b : JoinBody) → join_in octets ≡ Some join → Is (carry_up m from join b g.now)
-  unfolding begun
+  unfolding empty_draft
   carry_up_is from octets join (body.Join eap) read = choose_planned
-      (λ own. checked_planned (λ e. sealed_planned _ _ (commanded_made 0 join g.now (begun m) Begins (commands_well m 0 join e) (ToCenter join (OfOther octets join read)), search memory_leaves depth 16, tt)))
+      (λ own. checked_planned (λ e. sealed_planned _ _ (commanded_made 0 join g.now (empty_draft m) Begins (commands_well m 0 join e) (ToCoordinator join (OfOther octets join read)), search memory_leaves depth 16, tt)))
       (λ other. Refuses _)
   carry_up_is from octets join _ read = Refuses _
 
   carries_down_is : (join : JoinMessage) → Is (carries_down m join)
-  carries_down_is join = option_planned (λ own. ends m (goes_down own join (begun m)) heard.Carried) (address_of m.line) (drop_it m BadUnit)
-      (λ own e. sealed_planned _ _ (Down own join _ Begins, down_done m.line own join (begun m) (begun_fits m.line 1 m), tt)) (λ e. Refuses _)
+  carries_down_is join = option_planned (λ own. ends m (goes_down own join (empty_draft m)) heard.Carried) (address_of m.station) (drop_it m BadUnit)
+      (λ own e. sealed_planned _ _ (Down own join _ Begins, down_done m.station own join (empty_draft m) (begun_fits m.station 1 m), tt)) (λ e. Refuses _)
 
   carry_down_is : (join : JoinMessage) (b : JoinBody) → Is (carry_down m join b)
   carry_down_is join (body.Challenge eap) = carries_down_is join
@@ -124,23 +124,23 @@ module _ (L : Granted → Type 0) (P : Eui → Key → Type 0) (E : Eui → Type
 
   -- # Challenges
 
-  abbrev replied : Course → Peer → Doing Memory
-  replied course peer = tagged_with (mac_p_tag peer.eui peer.id_s peer.rand_s peer.rand_p ∷ []) []
-      (remembered (λ n. with_session (Some (record { course = course; peer = Some peer; since = g.now })) (without_oldest n)) (begun m))
+  abbrev replied : Course → Peer → Draft Memory
+  replied course peer = with_pair_tags (mac_p_tag peer.eui peer.id_s peer.rand_s peer.rand_p ∷ []) []
+      (with_memory_by (λ n. with_session (Some (record { course = course; peer = Some peer; since = g.now })) (without_oldest n)) (empty_draft m))
 
   replied_made : (course : Course) (peer : Peer) (value : Rand) → oldest m ≡ Some value → MadeHere (replied course peer)
-  unfolding begun
+  unfolding empty_draft
   replied_made course peer value here = Tags _ _ _
-      (Remembers (λ n. with_session (Some (record { course = course; peer = Some peer; since = g.now })) (without_oldest n)) (begun m) Begins (Replies (record { course = course; peer = Some peer; since = g.now }) value here))
+      (Remembers (λ n. with_session (Some (record { course = course; peer = Some peer; since = g.now })) (without_oldest n)) (empty_draft m) Begins (Replies (record { course = course; peer = Some peer; since = g.now }) value here))
 
-  replied_lacks : (course : Course) (peer : Peer) (octets : ℕ) → LacksNothing m.line 0 octets → LacksNothing (replied course peer).memory.line 0 octets
-  unfolding begun remembered tagged_with
+  replied_lacks : (course : Course) (peer : Peer) (octets : ℕ) → LacksNothing m.station 0 octets → LacksNothing (replied course peer).memory.station 0 octets
+  unfolding empty_draft with_memory_by with_pair_tags
   replied_lacks course peer octets f = f
 
   replies_is : (course : Course) (peer : Peer) (join : JoinMessage) (value : Rand) → IsSaidUp x m join → oldest m ≡ Some value → Is (replies m course peer join g.now)
   replies_is (ByAgent agent) peer join value said here = checked_planned (λ e. sealed_planned _ _ (Up _ _ _ _ (replied_made (ByAgent agent) peer value here), search memory_leaves depth 16, tt))
   replies_is ByCommand peer join value said here = checked_planned (λ e.
-      sealed_planned _ _ (commanded_made 0 join g.now (replied ByCommand peer) (replied_made ByCommand peer value here) (replied_lacks ByCommand peer _ (commands_well m 0 join e)) (ToCenter join said), search memory_leaves depth 16, tt))
+      sealed_planned _ _ (commanded_made 0 join g.now (replied ByCommand peer) (replied_made ByCommand peer value here) (replied_lacks ByCommand peer _ (commands_well m 0 join e)) (ToCoordinator join said), search memory_leaves depth 16, tt))
 
   reply_is : (course : Course) (packet : List ℕ) → Is (reply x m course packet g.now)
   reply_is course packet = checked_planned (λ e.
@@ -148,25 +148,25 @@ module _ (L : Granted → Type 0) (P : Eui → Key → Type 0) (E : Eui → Type
       (λ value here. checked_planned (λ right. replies_is course (peer_for x.eui value packet) (message x.eui (body.Join (x.ciphers.second x.psk (identifier_of packet) (peer_for x.eui value packet)))) value (Second packet value here) here))
       (λ none. Refuses _))
 
-  abbrev took : Peer → ℕ → Granted → Doing Memory
-  took peer identifier granted = tagged_with (success_tag peer.eui identifier peer.rand_s peer.rand_p ∷ [])
+  abbrev took : Peer → ℕ → Granted → Draft Memory
+  took peer identifier granted = with_pair_tags (success_tag peer.eui identifier peer.rand_s peer.rand_p ∷ [])
       (mac_s_tag peer.eui peer.id_s peer.rand_p ∷ granting_tag peer.eui identifier peer.rand_s peer.rand_p (granting_text granted) ∷ [])
-      (on_line (ringed (Some granted)) (remembered (with_session None) (begun m)))
+      (on_station (with_ring (Some granted)) (with_memory_by (with_session None) (empty_draft m)))
 
   took_made : (peer : Peer) (identifier : ℕ) (granted : Granted) → IsTaken g x m granted → MadeHere (took peer identifier granted)
-  unfolding begun
-  took_made peer identifier granted taken = Tags _ _ _ (OnLine (ringed (Some granted)) (remembered (with_session None) (begun m)) (Remembers (with_session None) (begun m) Begins Ends)
+  unfolding empty_draft
+  took_made peer identifier granted taken = Tags _ _ _ (OnStation (with_ring (Some granted)) (with_memory_by (with_session None) (empty_draft m)) (Remembers (with_session None) (empty_draft m) Begins Ends)
       (Rings (Some granted) _ Starts (Installs granted (ByPacket granted taken))))
 
   -- the ring does not matter to what a command lacks
-  took_lacks : (peer : Peer) (identifier : ℕ) (granted : Granted) (octets : ℕ) → LacksNothing m.line 0 octets → LacksNothing (took peer identifier granted).memory.line 0 octets
-  unfolding begun remembered tagged_with on_line ringed next_hop
+  took_lacks : (peer : Peer) (identifier : ℕ) (granted : Granted) (octets : ℕ) → LacksNothing m.station 0 octets → LacksNothing (took peer identifier granted).memory.station 0 octets
+  unfolding empty_draft with_memory_by with_pair_tags on_station with_ring next_hop
   took_lacks peer identifier granted octets f = record { room = f.room; number = f.number }
 
   takes_is : (course : Course) (peer : Peer) (identifier : ℕ) (granted : Granted) (join : JoinMessage) → IsSaidUp x m join → IsTaken g x m granted → Is (takes m course peer identifier granted join g.now)
   takes_is (ByAgent agent) peer identifier granted join said taken = checked_planned (λ e. sealed_planned _ _ (Up _ _ _ _ (took_made peer identifier granted taken), search memory_leaves depth 16, tt))
   takes_is ByCommand peer identifier granted join said taken = checked_planned (λ e.
-      sealed_planned _ _ (commanded_made 0 join g.now (took peer identifier granted) (took_made peer identifier granted taken) (took_lacks peer identifier granted _ (commands_well m 0 join e)) (ToCenter join said), search memory_leaves depth 16, tt))
+      sealed_planned _ _ (commanded_made 0 join g.now (took peer identifier granted) (took_made peer identifier granted taken) (took_lacks peer identifier granted _ (commands_well m 0 join e)) (ToCoordinator join said), search memory_leaves depth 16, tt))
 
   take_with_is : (course : Course) (packet : List ℕ) → IsPacket g m packet → (s : MeterSession) (peer : Peer) (granted : Option Granted) → m.session ≡ Some s → s.peer ≡ Some peer → x.ciphers.third_fault x.psk peer packet ≡ None → x.ciphers.granted x.psk peer packet ≡ granted
       → Is (take_with x m course packet g.now peer granted)
@@ -192,17 +192,17 @@ module _ (L : Granted → Type 0) (P : Eui → Key → Type 0) (E : Eui → Type
       (λ outside. choose_planned (λ runs. sealed_planned _ _ (Remembers _ _ Begins Ends, search memory_leaves depth 16, tt)) (λ none. Refuses _))
 
   leaves_made : MadeHere (leaves m)
-  unfolding begun
-  leaves_made = Remembers _ _ (OnLine _ _ Begins (Rings _ _ (Idles _ Starts) Drops)) Ends
+  unfolding empty_draft
+  leaves_made = Remembers _ _ (OnStation _ _ Begins (Rings _ _ (Idles _ Starts) Drops)) Ends
 
   kicked_is : Is (kicked m)
   kicked_is = sealed_planned _ _ (leaves_made, search memory_leaves depth 16, tt)
 
   activated_is : (index : ℕ) → IsTold index → Is (activated m index)
-  unfolding begun
-  activated_is index told = choose_planned (λ held. sealed_planned _ _ (OnLine _ _ Begins (Rings _ _ Starts (Activates index (ByOrder index told) held)), search memory_leaves depth 16, tt)) (λ none. Refuses _)
+  unfolding empty_draft
+  activated_is index told = choose_planned (λ held. sealed_planned _ _ (OnStation _ _ Begins (Rings _ _ Starts (Activates index (ByOrder index told) held)), search memory_leaves depth 16, tt)) (λ none. Refuses _)
 
-  noted_is : Is (ends m (begun m) heard.Noted)
+  noted_is : Is (ends m (empty_draft m) heard.Noted)
   noted_is = sealed_planned _ _ (Begins, search memory_leaves depth 16, tt)
 
   -- # A joining message
@@ -223,19 +223,19 @@ module _ (L : Granted → Type 0) (P : Eui → Key → Type 0) (E : Eui → Type
   join_is : (octets : List ℕ) → IsBrought g m octets → (way : Way) (join : JoinMessage) → join_in octets ≡ Some join → Is (hear_join x m way join g.now)
   join_is octets brought (Air from) join read = carry_up_is from octets join join.body read
   join_is octets brought (Near agent) join read = choose_planned (λ mine. near_is agent join.body (λ packet e. record { octets = octets; brought = brought; join = join; read = read; challenge = e })) (λ other. Refuses _)
-  join_is octets brought (Mesh origin) join read = choose_planned (λ center. choose_planned (λ mine. order_is join.body (λ packet e. record { octets = octets; brought = brought; join = join; read = read; challenge = e }) (λ index e. record { octets = octets; join = join; read = read; body = e })) (λ other. carry_down_is join join.body)) (λ other. Refuses _)
+  join_is octets brought (Mesh origin) join read = choose_planned (λ coordinator. choose_planned (λ mine. order_is join.body (λ packet e. record { octets = octets; brought = brought; join = join; read = read; challenge = e }) (λ index e. record { octets = octets; join = join; read = read; body = e })) (λ other. carry_down_is join join.body)) (λ other. Refuses _)
 
   join_in_is : (octets : List ℕ) → IsBrought g m octets → (way : Way) (join : Option JoinMessage) → join_in octets ≡ join → Is (hear_join_in x m way join g.now)
   join_in_is octets brought way None read = Refuses _
   join_in_is octets brought way (Some join) read = join_is octets brought way join read
 
-  heard_by_is : (p : Plan Line (Result Heard Dropped)) (u : Option Unread) → ((v : Unread) → u ≡ Some v → IsBrought g m v.body) → Planned alone dropped m.line (Handed g m.line) (MadeOf W g m.line) p → Is (heard_by x m g.now p u)
-  heard_by_is p None b s = within_planned W L P E g m HandsNothingUp heard.Line p (λ h k. k) s
+  heard_by_is : (p : Plan StationMemory (Result Heard Dropped)) (u : Option Unread) → ((v : Unread) → u ≡ Some v → IsBrought g m v.body) → Planned alone dropped m.station (Handed g m.station) (MadeOf W g m.station) p → Is (heard_by x m g.now p u)
+  heard_by_is p None b s = within_planned W L P E g m HandsNothingUp heard.Station p (λ h k. k) s
   heard_by_is p (Some u) b s = join_in_is u.body (b u refl) u.way (join_in u.body) refl
 
   pub meter_is : (got : Accepted) → g.got ≡ Some got → Is (hear_meter x m got g.cost g.note g.now)
   meter_is got is =
-      let p = station.hear m.line got g.cost g.note g.now in heard_by_is p (unread p.answer) (λ u e. record { got = got; is = is; handed = u; on = e; body = refl }) (hear_is W g m.line got is)
+      let p = station_rules.hear m.station got g.cost g.note g.now in heard_by_is p (unread p.answer) (λ u e. record { got = got; is = is; handed = u; on = e; body = refl }) (hear_is W g m.station got is)
 
   -- # What a meter does by itself
 
@@ -245,26 +245,26 @@ module _ (L : Granted → Type 0) (P : Eui → Key → Type 0) (E : Eui → Type
   no_units : (units : List Outgoing) (n : ℕ) → units ≡ [] → length units ≤ n
   no_units units n e = rw e (omega arith)
 
-  abbrev asks : ℕ → Doing Memory
-  asks agent = goes_up agent x.eui (message x.eui (body.Join [])) (remembered (with_session (Some (record { course = ByAgent agent; peer = None; since = g.now }))) (begun m))
+  abbrev asks : ℕ → Draft Memory
+  asks agent = goes_up agent x.eui (message x.eui (body.Join [])) (with_memory_by (with_session (Some (record { course = ByAgent agent; peer = None; since = g.now }))) (empty_draft m))
 
   asks_units : (agent : ℕ) → (asks agent).units ≡ []
-  unfolding begun remembered goes_up
+  unfolding empty_draft with_memory_by goes_up
   asks_units agent = refl
 
-  asks_fits : (agent : ℕ) → Fits m.line 0 1 (remembered (with_session (Some (record { course = ByAgent agent; peer = None; since = g.now }))) (begun m))
-  asks_fits agent = remembered_fits m.line _ _ (begun_fits m.line 1 m)
+  asks_fits : (agent : ℕ) → Fits m.station 0 1 (with_memory_by (with_session (Some (record { course = ByAgent agent; peer = None; since = g.now }))) (empty_draft m))
+  asks_fits agent = remembered_fits m.station _ _ (begun_fits m.station 1 m)
 
   pub joins_is : (agent : ℕ) → Planned in_memory joining_ends m Nothing (MadeBy W L P E g m AnyAnswer) (join x m agent g.now)
   joins_is agent = choose_planned (λ joined. Refuses _) (λ outside. sealing_planned (asks agent) tt
-      (Up agent x.eui _ _ (Remembers (with_session (Some (record { course = ByAgent agent; peer = None; since = g.now }))) (begun m) Begins (Asks _)), up_done m.line agent x.eui _ _ (asks_fits agent), tt)
+      (Up agent x.eui _ _ (Remembers (with_session (Some (record { course = ByAgent agent; peer = None; since = g.now }))) (empty_draft m) Begins (Asks _)), up_done m.station agent x.eui _ _ (asks_fits agent), tt)
       (no_units (asks agent).units _ (asks_units agent)))
 
   leaves_units : (leaves m).units ≡ []
-  unfolding begun remembered on_line ringed
+  unfolding empty_draft with_memory_by on_station with_ring
   leaves_units = refl
 
-  leaves_done : IsDone m.line (leaves m)
+  leaves_done : IsDone m.station (leaves m)
   leaves_done = search memory_leaves depth 16
 
   pub leaves_is : Planned in_memory leaving_ends m Nothing (MadeBy W L P E g m AnyAnswer) (leave m)

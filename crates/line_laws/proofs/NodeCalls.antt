@@ -26,16 +26,16 @@ use Rattle.node_rules.specs.declared.heard.Heard.{Heard}
 use Rattle.node_rules.specs.declared.heard.MeterHeard.TheVariants as meter_heard
 use Rattle.node_rules.specs.declared.heard.Path.TheVariants as paths
 use Rattle.node_rules.specs.Ciphers.{Ciphers}
-use Rattle.node_rules.specs.Memory.{Load, Datagram, Line, Memory, Role, Coordinator}
+use Rattle.node_rules.specs.Memory.{Load, Datagram, StationMemory, Memory, Role, Coordinator}
 use Rattle.node_rules.specs.Plans.{Plan, resting}
-use Rattle.node_rules.specs.Doings.{Doing, Ends, alone, begun}
+use Rattle.node_rules.specs.Drafts.{Draft, Ends, alone, empty_draft}
 use Rattle.node_rules.specs.Hearing.{dropped}
-use Rattle.node_rules.specs.Holding.{in_memory, with_line, give_random, given_ends}
+use Rattle.node_rules.specs.MemoryDrafts.{in_memory, with_station, give_random, given_ends}
 use Rattle.node_rules.specs.Calls as calls
 use Rattle.node_rules.specs.Meters as meters
-use Rattle.node_rules.specs.NodeSteps.{of_line}
-use Rattle.node_rules.proofs.HoldingShapes.{whole}
-use Rattle.line_laws.specs.Stores.{IsHeld, IsReadable, IsLineKept, IsKept}
+use Rattle.node_rules.specs.NodeSteps.{of_station}
+use Rattle.node_rules.proofs.MemoryDraftShapes.{whole}
+use Rattle.line_laws.specs.Stores.{IsHeld, IsReadable, IsStationKept, IsKept}
 use Rattle.line_laws.specs.Sizes.{IsSized}
 use Rattle.line_laws.specs.Owed.{KeepsRanges}
 use Rattle.line_laws.proofs.Readings.{join_ranges}
@@ -44,14 +44,14 @@ use Rattle.line_laws.proofs.Beside.{low_one}
 use Rattle.line_laws.proofs.StoreWords.{limit_kept, number_kept}
 use Rattle.line_laws.proofs.StoreRanks.{EntryFits}
 use Rattle.line_laws.proofs.StoreFold.{WordFits, ended_kept, beside_kept}
-use Rattle.line_laws.proofs.StoreBook.{Rest, rest_lasts, line_leads}
+use Rattle.line_laws.proofs.StoreBook.{Rest, rest_lasts, station_leads}
 use Rattle.line_laws.proofs.SizeFold.{handed_sized}
 use Rattle.line_laws.proofs.Planned.{Planned, Refuses, Keeps, Ended, planned_weaker}
 use Rattle.line_laws.proofs.Made.{Made, RingWord, Carry, Install, Given, Offered, ByRequest, ByReply, ByItself}
 use Rattle.line_laws.proofs.MadeIn.{MadeIn, Station, EntryChange, Allows, Issues, Kicks}
 use Rattle.line_laws.proofs.HearingForms.{Handed, HandsUp, HandsOn, Gathers, Completes}
-use Rattle.line_laws.proofs.HoldingForms.{AnyAnswer, HandedIn, ByLine, MadeBy}
-use Rattle.line_laws.proofs.MeterForms.{HandsNothingUp, RingCause, ToCenter, ByPacket, ByOrder, meter_is, joins_is, leaves_is}
+use Rattle.line_laws.proofs.MemoryDraftForms.{AnyAnswer, HandedIn, ByStation, MadeBy}
+use Rattle.line_laws.proofs.MeterForms.{HandsNothingUp, RingCause, ToCoordinator, ByPacket, ByOrder, meter_is, joins_is, leaves_is}
 use Rattle.line_laws.proofs.CoordinatorForms.{IsGranted}
 use Rattle.line_laws.proofs.CallForms.{Few, Nothing, send_is, install_is, near_is, random_is}
 use Rattle.line_laws.proofs.Nodes.{PlanFits, PlanOk, plan_ok}
@@ -116,7 +116,7 @@ no_change role m b e (Kicks eui x is allowed) = absurd is
 
 -- the keys of a grant of the coordinator are those of its ring
 pub granted_keys : (role : Role) (m : Memory) (r : Records) → IsKept role m r → (granted : Granted) → IsGranted m granted → IsHeld granted.key0 × IsHeld granted.key1
-granted_keys role m r k granted given = by_ring m.line.ring k.line.range.ring (book.address_of given.book given.eui) given.is
+granted_keys role m r k granted given = by_ring m.station.ring k.station.range.ring (book.address_of given.book given.eui) given.is
   where
     by_ring : (x : ring.Ring) → IfSome x IsReadable → (address : Option ℕ) → option_and_then (λ a. option_map (λ (g : Granted). record g { address = a }) x) address ≡ Some granted → IsHeld granted.key0 × IsHeld granted.key1
     by_ring x h None e = absurd (no_some _ e)
@@ -127,27 +127,27 @@ granted_keys role m r k granted given = by_ring m.line.ring k.line.range.ring (b
 
 -- # Plans over the memory
 
-pub few_of : {H : Type 0} (N : H → Type 0) (m : Memory) (W : RingWord → Type 0) (L : Granted → Type 0) (P : Eui → Key → Type 0) (E : Eui → Type 0) (g : Given) (d : Doing Memory) (answer : H) → MadeBy W L P E g m N d answer
-    → MadeIn W L P E g m d × Few m.line d
+pub few_of : {H : Type 0} (N : H → Type 0) (m : Memory) (W : RingWord → Type 0) (L : Granted → Type 0) (P : Eui → Key → Type 0) (E : Eui → Type 0) (g : Given) (d : Draft Memory) (answer : H) → MadeBy W L P E g m N d answer
+    → MadeIn W L P E g m d × Few m.station d
 few_of N m W L P E g d answer x = (x.0, record { few = x.1.few })
 
 module _ (role : Role) (W : RingWord → Type 0) (words : (w : RingWord) → W w → WordFits w) (g : Given) (m : Memory)
     (offers : (address : Option ℕ) (by origin : ℕ) (rank : Rank) → Offered g address by origin rank → EntryFits (routing.offered_entry origin rank by g.now)) where
   -- a plan of the line
-  pub of_line_planned : {H F : Type 0} {ends : Ends F} (p : Plan Line (Result H F)) → Planned alone ends m.line Nothing (λ d (a : H). Made W g (begun m.line) d × Few m.line d) p
-      → Planned in_memory ends m Nothing (λ d (a : H). MadeIn W NoGrant NoPair NoEui g m d × Few m.line d) (of_line m p)
+  pub of_station_planned : {H F : Type 0} {ends : Ends F} (p : Plan StationMemory (Result H F)) → Planned alone ends m.station Nothing (λ d (a : H). Made W g (empty_draft m.station) d × Few m.station d) p
+      → Planned in_memory ends m Nothing (λ d (a : H). MadeIn W NoGrant NoPair NoEui g m d × Few m.station d) (of_station m p)
   unfolding resting
-  of_line_planned p (Refuses reason) = Refuses reason
-  of_line_planned p (Keeps n answer k) = absurd k
-  of_line_planned p (Ended d answer done left) = Ended (whole m d) answer (Station d done.0, record { few = done.1.few }) left
+  of_station_planned p (Refuses reason) = Refuses reason
+  of_station_planned p (Keeps n answer k) = absurd k
+  of_station_planned p (Ended d answer done left) = Ended (whole m d) answer (Station d done.0, record { few = done.1.few }) left
 
   -- a plan that touches no book
-  pub bookless_ok : {H F : Type 0} (ends : Ends F) (K : Memory → H → Type 0) → ((n : Memory) (answer : H) → K n answer → (r : Records) → IsKept role m r → IsKept role n r) → ((n : Memory) (answer : H) → K n answer → IsSized m → IsSized n) → ((n : Memory) (answer : H) → K n answer → n.line.counter ≡ m.line.counter)
-      → (p : Plan Memory (Result H F)) → Planned in_memory ends m K (λ d a. MadeIn W NoGrant NoPair NoEui g m d × Few m.line d) p → IsSized m → PlanOk role m p
+  pub bookless_ok : {H F : Type 0} (ends : Ends F) (K : Memory → H → Type 0) → ((n : Memory) (answer : H) → K n answer → (r : Records) → IsKept role m r → IsKept role n r) → ((n : Memory) (answer : H) → K n answer → IsSized m → IsSized n) → ((n : Memory) (answer : H) → K n answer → n.station.counter ≡ m.station.counter)
+      → (p : Plan Memory (Result H F)) → Planned in_memory ends m K (λ d a. MadeIn W NoGrant NoPair NoEui g m d × Few m.station d) p → IsSized m → PlanOk role m p
   bookless_ok ends K kept sized same p s h = plan_ok role W NoGrant NoPair NoEui g m words offers (λ eui none. absurd none) (λ eui psk none. absurd none) (no_change role m) (λ r k granted none. absurd none) ends K kept sized same p s h
 
-  pub line_ok : {H F : Type 0} (ends : Ends F) (p : Plan Line (Result H F)) → Planned alone ends m.line Nothing (λ d (a : H). Made W g (begun m.line) d × Few m.line d) p → IsSized m → PlanOk role m (of_line m p)
-  line_ok ends p s h = bookless_ok ends Nothing (λ n answer k. absurd k) (λ n answer k. absurd k) (λ n answer k. absurd k) (of_line m p) (of_line_planned p s) h
+  pub station_ok : {H F : Type 0} (ends : Ends F) (p : Plan StationMemory (Result H F)) → Planned alone ends m.station Nothing (λ d (a : H). Made W g (empty_draft m.station) d × Few m.station d) p → IsSized m → PlanOk role m (of_station m p)
+  station_ok ends p s h = bookless_ok ends Nothing (λ n answer k. absurd k) (λ n answer k. absurd k) (λ n answer k. absurd k) (of_station m p) (of_station_planned p s) h
 
 -- # The calls of a node
 
@@ -164,49 +164,49 @@ carried_fits w (Carries to note load) = tt
 abbrev pub NoWord : RingWord → Type 0
 NoWord w = ⊥
 
-line_counter : (g : Given) (l n : Line) (a : Heard) → Handed g l n a → n.counter ≡ l.counter
-line_counter g l n a (HandsUp by own mesh octets came here mine) = refl
-line_counter g l n a (HandsOn x none) = refl
-line_counter g l n a (Gathers by own mesh piece came here mine e) = refl
-line_counter g l n a (Completes by own mesh piece note octets came here mine e) = refl
+station_counter : (g : Given) (l n : StationMemory) (a : Heard) → Handed g l n a → n.counter ≡ l.counter
+station_counter g l n a (HandsUp by own mesh octets came here mine) = refl
+station_counter g l n a (HandsOn x none) = refl
+station_counter g l n a (Gathers by own mesh piece came here mine e) = refl
+station_counter g l n a (Completes by own mesh piece note octets came here mine e) = refl
 
-pub handed_counter : (m : Memory) {H : Type 0} (word : Heard → H) (g : Given) (n : Memory) (answer : H) → HandedIn word g m n answer → n.line.counter ≡ m.line.counter
-handed_counter m word g n answer (ByLine l a k) = line_counter g m.line l a k
+pub handed_counter : (m : Memory) {H : Type 0} (word : Heard → H) (g : Given) (n : Memory) (answer : H) → HandedIn word g m n answer → n.station.counter ≡ m.station.counter
+handed_counter m word g n answer (ByStation l a k) = station_counter g m.station l a k
 
 module _ (role : Role) (m : Memory) (h : IsSized m) where
-  pub send_ok : (to : ℕ) (datagram : List ℕ) (note now : ℕ) → PlanOk role m (of_line m (calls.send m.line to datagram note now))
-  send_ok to datagram note now = line_ok role IsCarried carried_fits (call_given 0 note now) m (call_offers 0 note now) calls.sending_ends _ (send_is IsCarried (call_given 0 note now) m.line to datagram (λ some short. Carries to note (Datagram datagram m.line.next_tag))) h
+  pub send_ok : (to : ℕ) (datagram : List ℕ) (note now : ℕ) → PlanOk role m (of_station m (calls.send m.station to datagram note now))
+  send_ok to datagram note now = station_ok role IsCarried carried_fits (call_given 0 note now) m (call_offers 0 note now) calls.sending_ends _ (send_is IsCarried (call_given 0 note now) m.station to datagram (λ some short. Carries to note (Datagram datagram m.station.next_tag))) h
 
-  pub near_ok : (to cost now : ℕ) → to < 0xFFFE → cost < 2 ^ 16 → PlanOk role m (of_line m (calls.preset_near m.line to cost now))
-  near_ok to cost now short low = line_ok role NoWord never (near_given to cost now) m (near_offers to cost now short low) calls.presetting_ends _ (near_is NoWord (near_given to cost now) m.line to refl) h
+  pub near_ok : (to cost now : ℕ) → to < 0xFFFE → cost < 2 ^ 16 → PlanOk role m (of_station m (calls.preset_near m.station to cost now))
+  near_ok to cost now short low = station_ok role NoWord never (near_given to cost now) m (near_offers to cost now short low) calls.presetting_ends _ (near_is NoWord (near_given to cost now) m.station to refl) h
 
   -- a value of the workshop
-  pub counter_ok : (value : ℕ) → value < 2 ^ 32 → PlanFits role m (of_line m (calls.preset_counter m.line value))
+  pub counter_ok : (value : ℕ) → value < 2 ^ 32 → PlanFits role m (of_station m (calls.preset_counter m.station value))
   unfolding resting
   counter_ok value fits = record {
-    leads = line_leads role m m.line (record m.line { counter = counter.counting_at value }) _
-        (low_one (Rest role m) (rest_lasts role m) m.line _ _ (omega arith) (λ r k. limit_kept m.line r (counter.counting_at value) k fits (omega arith)));
-    sized = record { line = record { reassemblies = h.line.reassemblies; waiting = h.line.waiting; short = h.line.short }; sessions = h.sessions; randoms = h.randoms };
+    leads = station_leads role m m.station (record m.station { counter = counter.counting_at value }) _
+        (low_one (Rest role m) (rest_lasts role m) m.station _ _ (omega arith) (λ r k. limit_kept m.station r (counter.counting_at value) k fits (omega arith)));
+    sized = record { station = record { reassemblies = h.station.reassemblies; waiting = h.station.waiting; short = h.station.short }; sessions = h.sessions; randoms = h.randoms };
     few = omega arith;
   }
 
-  pub number_ok : (value : ℕ) → 1 ≤ value → value < 2 ^ 16 → PlanFits role m (of_line m (calls.preset_number m.line value))
+  pub number_ok : (value : ℕ) → 1 ≤ value → value < 2 ^ 16 → PlanFits role m (of_station m (calls.preset_number m.station value))
   unfolding resting
   number_ok value low fits = record {
-    leads = line_leads role m m.line (record m.line { own_number = own_number.numbering_at value }) _
-        (low_one (Rest role m) (rest_lasts role m) m.line _ _ (omega arith) (λ r k. number_kept m.line r (own_number.numbering_at value) k low fits (omega arith)));
-    sized = record { line = record { reassemblies = h.line.reassemblies; waiting = h.line.waiting; short = h.line.short }; sessions = h.sessions; randoms = h.randoms };
+    leads = station_leads role m m.station (record m.station { own_number = own_number.numbering_at value }) _
+        (low_one (Rest role m) (rest_lasts role m) m.station _ _ (omega arith) (λ r k. number_kept m.station r (own_number.numbering_at value) k low fits (omega arith)));
+    sized = record { station = record { reassemblies = h.station.reassemblies; waiting = h.station.waiting; short = h.station.short }; sessions = h.sessions; randoms = h.randoms };
     few = omega arith;
   }
 
   -- a change of routes beside the store
-  pub broke_ok : {A : Type 0} (next : ℕ) (answer : A) → PlanOk role m (resting (with_line (calls.broke next m.line) m) answer answer)
+  pub broke_ok : {A : Type 0} (next : ℕ) (answer : A) → PlanOk role m (resting (with_station (calls.broke next m.station) m) answer answer)
   unfolding resting
   broke_ok next answer = record {
-    leads = leads_beside (IsKept role) m _ (λ r k. record { line = ended_kept m.line r (routing.goes_by next) k.line; book = k.book; sessions = k.sessions });
-    sized = record { line = record { reassemblies = h.line.reassemblies; waiting = h.line.waiting; short = h.line.short }; sessions = h.sessions; randoms = h.randoms };
+    leads = leads_beside (IsKept role) m _ (λ r k. record { station = ended_kept m.station r (routing.goes_by next) k.station; book = k.book; sessions = k.sessions });
+    sized = record { station = record { reassemblies = h.station.reassemblies; waiting = h.station.waiting; short = h.station.short }; sessions = h.sessions; randoms = h.randoms };
     few = omega arith;
-    rises = λ fits. record { high = tt; numbered = omega arith };
+    rises = λ fits. record { high = tt; with_own_number = omega arith };
   }
 
   -- a grant of the workshop
@@ -217,29 +217,29 @@ module _ (role : Role) (m : Memory) (h : IsSized m) where
   installed granted fits w e = subst WordFits (sym e) fits
 
   pub provision_ok : (granted : Granted) → IsReadable granted → PlanOk role m (meters.provision m granted)
-  provision_ok granted fits = line_ok role (Given1 granted) (installed granted fits) (call_given 0 0 0) m (call_offers 0 0 0) calls.ringing_ends _ (install_is (Given1 granted) (call_given 0 0 0) m.line granted refl) h
+  provision_ok granted fits = station_ok role (Given1 granted) (installed granted fits) (call_given 0 0 0) m (call_offers 0 0 0) calls.ringing_ends _ (install_is (Given1 granted) (call_given 0 0 0) m.station granted refl) h
 
   pub random_ok : (value : Rand) → PlanOk role m (give_random m value)
   random_ok value = bookless_ok role NoWord never (call_given 0 0 0) m (call_offers 0 0 0) given_ends Nothing (λ n answer k. absurd k) (λ n answer k. absurd k) (λ n answer k. absurd k) _
       (planned_weaker _ (λ n answer k. k) (few_of AnyAnswer m NoWord NoGrant NoPair NoEui (call_given 0 0 0)) (random_is NoWord NoGrant NoPair NoEui (call_given 0 0 0) m value)) h
 
   pub handed_kept : {H : Type 0} (word : Heard → H) (g : Given) (n : Memory) (answer : H) → HandedIn word g m n answer → (r : Records) → IsKept role m r → IsKept role n r
-  handed_kept word g n answer (ByLine l a k) r q = record { line = line_of_handed g l a k r q.line; book = q.book; sessions = q.sessions }
+  handed_kept word g n answer (ByStation l a k) r q = record { station = station_of_handed g l a k r q.station; book = q.book; sessions = q.sessions }
     where
-      line_of_handed : (g : Given) (l : Line) (a : Heard) → Handed g m.line l a → (r : Records) → IsLineKept m.line r → IsLineKept l r
-      line_of_handed g l a (HandsUp by own mesh octets came here mine) r k = k
-      line_of_handed g l a (HandsOn x none) r k = k
-      line_of_handed g l a (Gathers by own mesh piece came here mine e) r k = beside_kept m.line _ r k refl refl refl refl refl refl
-      line_of_handed g l a (Completes by own mesh piece note octets came here mine e) r k = beside_kept m.line _ r k refl refl refl refl refl refl
+      station_of_handed : (g : Given) (l : StationMemory) (a : Heard) → Handed g m.station l a → (r : Records) → IsStationKept m.station r → IsStationKept l r
+      station_of_handed g l a (HandsUp by own mesh octets came here mine) r k = k
+      station_of_handed g l a (HandsOn x none) r k = k
+      station_of_handed g l a (Gathers by own mesh piece came here mine e) r k = beside_kept m.station _ r k refl refl refl refl refl refl
+      station_of_handed g l a (Completes by own mesh piece note octets came here mine e) r k = beside_kept m.station _ r k refl refl refl refl refl refl
 
   pub handed_within : {H : Type 0} (word : Heard → H) (g : Given) (n : Memory) (answer : H) → HandedIn word g m n answer → IsSized m → IsSized n
-  handed_within word g n answer (ByLine l a k) s = record { line = handed_sized g m.line l a k s.line; sessions = s.sessions; randoms = s.randoms }
+  handed_within word g n answer (ByStation l a k) s = record { station = handed_sized g m.station l a k s.station; sessions = s.sessions; randoms = s.randoms }
 
   -- # A meter
 
   module _ (ciphers : Ciphers) (fits : KeepsRanges ciphers) (x : meters.Identity) (same : x.ciphers ≡ ciphers) where
     meter_words : (g : Given) (w : RingWord) → RingCause g x m w → WordFits w
-    meter_words g w (ToCenter join said) = tt
+    meter_words g w (ToCoordinator join said) = tt
     meter_words g w (ByPacket granted taken) =
         fits.granted x.psk taken.peer taken.packet granted (ap (λ (c : Ciphers). c.third_fault x.psk taken.peer taken.packet) (sym same) ∙ taken.right) (ap (λ (c : Ciphers). c.granted x.psk taken.peer taken.packet) (sym same) ∙ taken.is)
     meter_words g w (ByOrder index told) = (join_ranges told.octets told.join told.read).1 index told.body
@@ -253,6 +253,6 @@ module _ (role : Role) (m : Memory) (h : IsSized m) where
         (planned_weaker _ (λ n answer k. k) (few_of AnyAnswer m (RingCause (call_given 0 0 0) x m) NoGrant NoPair NoEui (call_given 0 0 0)) (leaves_is NoGrant NoPair NoEui (call_given 0 0 0) x m)) h
 
     pub meter_hears_ok : (got : Accepted) (cost note now : ℕ) → RoutesFit got → PlanOk role m (meters.hear_meter x m got cost note now)
-    meter_hears_ok got cost note now routes = bookless_ok role (RingCause (heard_given got cost note now) x m) (meter_words (heard_given got cost note now)) (heard_given got cost note now) m (heard_offers got cost note now routes) dropped (HandedIn meter_heard.Line (heard_given got cost note now) m)
-        (handed_kept meter_heard.Line (heard_given got cost note now)) (handed_within meter_heard.Line (heard_given got cost note now)) (handed_counter m meter_heard.Line (heard_given got cost note now)) _
+    meter_hears_ok got cost note now routes = bookless_ok role (RingCause (heard_given got cost note now) x m) (meter_words (heard_given got cost note now)) (heard_given got cost note now) m (heard_offers got cost note now routes) dropped (HandedIn meter_heard.Station (heard_given got cost note now) m)
+        (handed_kept meter_heard.Station (heard_given got cost note now)) (handed_within meter_heard.Station (heard_given got cost note now)) (handed_counter m meter_heard.Station (heard_given got cost note now)) _
         (planned_weaker _ (λ n answer k. k) (few_of HandsNothingUp m (RingCause (heard_given got cost note now) x m) NoGrant NoPair NoEui (heard_given got cost note now)) (meter_is NoGrant NoPair NoEui (heard_given got cost note now) x m got refl)) h

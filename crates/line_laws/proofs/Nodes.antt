@@ -14,9 +14,9 @@ use Rattle.routing_set.specs.declared.rank.Rank.{Rank}
 use Rattle.routing_set.specs.RoutingSet as routing
 use Rattle.node_rules.specs.Memory.{Memory, Role, Coordinator, Node}
 use Rattle.node_rules.specs.Plans.{Plan, Outcome, carry_out, resting}
-use Rattle.node_rules.specs.Doings.{Ends, Outgoing, letters, sealed_by, sealing_key}
-use Rattle.node_rules.specs.Holding.{in_memory}
-use Rattle.node_rules.specs.NodeSteps.{Did, acts, stays, left_by}
+use Rattle.node_rules.specs.Drafts.{Ends, Outgoing, letters, sealed_by, sealing_key}
+use Rattle.node_rules.specs.MemoryDrafts.{in_memory}
+use Rattle.node_rules.specs.NodeSteps.{NodeStep, acts, stays, left_by}
 use Rattle.node_rules.specs.Laws.{IsWhole, IsCutOff}
 use Rattle.node_rules.proofs.Sizes.{pending, pending_bound}
 use Rattle.node_rules.proofs.Writing.{clean}
@@ -44,7 +44,7 @@ pub record PlanOk (role : Role) (m : Memory) {A : Type 0} (p : Plan Memory A) : 
   pub leads : Leads (IsKept role) m p.puts p.memory
   pub sized : IsSized p.memory
   pub few : length p.frames ≤ 24
-  pub rises : m.line.counter.limit < 2 ^ 32 → PlanRises m p
+  pub rises : m.station.counter.limit < 2 ^ 32 → PlanRises m p
 
 -- What holds of a node.
 pub record NodeOk (x : Node) : Type 0 where
@@ -52,14 +52,14 @@ pub record NodeOk (x : Node) : Type 0 where
   pub sized : IfSome x.memory IsSized
 
 -- What holds of what a node did.
-pub record DidFits (x : Node) {A : Type 0} (d : Did A) : Type 0 where
+pub record DidFits (x : Node) {A : Type 0} (d : NodeStep A) : Type 0 where
   pub node : NodeOk d.node
   pub role : d.node.role ≡ x.role
   pub eui : d.node.eui ≡ x.eui
   pub few : length d.frames ≤ 24
 
 -- The same, and its frames are numbered from its frontier on.
-pub record DidOk (x : Node) {A : Type 0} (d : Did A) : Type 0 where
+pub record DidOk (x : Node) {A : Type 0} (d : NodeStep A) : Type 0 where
   pub node : NodeOk d.node
   pub role : d.node.role ≡ x.role
   pub eui : d.node.eui ≡ x.eui
@@ -103,7 +103,7 @@ acts_ok x halted plan ok f =
       rises = acts_rise x halted plan (λ m there.
           let kept : IsKept x.role m x.store.records = subst (λ o. Left (IsKept x.role) x.store.records o) there ok.kept in
           let sized : IsSized m = subst (λ o. IfSome o IsSized) there ok.sized in
-          ((f m there kept sized).rises kept.line.range.counter, kept.line.counter.limit, kept.line.counter.below));
+          ((f m there kept sized).rises kept.station.range.counter, kept.station.counter.limit, kept.station.counter.below));
     }
 
 -- # Frames
@@ -120,8 +120,8 @@ sealed_few (Some g) first units = by_key (sealing_key g)
     by_key None = omega arith
     by_key (Some key) = let same = length-letters g key first units in omega arith
 
-pub waits_little : (m : Memory) → IsSized m → pending m.line ≤ 21
-waits_little m h = pending_bound m.line (record { bodies = h.line.waiting.0; blocks = h.line.waiting.1; datagrams = h.line.short })
+pub waits_little : (m : Memory) → IsSized m → pending m.station ≤ 21
+waits_little m h = pending_bound m.station (record { bodies = h.station.waiting.0; blocks = h.station.waiting.1; datagrams = h.station.short })
 
 -- # Plans that are made of words
 
@@ -129,23 +129,23 @@ module _ (role : Role) (W : RingWord → Type 0) (L : Granted → Type 0) (P : E
     (words : (w : RingWord) → W w → WordFits w)
     (offers : (address : Option ℕ) (by origin : ℕ) (rank : Rank) → Offered g address by origin rank → EntryFits (routing.offered_entry origin rank by g.now))
     (known : (eui : Eui) → E eui → length eui.0 ≡ 8) (pairs : (eui : Eui) (psk : Key) → P eui psk → length psk.0 ≡ 16)
-    (center : (b : book.Book) (e : BookEntry) → EntryChange L P E m b e → role ≡ Coordinator)
+    (coordinator : (b : book.Book) (e : BookEntry) → EntryChange L P E m b e → role ≡ Coordinator)
     (grants : (r : Records) → IsKept role m r → (granted : Granted) → L granted → IsHeld granted.key0 × IsHeld granted.key1) where
-  plan_few : {H F : Type 0} (ends : Ends F) (K : Memory → H → Type 0) (p : Plan Memory (Result H F)) → Planned in_memory ends m K (λ d a. MadeIn W L P E g m d × Few m.line d) p → pending m.line ≤ 21 → length p.frames ≤ 24
+  plan_few : {H F : Type 0} (ends : Ends F) (K : Memory → H → Type 0) (p : Plan Memory (Result H F)) → Planned in_memory ends m K (λ d a. MadeIn W L P E g m d × Few m.station d) p → pending m.station ≤ 21 → length p.frames ≤ 24
   unfolding resting
   plan_few ends K p (Refuses reason) waits = omega arith
   plan_few ends K p (Keeps n answer k) waits = omega arith
   plan_few ends K p (Ended d answer done left) waits =
       let few = done.1.few waits in
-      let letters_few = sealed_few d.memory.line.ring d.memory.line.counter.next d.units in
-      let both = length-append d.plain (sealed_by d.memory.line.ring d.memory.line.counter.next d.units) in
+      let letters_few = sealed_few d.memory.station.ring d.memory.station.counter.next d.units in
+      let both = length-append d.plain (sealed_by d.memory.station.ring d.memory.station.counter.next d.units) in
       omega arith
 
-  pub plan_ok : {H F : Type 0} (ends : Ends F) (K : Memory → H → Type 0) → ((n : Memory) (answer : H) → K n answer → (r : Records) → IsKept role m r → IsKept role n r) → ((n : Memory) (answer : H) → K n answer → IsSized m → IsSized n) → ((n : Memory) (answer : H) → K n answer → n.line.counter ≡ m.line.counter)
-      → (p : Plan Memory (Result H F)) → Planned in_memory ends m K (λ d a. MadeIn W L P E g m d × Few m.line d) p → IsSized m → PlanOk role m p
+  pub plan_ok : {H F : Type 0} (ends : Ends F) (K : Memory → H → Type 0) → ((n : Memory) (answer : H) → K n answer → (r : Records) → IsKept role m r → IsKept role n r) → ((n : Memory) (answer : H) → K n answer → IsSized m → IsSized n) → ((n : Memory) (answer : H) → K n answer → n.station.counter ≡ m.station.counter)
+      → (p : Plan Memory (Result H F)) → Planned in_memory ends m K (λ d a. MadeIn W L P E g m d × Few m.station d) p → IsSized m → PlanOk role m p
   plan_ok ends K kept sized same p s h = record {
-    leads = plan_leads role W L P E g m words offers known pairs center grants ends K kept p s (waits_little m h);
-    sized = plan_sized W L P E g m ends K (λ d a. MadeIn W L P E g m d × Few m.line d) sized (λ d answer x. x.0) p s h;
+    leads = plan_leads role W L P E g m words offers known pairs coordinator grants ends K kept p s (waits_little m h);
+    sized = plan_sized W L P E g m ends K (λ d a. MadeIn W L P E g m d × Few m.station d) sized (λ d answer x. x.0) p s h;
     few = plan_few ends K p s (waits_little m h);
-    rises = λ fits. plan_rises W L P E g m ends K (λ d a. MadeIn W L P E g m d × Few m.line d) same (λ d answer x. x.0) p s fits;
+    rises = λ fits. plan_rises W L P E g m ends K (λ d a. MadeIn W L P E g m d × Few m.station d) same (λ d answer x. x.0) p s fits;
   }

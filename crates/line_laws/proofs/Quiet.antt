@@ -11,14 +11,14 @@ use Rattle.group_keys.specs.KeyBook as book
 use Rattle.node_rules.specs.declared.refusal.CoordinatorRefusal.{CoordinatorRefusal}
 use Rattle.node_rules.specs.declared.refusal.CoordinatorRefusal.TheVariants as refusal
 use Rattle.node_rules.specs.Frames.{Arrived}
-use Rattle.node_rules.specs.Memory.{Line, Memory, Node}
+use Rattle.node_rules.specs.Memory.{StationMemory, Memory, Node}
 use Rattle.node_rules.specs.Plans.{Plan, carry_out, resting}
 use Rattle.node_rules.specs.Accepting.{Accepting, marking}
-use Rattle.node_rules.specs.Doings.{Doing, alone, Holder, Ends, letters, sealed_by, sealing_key, begun, ranked, ringed, sealing, refused, checked, choose}
-use Rattle.node_rules.specs.Holding.{in_memory, remembered}
+use Rattle.node_rules.specs.Drafts.{Draft, alone, StationPlace, Ends, letters, sealed_by, sealing_key, empty_draft, with_rank, with_ring, sealing, refused, checked, choose}
+use Rattle.node_rules.specs.MemoryDrafts.{in_memory, with_memory_by}
 use Rattle.node_rules.specs.Calls as calls
 use Rattle.node_rules.specs.Coordinators as coordinators
-use Rattle.node_rules.specs.Coordinators.{entered, changed, changes, without_session}
+use Rattle.node_rules.specs.Coordinators.{with_book_entry, changed, changes, without_session}
 use Rattle.node_rules.specs.Laws.{IsWhole, IsCutOff}
 use Rattle.node_rules.specs.NodeSteps.{acts, stays, left_by}
 use Rattle.node_rules.proofs.Writing.{clean}
@@ -33,11 +33,11 @@ sealed_none (Some g) first = by_key (sealing_key g)
     by_key (Some key) = refl
 
 -- a doing without units and plain frames
-pub quiet_sealing : {M H E : Type 0} (h : Holder M) (ends : Ends E) (d : Doing M) (answer : H) → d.units ≡ [] → d.plain ≡ [] → (sealing h ends d answer).frames ≡ []
+pub quiet_sealing : {M H E : Type 0} (h : StationPlace M) (ends : Ends E) (d : Draft M) (answer : H) → d.units ≡ [] → d.plain ≡ [] → (sealing h ends d answer).frames ≡ []
 quiet_sealing h ends d answer units plain =
-    ap (λ us. d.plain ++ sealed_by (h.line d.memory).ring (h.line d.memory).counter.next us) units
-    ∙ ap (λ ps. ps ++ sealed_by (h.line d.memory).ring (h.line d.memory).counter.next []) plain
-    ∙ sealed_none (h.line d.memory).ring (h.line d.memory).counter.next
+    ap (λ us. d.plain ++ sealed_by (h.station d.memory).ring (h.station d.memory).counter.next us) units
+    ∙ ap (λ ps. ps ++ sealed_by (h.station d.memory).ring (h.station d.memory).counter.next []) plain
+    ∙ sealed_none (h.station d.memory).ring (h.station d.memory).counter.next
 
 -- a node that carries out a plan without frames sends none
 pub acts_quiet : {A : Type 0} (x : Node) (halted : A) (plan : Memory → Plan Memory A) → ((m : Memory) → (plan m).frames ≡ []) → (acts x halted plan).frames ≡ []
@@ -54,11 +54,11 @@ acts_quiet {A = A} x halted plan quiet = by_memory x.memory
 
 -- # The plans of setup
 
-pub counter_quiet : (l : Line) (value : ℕ) → (calls.preset_counter l value).frames ≡ []
+pub counter_quiet : (l : StationMemory) (value : ℕ) → (calls.preset_counter l value).frames ≡ []
 unfolding resting
 counter_quiet l value = refl
 
-pub number_quiet : (l : Line) (value : ℕ) → (calls.preset_number l value).frames ≡ []
+pub number_quiet : (l : StationMemory) (value : ℕ) → (calls.preset_number l value).frames ≡ []
 unfolding resting
 number_quiet l value = refl
 
@@ -67,34 +67,34 @@ unfolding checked resting
 checked_quiet ends m None p e = e
 checked_quiet ends m (Some reason) p e = refl
 
-ranked_none : (l : Line) (to cost now : ℕ) → ((ranked to (calls.near_rank cost) to now (begun l)).units ≡ []) × ((ranked to (calls.near_rank cost) to now (begun l)).plain ≡ [])
-unfolding begun ranked
+ranked_none : (l : StationMemory) (to cost now : ℕ) → ((with_rank to (calls.near_rank cost) to now (empty_draft l)).units ≡ []) × ((with_rank to (calls.near_rank cost) to now (empty_draft l)).plain ≡ [])
+unfolding empty_draft with_rank
 ranked_none l to cost now = (refl, refl)
 
-pub near_quiet : (l : Line) (to cost now : ℕ) → (calls.preset_near l to cost now).frames ≡ []
+pub near_quiet : (l : StationMemory) (to cost now : ℕ) → (calls.preset_near l to cost now).frames ≡ []
 near_quiet l to cost now =
     let none = ranked_none l to cost now in
-    checked_quiet calls.presetting_ends l (calls.preset_fault l to cost now) (sealing alone calls.presetting_ends (ranked to (calls.near_rank cost) to now (begun l)) (tt {0})) (quiet_sealing alone calls.presetting_ends (ranked to (calls.near_rank cost) to now (begun l)) (tt {0}) none.0 none.1)
+    checked_quiet calls.presetting_ends l (calls.preset_fault l to cost now) (sealing alone calls.presetting_ends (with_rank to (calls.near_rank cost) to now (empty_draft l)) (tt {0})) (quiet_sealing alone calls.presetting_ends (with_rank to (calls.near_rank cost) to now (empty_draft l)) (tt {0}) none.0 none.1)
 
-ringed_none : (l : Line) (granted : Granted) → ((ringed (Some granted) (begun l)).units ≡ []) × ((ringed (Some granted) (begun l)).plain ≡ [])
-unfolding begun ringed
+ringed_none : (l : StationMemory) (granted : Granted) → ((with_ring (Some granted) (empty_draft l)).units ≡ []) × ((with_ring (Some granted) (empty_draft l)).plain ≡ [])
+unfolding empty_draft with_ring
 ringed_none l granted = (refl, refl)
 
-pub install_quiet : (l : Line) (granted : Granted) → (calls.install l granted).frames ≡ []
-install_quiet l granted = let none = ringed_none l granted in quiet_sealing alone calls.ringing_ends (ringed (Some granted) (begun l)) (tt {0}) none.0 none.1
+pub install_quiet : (l : StationMemory) (granted : Granted) → (calls.install l granted).frames ≡ []
+install_quiet l granted = let none = ringed_none l granted in quiet_sealing alone calls.ringing_ends (with_ring (Some granted) (empty_draft l)) (tt {0}) none.0 none.1
 
 -- # The coordinator's orders of setup
 
 changed_none : (m : Memory) (e : BookEntry) → ((changed m e).units ≡ []) × ((changed m e).plain ≡ [])
-unfolding begun entered remembered
+unfolding empty_draft with_book_entry with_memory_by
 changed_none m e = by_change (changes m e)
   where
-    by_change : (b : Bool) → let d : Doing Memory = (if b then remembered (without_session e.eui) (entered e (begun m)) else begun m) in (d.units ≡ []) × (d.plain ≡ [])
+    by_change : (b : Bool) → let d : Draft Memory = (if b then with_memory_by (without_session e.eui) (with_book_entry e (empty_draft m)) else empty_draft m) in (d.units ≡ []) × (d.plain ≡ [])
     by_change true = (refl, refl)
     by_change false = (refl, refl)
 
-entered_none : (e : BookEntry) (d : Doing Memory) → d.units ≡ [] → d.plain ≡ [] → ((entered e d).units ≡ []) × ((entered e d).plain ≡ [])
-unfolding entered
+entered_none : (e : BookEntry) (d : Draft Memory) → d.units ≡ [] → d.plain ≡ [] → ((with_book_entry e d).units ≡ []) × ((with_book_entry e d).plain ≡ [])
+unfolding with_book_entry
 entered_none e d units plain = (units, plain)
 
 refused_quiet : (H : Type 0) (m : Memory) (reason : CoordinatorRefusal) → (refused {H = H} coordinators.orders m reason).frames ≡ []
@@ -121,15 +121,15 @@ depot_quiet m eui psk =
     let d = changed m (book.allowed_entry eui psk (book.entry_for m.book eui)) in
     let none = changed_none m (book.allowed_entry eui psk (book.entry_for m.book eui)) in
     choose_quiet (book.has_room m.book eui) _ _
-    (option_quiet (λ granted. option_map_or (λ e. sealing in_memory coordinators.orders (entered (book.issued_entry eui granted e) d) granted) (book.allowed_one d.memory.book eui) (refused coordinators.orders m refusal.MetersFull))
+    (option_quiet (λ granted. option_map_or (λ e. sealing in_memory coordinators.orders (with_book_entry (book.issued_entry eui granted e) d) granted) (book.allowed_one d.memory.book eui) (refused coordinators.orders m refusal.MetersFull))
     (coordinators.grant_for d.memory eui) (refused coordinators.orders m refusal.MetersFull)
-    (λ granted. option_quiet (λ e. sealing in_memory coordinators.orders (entered (book.issued_entry eui granted e) d) granted) (book.allowed_one d.memory.book eui) (refused coordinators.orders m refusal.MetersFull)
-    (λ e. let n = entered_none (book.issued_entry eui granted e) d none.0 none.1 in quiet_sealing in_memory coordinators.orders (entered (book.issued_entry eui granted e) d) granted n.0 n.1) (refused_quiet Granted m refusal.MetersFull))
+    (λ granted. option_quiet (λ e. sealing in_memory coordinators.orders (with_book_entry (book.issued_entry eui granted e) d) granted) (book.allowed_one d.memory.book eui) (refused coordinators.orders m refusal.MetersFull)
+    (λ e. let n = entered_none (book.issued_entry eui granted e) d none.0 none.1 in quiet_sealing in_memory coordinators.orders (with_book_entry (book.issued_entry eui granted e) d) granted n.0 n.1) (refused_quiet Granted m refusal.MetersFull))
     (refused_quiet Granted m refusal.MetersFull)) (refused_quiet Granted m refusal.MetersFull)
 
 -- # Accepting
 
-pub accept_quiet : (l : Line) (a : Option Arrived) (p : Accepting) → Accepts l a p → p.frames ≡ []
+pub accept_quiet : (l : StationMemory) (a : Option Arrived) (p : Accepting) → Accepts l a p → p.frames ≡ []
 unfolding resting marking
 accept_quiet l a p (Turned reason) = refl
 accept_quiet l a p (Plain got plain) = refl

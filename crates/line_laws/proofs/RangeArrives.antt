@@ -15,11 +15,11 @@ use Rattle.node_rules.specs.Accepting.{accept}
 use Rattle.line_rules.specs.Answers.{Reception, meter_reception, coordinator_reception, frame_word}
 use Rattle.node_rules.specs.Meters as meters
 use Rattle.node_rules.specs.Coordinators as coordinators
-use Rattle.node_rules.specs.NodeSteps.{Did, acts, of_line, answering}
-use Rattle.line_rules.specs.Steps.{identity, hears, note_by, forged_by, told, ran, deeds, happened, flights_of, heard, arrives}
-use Rattle.line_rules.specs.Worlds.{Deeds, World}
+use Rattle.node_rules.specs.NodeSteps.{NodeStep, acts, of_station, answering}
+use Rattle.line_rules.specs.Steps.{identity, hears, note_by, forged_by, told, ran, trace_of, happened, flights_of, heard, arrives}
+use Rattle.line_rules.specs.Worlds.{Trace, World}
 use Rattle.line_laws.specs.Letters.{OpensWhatItSeals, IsFlight, AreFlights}
-use Rattle.line_laws.specs.Ranges.{IsLoad, IsLineRanged}
+use Rattle.line_laws.specs.Ranges.{IsLoad, IsStationRanged}
 use Rattle.line_laws.proofs.Made.{RingWord, Carry}
 use Rattle.line_laws.proofs.StoreMarks.{IsPlain}
 use Rattle.line_laws.proofs.StoreFold.{WordFits}
@@ -28,19 +28,19 @@ use Rattle.line_laws.proofs.MeterForms.{RingCause}
 use Rattle.line_laws.proofs.RangeFold.{InRange}
 use Rattle.line_laws.proofs.RangePlans.{DidRanged, acts_ranged, did_flights}
 use Rattle.line_laws.proofs.RangeHeard.{heard_ranged, plain_ranged, SaysShort, meter_carries, meter_hears_ranged}
-use Rattle.line_laws.proofs.RangeCenter.{SpeaksWell, SaysOnly, center_carries, center_words, center_hears_ranged}
+use Rattle.line_laws.proofs.RangeCoordinator.{SpeaksWell, SaysOnly, coordinator_carries, coordinator_words, coordinator_hears_ranged}
 use Rattle.line_laws.proofs.RangeCalls.{accept_ranged}
 use Rattle.line_laws.proofs.CustodyDeliver.{WhatCame, PlainCame, LetterCame, opening}
 
 -- a node that is not halted is in its ranges
 abbrev pub NodeRanged : Node → Type 0
-NodeRanged x = IfSome x.memory (λ (m : Memory). IsLineRanged m.line)
+NodeRanged x = IfSome x.memory (λ (m : Memory). IsStationRanged m.station)
 
 -- What is owed of the words of a joining: what a meter installs is read back, and what it says fits a command; to whom the coordinator speaks.
 pub record JoinsWell (ciphers : Ciphers) (x : Node) (got : Accepted) (cost note now : ℕ) : Type 0 where
   pub words : (psk : Key) (m : Memory) → x.memory ≡ Some m → (w : RingWord) → RingCause (heard_given got cost note now) (identity ciphers x psk) m w → WordFits w
   pub short : (psk : Key) (m : Memory) → x.memory ≡ Some m → SaysShort (identity ciphers x psk) m
-  pub center : (m : Memory) → x.memory ≡ Some m → SpeaksWell (record { eui = x.eui; ciphers = ciphers }) (heard_given got cost note now) m
+  pub coordinator : (m : Memory) → x.memory ≡ Some m → SpeaksWell (record { eui = x.eui; ciphers = ciphers }) (heard_given got cost note now) m
 
 module _ (ciphers : Ciphers) (opens : OpensWhatItSeals ciphers) (w : World) (are : AreFlights ciphers w.flights) (number : ℕ) (x : Node) (octets : List ℕ) (cost : ℕ) where
   -- what came is in range
@@ -52,13 +52,13 @@ module _ (ciphers : Ciphers) (opens : OpensWhatItSeals ciphers) (w : World) (are
   hears_ranged : (y : Node) (got : Accepted) (note : ℕ) → WhatCame ciphers opens w are number x octets cost 1 0 (omega arith) got → NodeRanged y → JoinsWell ciphers y got cost note w.clock → DidRanged (hears ciphers y got cost note w.clock)
   hears_ranged y got note what ok joins = by_role y.role refl
     where
-      read_as : {A : Type 0} (reads : A → Reception) (d : Did A) → DidRanged d → DidRanged (answering reads d)
-      read_as reads d r = record { line = r.line; frames = r.frames }
+      read_as : {A : Type 0} (reads : A → Reception) (d : NodeStep A) → DidRanged d → DidRanged (answering reads d)
+      read_as reads d r = record { station = r.station; frames = r.frames }
 
       By : Role → Type 0
       By role = DidRanged (hears_as role)
         where
-          hears_as : Role → Did Reception
+          hears_as : Role → NodeStep Reception
           hears_as Coordinator = answering coordinator_reception (acts y (Err drops.Store) (λ m. coordinators.hear_coordinator (record { eui = y.eui; ciphers = ciphers }) m got cost note w.clock))
           hears_as (Meter psk) = answering meter_reception (acts y (Err drops.Store) (λ m. meters.hear_meter (identity ciphers y psk) m got cost note w.clock))
 
@@ -66,22 +66,22 @@ module _ (ciphers : Ciphers) (opens : OpensWhatItSeals ciphers) (w : World) (are
       by_role Coordinator e = subst By (sym e) (read_as coordinator_reception _ (acts_ranged y (Err drops.Store) (λ m. coordinators.hear_coordinator (record { eui = y.eui; ciphers = ciphers }) m got cost note w.clock) ok
           (λ m there h.
           let own : coordinators.CoordinatorIdentity = record { eui = y.eui; ciphers = ciphers } in
-          center_hears_ranged own m got cost note w.clock
-          (came_ranged got note what (SaysOnly own (heard_given got cost note w.clock) m) (center_carries own (heard_given got cost note w.clock) m (joins.center m there)) (center_words own (heard_given got cost note w.clock) m)) h)))
+          coordinator_hears_ranged own m got cost note w.clock
+          (came_ranged got note what (SaysOnly own (heard_given got cost note w.clock) m) (coordinator_carries own (heard_given got cost note w.clock) m (joins.coordinator m there)) (coordinator_words own (heard_given got cost note w.clock) m)) h)))
       by_role (Meter psk) e = subst By (sym e) (read_as meter_reception _ (acts_ranged y (Err drops.Store) (λ m. meters.hear_meter (identity ciphers y psk) m got cost note w.clock) ok
           (λ m there h. meter_hears_ranged (identity ciphers y psk) m got cost note w.clock
           (came_ranged got note what (RingCause (heard_given got cost note w.clock) (identity ciphers y psk) m) (meter_carries (heard_given got cost note w.clock) (identity ciphers y psk) m (joins.short psk m there)) (joins.words psk m there)) h)))
 
-  abbrev pub accepts : Did (Result Accepted FrameRefusal)
-  accepts = acts x (Err frames.Halted) (λ m. of_line m (accept m.line x.eui (arrived ciphers octets)))
+  abbrev pub accepts : NodeStep (Result Accepted FrameRefusal)
+  accepts = acts x (Err frames.Halted) (λ m. of_station m (accept m.station x.eui (arrived ciphers octets)))
 
   pub accepts_ranged : NodeRanged x → DidRanged accepts
-  accepts_ranged ok = acts_ranged x (Err frames.Halted) (λ m. of_line m (accept m.line x.eui (arrived ciphers octets))) ok (λ m e h. accept_ranged m h x.eui (arrived ciphers octets))
+  accepts_ranged ok = acts_ranged x (Err frames.Halted) (λ m. of_station m (accept m.station x.eui (arrived ciphers octets))) ok (λ m e h. accept_ranged m h x.eui (arrived ciphers octets))
 
   -- the second plan's frames are letters in range
   pub heard_frames : (got : Accepted) → accepts.answer ≡ Ok got → forged_by w octets got.path ≡ false → NodeRanged x → JoinsWell ciphers accepts.node got cost (note_by w octets got.path) w.clock
       → DidRanged (hears ciphers accepts.node got cost (note_by w octets got.path) w.clock)
-  heard_frames got e unforged ok joins = hears_ranged accepts.node got (note_by w octets got.path) (opening ciphers opens w are number x octets cost 1 0 (omega arith) got e unforged).what (accepts_ranged ok).line joins
+  heard_frames got e unforged ok joins = hears_ranged accepts.node got (note_by w octets got.path) (opening ciphers opens w are number x octets cost 1 0 (omega arith) got e unforged).what (accepts_ranged ok).station joins
 
   -- What an arrival leaves: flights that are what flights are, and nodes in their ranges.
   pub record LeavesRanged (v : World) : Type 0 where
@@ -93,15 +93,15 @@ module _ (ciphers : Ciphers) (opens : OpensWhatItSeals ciphers) (w : World) (are
   unfolding arrives told
   arrives_ranged nodes ok joins unforged = by_answer accepts.answer refl unforged
     where
-      after : Result Accepted FrameRefusal → World × Deeds
+      after : Result Accepted FrameRefusal → World × Trace
       after (Ok got) = heard ciphers w number accepts.node octets got cost
-      after (Err reason) = (told ciphers (ran w) number accepts, deeds (happened w (frame_word reason)))
+      after (Err reason) = (told ciphers (ran w) number accepts, trace_of (happened w (frame_word reason)))
 
       by_answer : (a : Result Accepted FrameRefusal) → accepts.answer ≡ a → (after a).1.happened.forged ≡ false → LeavesRanged (after a).0
       by_answer (Err reason) e unforged =
           let r = accepts_ranged ok in
-          record { flights = All-append (IsFlight ciphers) w.flights (flights_of ciphers number accepts) are (did_flights ciphers number accepts r); nodes = All-set NodeRanged w.nodes number accepts.node r.line nodes }
+          record { flights = All-append (IsFlight ciphers) w.flights (flights_of ciphers number accepts) are (did_flights ciphers number accepts r); nodes = All-set NodeRanged w.nodes number accepts.node r.station nodes }
       by_answer (Ok got) e unforged =
           let r = heard_frames got e (or_parts _ _ unforged).0 ok (joins got e) in
-          let d2 : Did Reception = hears ciphers accepts.node got cost (note_by w octets got.path) w.clock in
-          record { flights = All-append (IsFlight ciphers) w.flights (flights_of ciphers number d2) are (did_flights ciphers number d2 r); nodes = All-set NodeRanged w.nodes number d2.node r.line nodes }
+          let d2 : NodeStep Reception = hears ciphers accepts.node got cost (note_by w octets got.path) w.clock in
+          record { flights = All-append (IsFlight ciphers) w.flights (flights_of ciphers number d2) are (did_flights ciphers number d2 r); nodes = All-set NodeRanged w.nodes number d2.node r.station nodes }

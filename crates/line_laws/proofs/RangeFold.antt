@@ -22,10 +22,10 @@ use Rattle.loadng_messages.specs.declared.message.Message.{Message}
 use Rattle.loadng_messages.specs.declared.message.Message.TheVariants.{Rreq, Rrep, Rerr}
 use Rattle.loadng_messages.specs.Grammar as messages
 use Rattle.node_rules.specs.Frames.{to_all}
-use Rattle.node_rules.specs.Memory.{Line, Body, Load, address_of, next_hop}
-use Rattle.node_rules.specs.Doings.{Doing, tag_after, all_go, units_of, waits_for, ranked, numbered, tagged, ringed, rerouted, goes, body_goes, waits, leave, numbers_spent}
+use Rattle.node_rules.specs.Memory.{StationMemory, Body, Load, address_of, next_hop}
+use Rattle.node_rules.specs.Drafts.{Draft, tag_after, all_go, units_of, waits_for, with_rank, with_own_number, with_next_tag, with_ring, with_routing_by, goes, body_goes, waits, leave, numbers_spent}
 use Rattle.line_laws.specs.Letters.{IsFit}
-use Rattle.line_laws.specs.Ranges.{IsLoad, IsBody, HasHop, IsLineRanged, IsOut, IsRanged}
+use Rattle.line_laws.specs.Ranges.{IsLoad, IsBody, HasHop, IsStationRanged, IsOut, IsRanged}
 use Rattle.line_laws.specs.Stores.{IsReadable}
 use Rattle.line_laws.proofs.StoreFold.{WordFits, ring_fits}
 use Rattle.line_laws.proofs.RangeUnits.{less_fit, less_route, all_out}
@@ -59,7 +59,7 @@ hop_of entries (Some place) hop all e = by_entry (slice_get entries place) refl 
     by_entry None at e = absurd (cc)
     by_entry (Some x) at e = by_route x.route (subst HasHop (get_or_from_slice_get entries place x x at) (all place x (slice_get_within entries place x at))) e
 
-pub hop_ranged : (l : Line) (dest hop : ℕ) → IsLineRanged l → next_hop l dest ≡ Some hop → hop < 0xFFFE
+pub hop_ranged : (l : StationMemory) (dest hop : ℕ) → IsStationRanged l → next_hop l dest ≡ Some hop → hop < 0xFFFE
 unfolding next_hop routing.route_of
 hop_ranged l dest hop h e = hop_of l.routing.entries (routing.place_of l.routing.entries dest) hop h.hops e
 
@@ -93,14 +93,14 @@ rested_hops r all = All-map HasHop routing.without_route r.entries (All-weaker H
 tag_ranged : (tag : ℕ) → tag_after tag < 2 ^ 16
 tag_ranged tag = omega arith
 
-own_ranged : (l : Line) (own : ℕ) → IsLineRanged l → address_of l ≡ Some own → own < 0xFFFE
+own_ranged : (l : StationMemory) (own : ℕ) → IsStationRanged l → address_of l ≡ Some own → own < 0xFFFE
 own_ranged l own h e = by_ring l.ring h.ring e
   where
     by_ring : (r : Option Granted) → IfSome r IsReadable → option_map (λ (gr : Granted). gr.address) r ≡ Some own → own < 0xFFFE
     by_ring None k e = absurd (cc)
     by_ring (Some gr) k e = subst (λ a. a < 0xFFFE) (same_Some gr.address own e) k.address
 
-number_ranged : (l : Line) → numbers_spent l ≡ false → l.own_number.last ≤ 65535 → (own_number.advanced l.own_number).last ≤ 65535
+number_ranged : (l : StationMemory) → numbers_spent l ≡ false → l.own_number.last ≤ 65535 → (own_number.advanced l.own_number).last ≤ 65535
 number_ranged l left h = let other = eqb-false _ _ left in omega arith
 
 -- # Bodies that leave
@@ -111,7 +111,7 @@ bodies_out own hop (b ∷ bodies) here short all =
     let x = All-head IsBody b bodies all in
     All-append IsOut (all_go hop b.note (units_of own b.to b.load)) _ (all_out own b.to here x.to hop b.note b.load short x.load) (bodies_out own hop bodies here short (All-tail IsBody b bodies all))
 
-module _ (W : RingWord → Type 0) (g : Given) (s : Doing Line) (known : InRange W g) (first : IsLineRanged s.memory) where
+module _ (W : RingWord → Type 0) (g : Given) (s : Draft StationMemory) (known : InRange W g) (first : IsStationRanged s.memory) where
   -- # Offers
 
   -- What is offered is in range.
@@ -162,7 +162,7 @@ module _ (W : RingWord → Type 0) (g : Given) (s : Doing Line) (known : InRange
       by_unit (units.Carried a body) h e = of_mesh a mesh h.fields e
       by_unit (units.Local code body) h e = absurd (cc)
 
-  said_out : (d : Doing Line) (to : ℕ) (unit : MeshUnit) (note : ℕ) → IsLineRanged d.memory → IsSaid W g s d to unit note → IsOut (record { to = to; unit = unit; note = note })
+  said_out : (d : Draft StationMemory) (to : ℕ) (unit : MeshUnit) (note : ℕ) → IsStationRanged d.memory → IsSaid W g s d to unit note → IsOut (record { to = to; unit = unit; note = note })
   said_out d to unit note h (Seeks own dest number n load here last some carried) =
       let x = h.number in message_out to_all (Rreq number 0 own dest) 0 every ((some, omega arith), omega arith, own_ranged d.memory own h here, (known.carries dest n load carried).0)
   said_out d to unit note h (Answers own by origin number n c dest here last some told) =
@@ -180,35 +180,35 @@ module _ (W : RingWord → Type 0) (g : Given) (s : Doing Line) (known : InRange
 
   -- # The fold
 
-  pub made_ranged : (d : Doing Line) → Made W g s d → All IsOut s.units → IsRanged d
-  unfolding ranked numbered tagged ringed rerouted goes body_goes waits leave
-  made_ranged d Starts us = record { line = first; units = us }
+  pub made_ranged : (d : Draft StationMemory) → Made W g s d → All IsOut s.units → IsRanged d
+  unfolding with_rank with_own_number with_next_tag with_ring with_routing_by goes body_goes waits leave
+  made_ranged d Starts us = record { station = first; units = us }
   made_ranged d (Ranks by origin rank e made o fits) us =
       let r = made_ranged e made us in
       let f = offer_fits _ by origin rank o in
-      record { line = record { ring = r.line.ring; tag = r.line.tag; hops = offered_hops e.memory.routing origin rank by g.now f.neighbour r.line.hops; bodies = r.line.bodies; number = r.line.number }; units = r.units }
+      record { station = record { ring = r.station.ring; tag = r.station.tag; hops = offered_hops e.memory.routing origin rank by g.now f.neighbour r.station.hops; bodies = r.station.bodies; number = r.station.number }; units = r.units }
   made_ranged d (Numbers e made left) us =
       let r = made_ranged e made us in
-      record { line = record { ring = r.line.ring; tag = r.line.tag; hops = r.line.hops; bodies = r.line.bodies; number = number_ranged e.memory left r.line.number }; units = r.units }
-  made_ranged d (Tags e made) us = let r = made_ranged e made us in record { line = record { ring = r.line.ring; tag = tag_ranged e.memory.next_tag; hops = r.line.hops; bodies = r.line.bodies; number = r.line.number }; units = r.units }
-  made_ranged d (Rings x e made change) us = let r = made_ranged e made us in record { line = record { ring = ring_fits W known.words e.memory.ring x change r.line.ring; tag = r.line.tag; hops = r.line.hops; bodies = r.line.bodies; number = r.line.number }; units = r.units }
-  made_ranged d (Idles e made) us = let r = made_ranged e made us in record { line = record { ring = r.line.ring; tag = r.line.tag; hops = rested_hops e.memory.routing r.line.hops; bodies = All-nil IsBody; number = r.line.number }; units = r.units }
-  made_ranged d (Loses lost by e made) us = let r = made_ranged e made us in record { line = record { ring = r.line.ring; tag = r.line.tag; hops = ended_hops _ e.memory.routing r.line.hops; bodies = r.line.bodies; number = r.line.number }; units = r.units }
+      record { station = record { ring = r.station.ring; tag = r.station.tag; hops = r.station.hops; bodies = r.station.bodies; number = number_ranged e.memory left r.station.number }; units = r.units }
+  made_ranged d (Tags e made) us = let r = made_ranged e made us in record { station = record { ring = r.station.ring; tag = tag_ranged e.memory.next_tag; hops = r.station.hops; bodies = r.station.bodies; number = r.station.number }; units = r.units }
+  made_ranged d (Rings x e made change) us = let r = made_ranged e made us in record { station = record { ring = ring_fits W known.words e.memory.ring x change r.station.ring; tag = r.station.tag; hops = r.station.hops; bodies = r.station.bodies; number = r.station.number }; units = r.units }
+  made_ranged d (Idles e made) us = let r = made_ranged e made us in record { station = record { ring = r.station.ring; tag = r.station.tag; hops = rested_hops e.memory.routing r.station.hops; bodies = All-nil IsBody; number = r.station.number }; units = r.units }
+  made_ranged d (Loses lost by e made) us = let r = made_ranged e made us in record { station = record { ring = r.station.ring; tag = r.station.tag; hops = ended_hops _ e.memory.routing r.station.hops; bodies = r.station.bodies; number = r.station.number }; units = r.units }
   made_ranged d (Goes to unit note e made said alone) us =
       let r = made_ranged e made us in
-      record { line = r.line; units = All-push IsOut e.units _ r.units (said_out e to unit note r.line said) }
+      record { station = r.station; units = All-push IsOut e.units _ r.units (said_out e to unit note r.station said) }
   made_ranged d (Sends own hop to note load e made here there short carried alone) us =
       let r = made_ranged e made us in
       let c = known.carries to note load carried in
-      record { line = r.line; units = All-append IsOut e.units _ r.units (all_out own to (own_ranged e.memory own r.line here) c.0 hop note load (hop_ranged e.memory to hop r.line there) c.1) }
+      record { station = r.station; units = All-append IsOut e.units _ r.units (all_out own to (own_ranged e.memory own r.station here) c.0 hop note load (hop_ranged e.memory to hop r.station there) c.1) }
   made_ranged d (Waits to note load now e made none room short carried alone) us =
       let r = made_ranged e made us in
       let c = known.carries to note load carried in
-      record { line = record { ring = r.line.ring; tag = r.line.tag; hops = r.line.hops; bodies = All-push IsBody e.memory.waiting _ r.line.bodies (record { to = c.0; load = c.1 }); number = r.line.number }; units = r.units }
+      record { station = record { ring = r.station.ring; tag = r.station.tag; hops = r.station.hops; bodies = All-push IsBody e.memory.waiting _ r.station.bodies (record { to = c.0; load = c.1 }); number = r.station.number }; units = r.units }
   made_ranged d (Leaves own dest hop rank e made here o) us =
       let r = made_ranged e made us in
       let f = offer_fits _ hop dest rank o in
       record {
-        line = record { ring = r.line.ring; tag = r.line.tag; hops = r.line.hops; bodies = All-filter (λ b. not (waits_for dest b)) IsBody e.memory.waiting r.line.bodies; number = r.line.number };
-        units = All-append IsOut e.units _ r.units (bodies_out own hop (filter (waits_for dest) e.memory.waiting) (own_ranged e.memory own r.line here) f.neighbour (All-filter (waits_for dest) IsBody e.memory.waiting r.line.bodies));
+        station = record { ring = r.station.ring; tag = r.station.tag; hops = r.station.hops; bodies = All-filter (λ b. not (waits_for dest b)) IsBody e.memory.waiting r.station.bodies; number = r.station.number };
+        units = All-append IsOut e.units _ r.units (bodies_out own hop (filter (waits_for dest) e.memory.waiting) (own_ranged e.memory own r.station here) f.neighbour (All-filter (waits_for dest) IsBody e.memory.waiting r.station.bodies));
       }

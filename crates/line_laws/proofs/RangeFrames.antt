@@ -10,19 +10,19 @@ use Rattle.plc_base.specs.Grant.{Granted}
 use Rattle.group_keys.specs.KeyRing as ring
 use Rattle.node_rules.specs.Ciphers.{Ciphers}
 use Rattle.node_rules.specs.Frames.{Sent, Sealed, Up, Down, spelled}
-use Rattle.node_rules.specs.Memory.{Line, Memory}
-use Rattle.node_rules.specs.Doings.{Doing, Outgoing, begun, letters, sealed_by, sealing_key, ranked, numbered, tagged, ringed, rerouted, goes, body_goes, waits, leave}
-use Rattle.node_rules.specs.Holding.{on_line, line_part, remembered, tagged_with, goes_up, goes_down}
-use Rattle.node_rules.specs.Coordinators.{entered}
-use Rattle.node_rules.specs.NodeSteps.{Did}
+use Rattle.node_rules.specs.Memory.{StationMemory, Memory}
+use Rattle.node_rules.specs.Drafts.{Draft, Outgoing, empty_draft, letters, sealed_by, sealing_key, with_rank, with_own_number, with_next_tag, with_ring, with_routing_by, goes, body_goes, waits, leave}
+use Rattle.node_rules.specs.MemoryDrafts.{on_station, station_part, with_memory_by, with_pair_tags, goes_up, goes_down}
+use Rattle.node_rules.specs.Coordinators.{with_book_entry}
+use Rattle.node_rules.specs.NodeSteps.{NodeStep}
 use Rattle.line_rules.specs.Steps.{flight_by, flights_of}
 use Rattle.line_laws.specs.Stores.{IsReadable}
 use Rattle.line_laws.specs.Letters.{IsLetter, GoesUp, GoesDown, IsFlight, AreFlights}
-use Rattle.line_laws.specs.Ranges.{IsLineRanged, IsOut}
+use Rattle.line_laws.specs.Ranges.{IsStationRanged, IsOut}
 use Rattle.line_laws.proofs.Made.{RingWord, Given, Made, Starts, Ranks, Numbers, Tags as TagsOn, Rings, Idles, Loses, Goes, Sends, Waits, Leaves}
 use Rattle.line_laws.proofs.NodeCalls.{no_some}
-use Rattle.line_laws.proofs.MadeIn.{unheard, MadeIn, Begins, Station, OnLine, Remembers, Tags, Enters, Up as UpIn, Down as DownIn}
-use Rattle.line_laws.proofs.StorePlans.{beside_line_of}
+use Rattle.line_laws.proofs.MadeIn.{unheard, MadeIn, Begins, Station, OnStation, Remembers, Tags, Enters, Up as UpIn, Down as DownIn}
+use Rattle.line_laws.proofs.StorePlans.{beside_station_of}
 use Rattle.line_laws.proofs.RangeFold.{InRange, made_ranged}
 
 -- a sealed frame is a letter in its ranges
@@ -62,15 +62,15 @@ sealed_fit (Some g) first units fits left all = by_key (sealing_key g)
 -- # Over all of the memory
 
 -- What is being done over all of the memory is in its ranges, and its plain frames are plain.
-pub record IsRangedIn (d : Doing Memory) : Type 0 where
-  pub line : IsLineRanged d.memory.line
+pub record IsRangedIn (d : Draft Memory) : Type 0 where
+  pub station : IsStationRanged d.memory.station
   pub units : All IsOut d.units
   pub plain : All IsPlainFrame d.plain
 
 module _ (W : RingWord → Type 0) (g : Given) where
   -- words of the line send no plain frame
-  pub made_plain : (s d : Doing Line) → Made W g s d → d.plain ≡ s.plain
-  unfolding ranked numbered tagged ringed rerouted goes body_goes waits leave
+  pub made_plain : (s d : Draft StationMemory) → Made W g s d → d.plain ≡ s.plain
+  unfolding with_rank with_own_number with_next_tag with_ring with_routing_by goes body_goes waits leave
   made_plain s d Starts = refl
   made_plain s d (Ranks by origin rank e made o fits) = made_plain s e made
   made_plain s d (Numbers e made left) = made_plain s e made
@@ -94,29 +94,29 @@ module _ (W : RingWord → Type 0) (g : Given) where
   }
 
 module _ (W : RingWord → Type 0) (g : Given) (known : InRange W g) where
-  pub made_in_ranged : (L : Granted → Type 0) (P : Eui → Key → Type 0) (E : Eui → Type 0) (m : Memory) (d : Doing Memory) → MadeIn W L P E g m d → IsLineRanged m.line → IsRangedIn d
-  unfolding begun on_line remembered tagged_with entered goes_up goes_down
-  made_in_ranged L P E m d Begins h = record { line = h; units = All-nil IsOut; plain = All-nil IsPlainFrame }
+  pub made_in_ranged : (L : Granted → Type 0) (P : Eui → Key → Type 0) (E : Eui → Type 0) (m : Memory) (d : Draft Memory) → MadeIn W L P E g m d → IsStationRanged m.station → IsRangedIn d
+  unfolding empty_draft on_station with_memory_by with_pair_tags with_book_entry goes_up goes_down
+  made_in_ranged L P E m d Begins h = record { station = h; units = All-nil IsOut; plain = All-nil IsPlainFrame }
   made_in_ranged L P E m d (Station e made) h =
-      let r = made_ranged W g (begun m.line) known h e made (All-nil IsOut) in
-      record { line = r.line; units = r.units; plain = rw (made_plain W g (begun m.line) e made) (All-nil IsPlainFrame) }
-  made_in_ranged L P E m d (OnLine word e made step) h =
+      let r = made_ranged W g (empty_draft m.station) known h e made (All-nil IsOut) in
+      record { station = r.station; units = r.units; plain = rw (made_plain W g (empty_draft m.station) e made) (All-nil IsPlainFrame) }
+  made_in_ranged L P E m d (OnStation word e made step) h =
       let r = made_in_ranged L P E m e made h in
-      let x = made_ranged W (unheard g) (line_part e) (unheard_range W g known) r.line (word (line_part e)) step r.units in
-      record { line = x.line; units = x.units; plain = rw (made_plain W (unheard g) (line_part e) (word (line_part e)) step) r.plain }
+      let x = made_ranged W (unheard g) (station_part e) (unheard_range W g known) r.station (word (station_part e)) step r.units in
+      record { station = x.station; units = x.units; plain = rw (made_plain W (unheard g) (station_part e) (word (station_part e)) step) r.plain }
   made_in_ranged L P E m d (Remembers change e made beside) h =
       let r = made_in_ranged L P E m e made h in
-      record { line = subst IsLineRanged (sym (beside_line_of E e.memory (change e.memory) beside)) r.line; units = r.units; plain = r.plain }
-  made_in_ranged L P E m d (Tags made opened e x) h = let r = made_in_ranged L P E m e x h in record { line = r.line; units = r.units; plain = r.plain }
-  made_in_ranged L P E m d (Enters x e made change) h = let r = made_in_ranged L P E m e made h in record { line = r.line; units = r.units; plain = r.plain }
+      record { station = subst IsStationRanged (sym (beside_station_of E e.memory (change e.memory) beside)) r.station; units = r.units; plain = r.plain }
+  made_in_ranged L P E m d (Tags made opened e x) h = let r = made_in_ranged L P E m e x h in record { station = r.station; units = r.units; plain = r.plain }
+  made_in_ranged L P E m d (Enters x e made change) h = let r = made_in_ranged L P E m e made h in record { station = r.station; units = r.units; plain = r.plain }
   made_in_ranged L P E m d (UpIn agent own message e made) h =
-      let r = made_in_ranged L P E m e made h in record { line = r.line; units = r.units; plain = All-push IsPlainFrame e.plain (Up agent own message) r.plain tt }
+      let r = made_in_ranged L P E m e made h in record { station = r.station; units = r.units; plain = All-push IsPlainFrame e.plain (Up agent own message) r.plain tt }
   made_in_ranged L P E m d (DownIn own message e made) h =
-      let r = made_in_ranged L P E m e made h in record { line = r.line; units = r.units; plain = All-push IsPlainFrame e.plain (Down own message) r.plain tt }
+      let r = made_in_ranged L P E m e made h in record { station = r.station; units = r.units; plain = All-push IsPlainFrame e.plain (Down own message) r.plain tt }
 
 -- the frames of a doing that is carried to its end
-pub frames_fit : (d : Doing Memory) → IsRangedIn d → length d.units ≤ 4294967295 - d.memory.line.counter.next → All IsSent (d.plain ++ sealed_by d.memory.line.ring d.memory.line.counter.next d.units)
-frames_fit d r left = All-append IsSent d.plain _ (All-weaker IsPlainFrame IsSent plain_sent d.plain r.plain) (sealed_fit d.memory.line.ring d.memory.line.counter.next d.units r.line.ring left r.units)
+pub frames_fit : (d : Draft Memory) → IsRangedIn d → length d.units ≤ 4294967295 - d.memory.station.counter.next → All IsSent (d.plain ++ sealed_by d.memory.station.ring d.memory.station.counter.next d.units)
+frames_fit d r left = All-append IsSent d.plain _ (All-weaker IsPlainFrame IsSent plain_sent d.plain r.plain) (sealed_fit d.memory.station.ring d.memory.station.counter.next d.units r.station.ring left r.units)
 
 -- # Flights
 
@@ -127,5 +127,5 @@ flight_fits ciphers number (Up agent from message) h = record { sealed = λ key 
 flight_fits ciphers number (Down from message) h = record { sealed = λ key e. absurd (cc); plain = λ e. (GoesDown from message refl, refl) }
 
 -- what a node sends flies as it was spelled
-pub flights_fit : {A : Type 0} (ciphers : Ciphers) (number : ℕ) (d : Did A) → All IsSent d.frames → AreFlights ciphers (flights_of ciphers number d)
+pub flights_fit : {A : Type 0} (ciphers : Ciphers) (number : ℕ) (d : NodeStep A) → All IsSent d.frames → AreFlights ciphers (flights_of ciphers number d)
 flights_fit ciphers number d all = All-map (IsFlight ciphers) (λ frame. flight_by number (spelled ciphers frame)) d.frames (All-weaker IsSent (λ f. IsFlight ciphers (flight_by number (spelled ciphers f))) (flight_fits ciphers number) d.frames all)

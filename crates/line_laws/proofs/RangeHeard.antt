@@ -16,18 +16,18 @@ use Rattle.node_rules.specs.declared.heard.Accepted.{Accepted}
 use Rattle.node_rules.specs.declared.heard.Heard.{Heard}
 use Rattle.node_rules.specs.declared.heard.MeterHeard.TheVariants as meter_heard
 use Rattle.node_rules.specs.Frames.{Letter, to_all}
-use Rattle.node_rules.specs.Memory.{Line, Memory, Load}
+use Rattle.node_rules.specs.Memory.{StationMemory, Memory, Load}
 use Rattle.node_rules.specs.Joining.{command_of}
 use Rattle.node_rules.specs.Hearing.{dropped}
 use Rattle.node_rules.specs.Meters as meters
 use Rattle.node_rules.proofs.Readings.{messages_read}
 use Rattle.line_laws.specs.Letters.{IsFit, IsRoute, IsLetter}
-use Rattle.line_laws.specs.Ranges.{IsLoad, IsLineRanged}
+use Rattle.line_laws.specs.Ranges.{IsLoad, IsStationRanged}
 use Rattle.line_laws.proofs.LetterAccepts.{IsOfLetter}
 use Rattle.line_laws.proofs.Made.{Given, IsCome, IsTold, RingWord, Carry}
 use Rattle.line_laws.proofs.HearingForms.{Handed, HandsUp, HandsOn, Gathers, Completes}
-use Rattle.line_laws.proofs.HoldingForms.{HandedIn, ByLine}
-use Rattle.line_laws.proofs.MeterForms.{RingCause, ToCenter, IsSaidUp, meter_is}
+use Rattle.line_laws.proofs.MemoryDraftForms.{HandedIn, ByStation}
+use Rattle.line_laws.proofs.MeterForms.{RingCause, ToCoordinator, IsSaidUp, meter_is}
 use Rattle.line_laws.proofs.NodeCalls.{NoGrant, NoPair, NoEui, heard_given}
 use Rattle.line_laws.proofs.StoreFold.{WordFits}
 use Rattle.line_laws.proofs.RangeFold.{InRange}
@@ -83,24 +83,24 @@ plain_ranged got cost note now plain W carries words = record {
 -- # A meter
 
 -- what the line keeps beside the store
-pub handed_ranged : {H : Type 0} (word : Heard → H) (g : Given) (m : Memory) (n : Memory) (answer : H) → HandedIn word g m n answer → IsLineRanged m.line → IsLineRanged n.line
-handed_ranged word g m n answer (ByLine l a k) h = of_line_handed g m.line l a k h
+pub handed_ranged : {H : Type 0} (word : Heard → H) (g : Given) (m : Memory) (n : Memory) (answer : H) → HandedIn word g m n answer → IsStationRanged m.station → IsStationRanged n.station
+handed_ranged word g m n answer (ByStation l a k) h = of_station_handed g m.station l a k h
   where
-    of_line_handed : (g : Given) (l n : Line) (a : Heard) → Handed g l n a → IsLineRanged l → IsLineRanged n
-    of_line_handed g l n a (HandsUp by own mesh octets came here mine) h = h
-    of_line_handed g l n a (HandsOn x none) h = h
-    of_line_handed g l n a (Gathers by own mesh piece came here mine e) h = record { ring = h.ring; tag = h.tag; hops = h.hops; bodies = h.bodies; number = h.number }
-    of_line_handed g l n a (Completes by own mesh piece note octets came here mine e) h = record { ring = h.ring; tag = h.tag; hops = h.hops; bodies = h.bodies; number = h.number }
+    of_station_handed : (g : Given) (l n : StationMemory) (a : Heard) → Handed g l n a → IsStationRanged l → IsStationRanged n
+    of_station_handed g l n a (HandsUp by own mesh octets came here mine) h = h
+    of_station_handed g l n a (HandsOn x none) h = h
+    of_station_handed g l n a (Gathers by own mesh piece came here mine e) h = record { ring = h.ring; tag = h.tag; hops = h.hops; bodies = h.bodies; number = h.number }
+    of_station_handed g l n a (Completes by own mesh piece note octets came here mine e) h = record { ring = h.ring; tag = h.tag; hops = h.hops; bodies = h.bodies; number = h.number }
 
 -- what a meter says to the coordinator fits a command
 abbrev pub SaysShort : meters.Identity → Memory → Type 0
 SaysShort x m = (join : JoinMessage) → IsSaidUp x m join → length (command_of join) ≤ 375
 
 pub meter_carries : (g : Given) (x : meters.Identity) (m : Memory) → SaysShort x m → (to n : ℕ) (load : Load) → RingCause g x m (Carry to n load) → (to < 0xFFFE) × IsLoad load
-meter_carries g x m short to n load (ToCenter join said) = (omega arith, short join said)
+meter_carries g x m short to n load (ToCoordinator join said) = (omega arith, short join said)
 
-pub meter_hears_ranged : (x : meters.Identity) (m : Memory) (got : Accepted) (cost note now : ℕ) → InRange (RingCause (heard_given got cost note now) x m) (heard_given got cost note now) → IsLineRanged m.line → RangeOk (meters.hear_meter x m got cost note now)
+pub meter_hears_ranged : (x : meters.Identity) (m : Memory) (got : Accepted) (cost note now : ℕ) → InRange (RingCause (heard_given got cost note now) x m) (heard_given got cost note now) → IsStationRanged m.station → RangeOk (meters.hear_meter x m got cost note now)
 meter_hears_ranged x m got cost note now known h =
-    plan_ranged (RingCause (heard_given got cost note now) x m) NoGrant NoPair NoEui (heard_given got cost note now) known m h dropped (HandedIn meter_heard.Line (heard_given got cost note now) m) _
-    (λ n answer k. handed_ranged meter_heard.Line (heard_given got cost note now) m n answer k h) (λ d answer x. x.0) _
+    plan_ranged (RingCause (heard_given got cost note now) x m) NoGrant NoPair NoEui (heard_given got cost note now) known m h dropped (HandedIn meter_heard.Station (heard_given got cost note now) m) _
+    (λ n answer k. handed_ranged meter_heard.Station (heard_given got cost note now) m n answer k h) (λ d answer x. x.0) _
     (meter_is NoGrant NoPair NoEui (heard_given got cost note now) x m got refl)

@@ -14,7 +14,7 @@ use Rattle.mesh_header.specs.Pieces.{Placed, IsPiece}
 use Rattle.mesh_header.specs.Grammar.{IsMesh, hops_then, mesh_then, piece_spelling}
 use Rattle.fragment_buffers.specs.Cutting.{piece_of, cut}
 use Rattle.node_rules.specs.Memory.{Load, Datagram, Command}
-use Rattle.node_rules.specs.Doings.{own_mesh, units_of, all_go}
+use Rattle.node_rules.specs.Drafts.{own_mesh, units_of, all_go}
 use Rattle.line_laws.specs.Letters.{IsFit, IsRoute}
 use Rattle.line_laws.specs.Ranges.{IsLoad, IsOut}
 use Rattle.line_laws.proofs.Made.{IsLess, Whole, Part, Carried}

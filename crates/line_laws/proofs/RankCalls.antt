@@ -23,24 +23,24 @@ use Rattle.node_rules.specs.declared.heard.Heard.{Heard}
 use Rattle.node_rules.specs.declared.heard.MeterHeard.TheVariants as meter_heard
 use Rattle.node_rules.specs.declared.heard.CoordinatorHeard.TheVariants as coordinator_heard
 use Rattle.node_rules.specs.Frames.{Arrived}
-use Rattle.node_rules.specs.Memory.{Line, Memory, address_of}
+use Rattle.node_rules.specs.Memory.{StationMemory, Memory, address_of}
 use Rattle.node_rules.specs.Plans.{Plan, resting, within}
 use Rattle.node_rules.specs.Accepting.{Accepting, accept, marking}
-use Rattle.node_rules.specs.Doings.{Doing, Ends, alone, begun, choose}
+use Rattle.node_rules.specs.Drafts.{Draft, Ends, alone, empty_draft, choose}
 use Rattle.node_rules.specs.Hearing.{dropped, hear}
-use Rattle.node_rules.specs.Holding.{in_memory, with_line, give_random, given_ends}
+use Rattle.node_rules.specs.MemoryDrafts.{in_memory, with_station, give_random, given_ends}
 use Rattle.node_rules.specs.Calls as calls
 use Rattle.node_rules.specs.Meters as meters
 use Rattle.node_rules.specs.Coordinators as coordinators
-use Rattle.node_rules.specs.Opening.{first_grant}
-use Rattle.node_rules.specs.NodeSteps.{of_line}
-use Rattle.node_rules.proofs.HoldingShapes.{whole, reading}
+use Rattle.node_rules.specs.StoreReading.{first_grant}
+use Rattle.node_rules.specs.NodeSteps.{of_station}
+use Rattle.node_rules.proofs.MemoryDraftShapes.{whole, reading}
 use Rattle.line_laws.proofs.StoreMarks.{Accepts, Turned, Plain, Marked, accept_is}
 use Rattle.line_laws.proofs.Planned.{Planned, Refuses, Keeps, Ended}
 use Rattle.line_laws.proofs.Made.{RingWord, Install, Given, Offered, ByRequest, ByReply, ByItself, Made}
 use Rattle.line_laws.proofs.MadeIn.{MadeIn, Station}
 use Rattle.line_laws.proofs.HearingForms.{Handed, HandsUp, HandsOn, Gathers, Completes, hear_is}
-use Rattle.line_laws.proofs.HoldingForms.{AnyAnswer, HandedIn, ByLine, MadeBy, within_planned}
+use Rattle.line_laws.proofs.MemoryDraftForms.{AnyAnswer, HandedIn, ByStation, MadeBy, within_planned}
 use Rattle.line_laws.proofs.MeterForms.{RingCause, ByPacket, IsTaken, meter_is, joins_is, leaves_is}
 use Rattle.line_laws.proofs.CoordinatorForms.{IsGranted, coordinator_is, allow_is, depot_is, rekey_is, activate_self_is, challenge_is, activate_is, kick_is}
 use Rattle.line_laws.proofs.CallForms.{Nothing, send_is, install_is, near_is, random_is}
@@ -84,32 +84,32 @@ Anyone eui = Unit {0}
 abbrev AnyPair : Eui → Key → Type 0
 AnyPair eui psk = Unit {0}
 
-module _ (At Own : ℕ → Type 0) (C : ℕ → ℕ → Rank → Type 0) (m : Memory) (here : IsAt At (address_of m.line)) where
+module _ (At Own : ℕ → Type 0) (C : ℕ → ℕ → Rank → Type 0) (m : Memory) (here : IsAt At (address_of m.station)) where
   abbrev Ranked : {A : Type 0} → Plan Memory A → Type 0
   Ranked p = PlanRanks At Own C m p
 
-  of_line_planned : {H F : Type 0} {ends : Ends F} (W : RingWord → Type 0) (g : Given) (D : Doing Line → H → Type 0) → ((d : Doing Line) (a : H) → D d a → Made W g (begun m.line) d)
-      → (p : Plan Line (Result H F)) → Planned alone ends m.line Nothing D p → Planned in_memory ends m Nothing (λ d (a : H). MadeIn W NoGrant NoPair NoEui g m d) (of_line m p)
+  of_station_planned : {H F : Type 0} {ends : Ends F} (W : RingWord → Type 0) (g : Given) (D : Draft StationMemory → H → Type 0) → ((d : Draft StationMemory) (a : H) → D d a → Made W g (empty_draft m.station) d)
+      → (p : Plan StationMemory (Result H F)) → Planned alone ends m.station Nothing D p → Planned in_memory ends m Nothing (λ d (a : H). MadeIn W NoGrant NoPair NoEui g m d) (of_station m p)
   unfolding resting
-  of_line_planned W g D made p (Refuses reason) = Refuses reason
-  of_line_planned W g D made p (Keeps n answer k) = absurd k
-  of_line_planned W g D made p (Ended d answer done left) = Ended (whole m d) answer (Station d (made d answer done)) left
+  of_station_planned W g D made p (Refuses reason) = Refuses reason
+  of_station_planned W g D made p (Keeps n answer k) = absurd k
+  of_station_planned W g D made p (Ended d answer done left) = Ended (whole m d) answer (Station d (made d answer done)) left
 
   -- a plan that is made of words without an offer
-  quiet : {H F : Type 0} (ends : Ends F) (cost note now : ℕ) (W : RingWord → Type 0) (L : Granted → Type 0) (P : Eui → Key → Type 0) (E : Eui → Type 0) (D : Doing Memory → H → Type 0)
-      → ((granted : Granted) → W (Install granted) → At granted.address) → ((d : Doing Memory) (answer : H) → D d answer → MadeIn W L P E (call_given cost note now) m d)
+  quiet : {H F : Type 0} (ends : Ends F) (cost note now : ℕ) (W : RingWord → Type 0) (L : Granted → Type 0) (P : Eui → Key → Type 0) (E : Eui → Type 0) (D : Draft Memory → H → Type 0)
+      → ((granted : Granted) → W (Install granted) → At granted.address) → ((d : Draft Memory) (answer : H) → D d answer → MadeIn W L P E (call_given cost note now) m d)
       → (p : Plan Memory (Result H F)) → Planned in_memory ends m Nothing D p → Ranked p
   quiet ends cost note now W L P E D installs made p s =
       planned_ranks At Own C W L P E (call_given cost note now) m installs (λ address at by origin rank o. absurd (no_offers cost note now address by origin rank o)) ends Nothing D (λ n answer k. absurd k) made p s here
 
-  pub send_ranks : (to : ℕ) (datagram : List ℕ) (note now : ℕ) → Ranked (of_line m (calls.send m.line to datagram note now))
+  pub send_ranks : (to : ℕ) (datagram : List ℕ) (note now : ℕ) → Ranked (of_station m (calls.send m.station to datagram note now))
   unfolding NoInstall
   send_ranks to datagram note now = quiet calls.sending_ends 0 note now NoInstall NoGrant NoPair NoEui _ (λ granted none. absurd none) (λ d a x. x) _
-      (of_line_planned NoInstall (call_given 0 note now) _ (λ d a x. x.0) _ (send_is NoInstall (call_given 0 note now) m.line to datagram (λ some short. tt)))
+      (of_station_planned NoInstall (call_given 0 note now) _ (λ d a x. x.0) _ (send_is NoInstall (call_given 0 note now) m.station to datagram (λ some short. tt)))
 
-  pub near_ranks : (to cost now : ℕ) → EntryFits (routing.offered_entry to (calls.near_rank cost) to now) → ¬ (Own to) → C to to (calls.near_rank cost) → Ranked (of_line m (calls.preset_near m.line to cost now))
+  pub near_ranks : (to cost now : ℕ) → EntryFits (routing.offered_entry to (calls.near_rank cost) to now) → ¬ (Own to) → C to to (calls.near_rank cost) → Ranked (of_station m (calls.preset_near m.station to cost now))
   near_ranks to cost now fits apart cause = planned_ranks At Own C NoWord NoGrant NoPair NoEui (near_given to cost now) m (λ granted none. absurd none) offers calls.presetting_ends Nothing _ (λ n answer k. absurd k) (λ d a x. x) _
-      (of_line_planned NoWord (near_given to cost now) _ (λ d a x. x.0) _ (near_is NoWord (near_given to cost now) m.line to refl)) here
+      (of_station_planned NoWord (near_given to cost now) _ (λ d a x. x.0) _ (near_is NoWord (near_given to cost now) m.station to refl)) here
     where
       offers : (address : Option ℕ) → IsAt At address → (by origin : ℕ) (rank : Rank) → Offered (near_given to cost now) address by origin rank → OfferFits Own C by origin rank now
       offers address at by origin rank (ByRequest own number c o dest there other few told) = absurd (no_some _ told.came.is)
@@ -119,29 +119,29 @@ module _ (At Own : ℕ → Type 0) (C : ℕ → ℕ → Rank → Type 0) (m : Me
           subst (λ (k : ℕ). OfferFits Own C k k (calls.near_rank cost) now) same (record { fits = fits; apart = apart; cause = cause })
 
   -- a value of the workshop
-  pub counter_ranks : (value : ℕ) → Ranked (of_line m (calls.preset_counter m.line value))
+  pub counter_ranks : (value : ℕ) → Ranked (of_station m (calls.preset_counter m.station value))
   unfolding resting
   counter_ranks value = record {
-    leads = λ first. away_leads Own C first m.line.routing _ (record { floors = omega arith; ranks = inl (omega arith) }, tt);
-    account = λ sound. account_same m.line.routing sound;
-    backed = λ sound. All-nil (FrameBacked At m.line.routing);
+    leads = λ first. away_leads Own C first m.station.routing _ (record { floors = omega arith; ranks = inl (omega arith) }, tt);
+    account = λ sound. account_same m.station.routing sound;
+    backed = λ sound. All-nil (FrameBacked At m.station.routing);
     here = here;
   }
 
-  pub number_ranks : (value : ℕ) → Ranked (of_line m (calls.preset_number m.line value))
+  pub number_ranks : (value : ℕ) → Ranked (of_station m (calls.preset_number m.station value))
   unfolding resting
   number_ranks value = record {
-    leads = λ first. away_leads Own C first m.line.routing _ (record { floors = omega arith; ranks = inl (omega arith) }, tt);
-    account = λ sound. account_same m.line.routing sound;
-    backed = λ sound. All-nil (FrameBacked At m.line.routing);
+    leads = λ first. away_leads Own C first m.station.routing _ (record { floors = omega arith; ranks = inl (omega arith) }, tt);
+    account = λ sound. account_same m.station.routing sound;
+    backed = λ sound. All-nil (FrameBacked At m.station.routing);
     here = here;
   }
 
-  pub broke_ranks : {A : Type 0} (next : ℕ) (answer : A) → Ranked (resting (with_line (calls.broke next m.line) m) answer answer)
+  pub broke_ranks : {A : Type 0} (next : ℕ) (answer : A) → Ranked (resting (with_station (calls.broke next m.station) m) answer answer)
   unfolding resting
   broke_ranks next answer = record {
-    leads = λ first. ended_leads At Own C NoWord (call_given 0 0 0) (λ granted none. absurd none) (λ address at by origin rank o. absurd (no_offers 0 0 0 address by origin rank o)) first m.line.routing (routing.goes_by next);
-    account = λ sound. ended_account m.line.routing (routing.goes_by next) sound;
+    leads = λ first. ended_leads At Own C NoWord (call_given 0 0 0) (λ granted none. absurd none) (λ address at by origin rank o. absurd (no_offers 0 0 0 address by origin rank o)) first m.station.routing (routing.goes_by next);
+    account = λ sound. ended_account m.station.routing (routing.goes_by next) sound;
     backed = λ sound. All-nil (FrameBacked At _);
     here = here;
   }
@@ -149,7 +149,7 @@ module _ (At Own : ℕ → Type 0) (C : ℕ → ℕ → Rank → Type 0) (m : Me
   -- a grant of the workshop
   pub provision_ranks : (granted : Granted) → At granted.address → Ranked (meters.provision m granted)
   provision_ranks granted at = quiet calls.ringing_ends 0 0 0 Is NoGrant NoPair NoEui _ (λ g e. subst (λ (w : RingWord). IsHome w) (sym e) at) (λ d a x. x) _
-      (of_line_planned Is (call_given 0 0 0) _ (λ d a x. x.0) _ (install_is Is (call_given 0 0 0) m.line granted refl))
+      (of_station_planned Is (call_given 0 0 0) _ (λ d a x. x.0) _ (install_is Is (call_given 0 0 0) m.station granted refl))
     where
       Is : RingWord → Type 0
       Is w = w ≡ Install granted
@@ -160,9 +160,9 @@ module _ (At Own : ℕ → Type 0) (C : ℕ → ℕ → Rank → Type 0) (m : Me
 
   pub begin_ranks : (key : Key) → At 0 → Ranked (coordinators.begin m (first_grant key))
   unfolding choose
-  begin_ranks key at = by_ring (is_some m.line.ring)
+  begin_ranks key at = by_ring (is_some m.station.ring)
     where
-      by_ring : (b : Bool) → Ranked (if b then resting m (Ok tt) (Err RingStore) else within (λ l. with_line l m) (λ r. r) (calls.install m.line (first_grant key)))
+      by_ring : (b : Bool) → Ranked (if b then resting m (Ok tt) (Err RingStore) else within (λ l. with_station l m) (λ r. r) (calls.install m.station (first_grant key)))
       by_ring true = resting_ranks At Own C m m _ _ refl refl here
       by_ring false = provision_ranks (first_grant key) at
 
@@ -188,34 +188,34 @@ module _ (At Own : ℕ → Type 0) (C : ℕ → ℕ → Rank → Type 0) (m : Me
   leave_ranks x = quiet meters.leaving_ends 0 0 0 (RingCause (call_given 0 0 0) (deaf x) m) NoGrant NoPair NoEui _ (deaf_installs (call_given 0 0 0) x) (λ d a k. k.0) _ (leaves_is NoGrant NoPair NoEui (call_given 0 0 0) (deaf x) m)
 
   -- what is gathered and handed up is beside ranks and ring
-  handed_same : {H : Type 0} (word : Heard → H) (g : Given) (n : Memory) (answer : H) → HandedIn word g m n answer → (n.line.routing ≡ m.line.routing) × (n.line.ring ≡ m.line.ring)
-  handed_same word g n answer (ByLine l a k) = by_line l a k
+  handed_same : {H : Type 0} (word : Heard → H) (g : Given) (n : Memory) (answer : H) → HandedIn word g m n answer → (n.station.routing ≡ m.station.routing) × (n.station.ring ≡ m.station.ring)
+  handed_same word g n answer (ByStation l a k) = by_station l a k
     where
-      by_line : (l : Line) (a : Heard) → Handed g m.line l a → (l.routing ≡ m.line.routing) × (l.ring ≡ m.line.ring)
-      by_line l a (HandsUp by own mesh octets came there mine) = (refl, refl)
-      by_line l a (HandsOn x none) = (refl, refl)
-      by_line l a (Gathers by own mesh piece came there mine e) = (refl, refl)
-      by_line l a (Completes by own mesh piece note octets came there mine e) = (refl, refl)
+      by_station : (l : StationMemory) (a : Heard) → Handed g m.station l a → (l.routing ≡ m.station.routing) × (l.ring ≡ m.station.ring)
+      by_station l a (HandsUp by own mesh octets came there mine) = (refl, refl)
+      by_station l a (HandsOn x none) = (refl, refl)
+      by_station l a (Gathers by own mesh piece came there mine e) = (refl, refl)
+      by_station l a (Completes by own mesh piece note octets came there mine e) = (refl, refl)
 
   module _ (got : Accepted) (cost note now : ℕ)
       (offers : (address : Option ℕ) → IsAt At address → (by origin : ℕ) (rank : Rank) → Offered (heard_given got cost note now) address by origin rank → OfferFits Own C by origin rank now) where
     -- what the line makes of a frame, whoever reads it
-    pub hear_ranks : {H : Type 0} (word : Heard → H) → Ranked (within (λ l. with_line l m) (reading word) (hear m.line got cost note now))
+    pub hear_ranks : {H : Type 0} (word : Heard → H) → Ranked (within (λ l. with_station l m) (reading word) (hear m.station got cost note now))
     hear_ranks word = planned_ranks At Own C NoWord NoGrant NoPair NoEui (heard_given got cost note now) m (λ granted none. absurd none) offers dropped (HandedIn word (heard_given got cost note now) m) _
         (handed_same word (heard_given got cost note now)) (λ d a x. x.0) _
-        (within_planned NoWord NoGrant NoPair NoEui (heard_given got cost note now) m AnyAnswer word _ (λ h none. tt) (hear_is NoWord (heard_given got cost note now) m.line got refl)) here
+        (within_planned NoWord NoGrant NoPair NoEui (heard_given got cost note now) m AnyAnswer word _ (λ h none. tt) (hear_is NoWord (heard_given got cost note now) m.station got refl)) here
 
     pub meter_hears_ranks : (x : meters.Identity) → ((granted : Granted) → IsTaken (heard_given got cost note now) x m granted → At granted.address) → Ranked (meters.hear_meter x m got cost note now)
-    meter_hears_ranks x grants = planned_ranks At Own C (RingCause (heard_given got cost note now) x m) NoGrant NoPair NoEui (heard_given got cost note now) m installs offers dropped (HandedIn meter_heard.Line (heard_given got cost note now) m) _
-        (handed_same meter_heard.Line (heard_given got cost note now)) (λ d a k. k.0) _ (meter_is NoGrant NoPair NoEui (heard_given got cost note now) x m got refl) here
+    meter_hears_ranks x grants = planned_ranks At Own C (RingCause (heard_given got cost note now) x m) NoGrant NoPair NoEui (heard_given got cost note now) m installs offers dropped (HandedIn meter_heard.Station (heard_given got cost note now) m) _
+        (handed_same meter_heard.Station (heard_given got cost note now)) (λ d a k. k.0) _ (meter_is NoGrant NoPair NoEui (heard_given got cost note now) x m got refl) here
       where
         installs : (granted : Granted) → RingCause (heard_given got cost note now) x m (Install granted) → At granted.address
         installs granted (ByPacket g taken) = grants granted taken
 
     pub coordinator_hears_ranks : (own : coordinators.CoordinatorIdentity) → Ranked (coordinators.hear_coordinator own m got cost note now)
     unfolding NoInstall
-    coordinator_hears_ranks own = planned_ranks At Own C NoInstall (IsGranted m) AnyPair Anyone (heard_given got cost note now) m (λ granted none. absurd none) offers dropped (HandedIn coordinator_heard.Line (heard_given got cost note now) m) _
-        (handed_same coordinator_heard.Line (heard_given got cost note now)) (λ d a k. k.0) _ (coordinator_is NoInstall AnyPair Anyone (λ octets join e. tt) (heard_given got cost note now) own m (λ to there join said. tt) got refl) here
+    coordinator_hears_ranks own = planned_ranks At Own C NoInstall (IsGranted m) AnyPair Anyone (heard_given got cost note now) m (λ granted none. absurd none) offers dropped (HandedIn coordinator_heard.Station (heard_given got cost note now) m) _
+        (handed_same coordinator_heard.Station (heard_given got cost note now)) (λ d a k. k.0) _ (coordinator_is NoInstall AnyPair Anyone (λ octets join e. tt) (heard_given got cost note now) own m (λ to there join said. tt) got refl) here
 
   -- # Orders
 
@@ -275,16 +275,16 @@ module _ (At Own : ℕ → Type 0) (C : ℕ → ℕ → Rank → Type 0) (m : Me
           by_stored place (nat_le counter (marks.peer_at t place).stored) (omega arith)
       by_place None at = (mark_away (length t) _ (room_new t from counter table.short at room), tt)
 
-  accepting_ranks : (a : Option Arrived) (p : Accepting) → Accepts m.line a p → slots.IsTable marks.peers m.line.marks → Ranked (of_line m p)
+  accepting_ranks : (a : Option Arrived) (p : Accepting) → Accepts m.station a p → slots.IsTable marks.peers m.station.marks → Ranked (of_station m p)
   unfolding resting marking
   accepting_ranks a p (Turned reason) table = resting_ranks At Own C m m _ _ refl refl here
   accepting_ranks a p (Plain got plain) table = resting_ranks At Own C m m _ _ refl refl here
   accepting_ranks a p (Marked from counter got x) table = record {
-    leads = λ first. away_leads Own C first m.line.routing _ (keep_away m.line.marks from counter table x.room);
-    account = λ sound. account_same m.line.routing sound;
-    backed = λ sound. All-nil (FrameBacked At m.line.routing);
+    leads = λ first. away_leads Own C first m.station.routing _ (keep_away m.station.marks from counter table x.room);
+    account = λ sound. account_same m.station.routing sound;
+    backed = λ sound. All-nil (FrameBacked At m.station.routing);
     here = here;
   }
 
-  pub accept_ranks : (own : Eui) (a : Option Arrived) → slots.IsTable marks.peers m.line.marks → Ranked (of_line m (accept m.line own a))
-  accept_ranks own a table = accepting_ranks a _ (accept_is m.line own a) table
+  pub accept_ranks : (own : Eui) (a : Option Arrived) → slots.IsTable marks.peers m.station.marks → Ranked (of_station m (accept m.station own a))
+  accept_ranks own a table = accepting_ranks a _ (accept_is m.station own a) table

@@ -16,14 +16,14 @@ use Rattle.routing_set.specs.RoutingSet as routing
 use Rattle.routing_set.specs.declared.entry.RoutingEntry.{RoutingEntry}
 use Rattle.routing_set.proofs.Endings.{kept_ended}
 use Rattle.routing_set.specs.OwnNumber as own_number
-use Rattle.node_rules.specs.Memory.{Line, Memory, address_of}
-use Rattle.node_rules.specs.Doings.{Doing, begun, ranked, numbered, tagged, ringed, rerouted, goes, body_goes, waits, leave}
-use Rattle.node_rules.specs.Holding.{on_line, line_part, remembered, tagged_with, goes_up, goes_down}
-use Rattle.node_rules.specs.Coordinators.{entered}
+use Rattle.node_rules.specs.Memory.{StationMemory, Memory, address_of}
+use Rattle.node_rules.specs.Drafts.{Draft, empty_draft, with_rank, with_own_number, with_next_tag, with_ring, with_routing_by, goes, body_goes, waits, leave}
+use Rattle.node_rules.specs.MemoryDrafts.{on_station, station_part, with_memory_by, with_pair_tags, goes_up, goes_down}
+use Rattle.node_rules.specs.Coordinators.{with_book_entry}
 use Rattle.line_laws.proofs.Keeping.{Leads, leads_beside, leads_append}
 use Rattle.line_laws.proofs.StoreRanks.{EntryFits, IsRanged}
 use Rattle.line_laws.proofs.Made.{RingWord, Install, RingChange, Drops, Installs, Draws, Activates, Given, Offered, Made, Starts, Ranks, Numbers, Tags, Rings, Idles, Loses, Goes, Sends, Waits, Leaves, ByRequest, ByReply, ByItself}
-use Rattle.line_laws.proofs.MadeIn.{unheard, MadeIn, Begins, Station, OnLine, Remembers, Tags as TagsIn, Enters, Up, Down, Beside, Ends as EndsIn, Asks, Replies, Opens, Answers, Closes, Gives}
+use Rattle.line_laws.proofs.MadeIn.{unheard, MadeIn, Begins, Station, OnStation, Remembers, Tags as TagsIn, Enters, Up, Down, Beside, Ends as EndsIn, Asks, Replies, Opens, Answers, Closes, Gives}
 use Rattle.std.proofs.lemmas.List.Elements.{All-map, All-weaker}
 use Rattle.std.specs.Prelude.{All, ◌==◌}
 use Rattle.routing_set.specs.Histories.{IsRouting}
@@ -78,8 +78,8 @@ module _ (At : ℕ → Type 0) (W : RingWord → Type 0) (installs : (granted : 
   ring_at None s (Activates index w held) h = tt
   ring_at (Some g) s (Activates index w held) h = h
 
-  pub made_at : (g : Given) (s d : Doing Line) → Made W g s d → IsAt At (address_of s.memory) → IsAt At (address_of d.memory)
-  unfolding ranked numbered tagged ringed rerouted goes body_goes waits leave
+  pub made_at : (g : Given) (s d : Draft StationMemory) → Made W g s d → IsAt At (address_of s.memory) → IsAt At (address_of d.memory)
+  unfolding with_rank with_own_number with_next_tag with_ring with_routing_by goes body_goes waits leave
   made_at g s d Starts h = h
   made_at g s d (Ranks by origin rank e made o fits) h = made_at g s e made h
   made_at g s d (Numbers e made left) h = made_at g s e made h
@@ -104,11 +104,11 @@ pub record OfferFits (Own : ℕ → Type 0) (C : ℕ → ℕ → Rank → Type 0
 module _ (At Own : ℕ → Type 0) (C : ℕ → ℕ → Rank → Type 0) (W : RingWord → Type 0) (g : Given)
     (installs : (granted : Granted) → W (Install granted) → At granted.address)
     (offers : (address : Option ℕ) → IsAt At address → (by origin : ℕ) (rank : Rank) → Offered g address by origin rank → OfferFits Own C by origin rank g.now) where
-  abbrev routes : Doing Line → routing.Routing
+  abbrev routes : Draft StationMemory → routing.Routing
   routes d = d.memory.routing
 
-  pub made_account : (s d : Doing Line) → Made W g s d → IsAt At (address_of s.memory) → IsRouting s.memory.routing → Account Own C s.memory.routing d.memory.routing
-  unfolding ranked numbered tagged ringed rerouted goes body_goes waits leave
+  pub made_account : (s d : Draft StationMemory) → Made W g s d → IsAt At (address_of s.memory) → IsRouting s.memory.routing → Account Own C s.memory.routing d.memory.routing
+  unfolding with_rank with_own_number with_next_tag with_ring with_routing_by goes body_goes waits leave
   made_account s d Starts h sound = account_same s.memory.routing sound
   made_account s d (Ranks by origin rank e made o fits) h sound =
       let a = made_account s e made h sound in
@@ -155,17 +155,17 @@ module _ (At Own : ℕ → Type 0) (C : ℕ → ℕ → Rank → Type 0) (W : Ri
         let a = account_trans first t _ q.account (ended_account t test q.account.sound) in
         record { account = a; ranged = record { sound = a.sound; floors = q.ranged.floors; ranks = number_range test t q.ranged }; kept = kept_ended test t r q.kept })
 
-    abbrev LineAdds : Doing Line → Doing Line → Type 0
-    LineAdds s d = RankAdds first s.puts s.memory.routing d.puts d.memory.routing
+    abbrev StationAdds : Draft StationMemory → Draft StationMemory → Type 0
+    StationAdds s d = RankAdds first s.puts s.memory.routing d.puts d.memory.routing
 
-    beside : (s d e : Doing Line) → LineAdds s d → e.puts ≡ d.puts → e.memory.routing ≡ d.memory.routing → LineAdds s e
+    beside : (s d e : Draft StationMemory) → StationAdds s d → e.puts ≡ d.puts → e.memory.routing ≡ d.memory.routing → StationAdds s e
     beside s d e a is same = record { more = a.more; puts = is ∙ a.puts; leads = subst (λ t. Leads (RankKept Own C first) s.memory.routing a.more t) (sym same) a.leads }
 
-    away : (s d e : Doing Line) (ws : List Write) → LineAdds s d → e.puts ≡ d.puts ++ ws → AreAway ws → LineAdds s (record e { memory = record e.memory { routing = d.memory.routing } })
+    away : (s d e : Draft StationMemory) (ws : List Write) → StationAdds s d → e.puts ≡ d.puts ++ ws → AreAway ws → StationAdds s (record e { memory = record e.memory { routing = d.memory.routing } })
     away s d e ws a is far = adds_then s.puts d.puts e.puts ws s.memory.routing d.memory.routing d.memory.routing a is (away_leads Own C first d.memory.routing ws far)
 
-    pub made_adds : (s d : Doing Line) → Made W g s d → IsAt At (address_of s.memory) → LineAdds s d
-    unfolding ranked numbered tagged ringed rerouted goes body_goes waits leave
+    pub made_adds : (s d : Draft StationMemory) → Made W g s d → IsAt At (address_of s.memory) → StationAdds s d
+    unfolding with_rank with_own_number with_next_tag with_ring with_routing_by goes body_goes waits leave
     made_adds s d Starts h = adds_none s.puts s.memory.routing
     made_adds s d (Ranks by origin rank e made o fits) h =
         let f = offers (address_of e.memory) (made_at At W installs g s e made h) by origin rank o in
@@ -191,57 +191,57 @@ unheard_none g address by origin rank (ByItself is) = absurd (cc)
 pub unheard_fits : (At Own : ℕ → Type 0) (C : ℕ → ℕ → Rank → Type 0) (g : Given) (address : Option ℕ) → IsAt At address → (by origin : ℕ) (rank : Rank) → Offered (unheard g) address by origin rank → OfferFits Own C by origin rank g.now
 unheard_fits At Own C g address at by origin rank o = absurd (unheard_none g address by origin rank o)
 
-pub beside_line : (E : Eui → Type 0) (n k : Memory) → Beside E n k → k.line ≡ n.line
-beside_line E n k EndsIn = refl
-beside_line E n k (Asks s) = refl
-beside_line E n k (Replies s value here) = refl
-beside_line E n k (Opens s value here room is) = refl
-beside_line E n k (Answers s t eui there same) = refl
-beside_line E n k (Closes eui) = refl
-beside_line E n k (Gives value room) = refl
+pub beside_station : (E : Eui → Type 0) (n k : Memory) → Beside E n k → k.station ≡ n.station
+beside_station E n k EndsIn = refl
+beside_station E n k (Asks s) = refl
+beside_station E n k (Replies s value here) = refl
+beside_station E n k (Opens s value here room is) = refl
+beside_station E n k (Answers s t eui there same) = refl
+beside_station E n k (Closes eui) = refl
+beside_station E n k (Gives value room) = refl
 
 module _ (At Own : ℕ → Type 0) (C : ℕ → ℕ → Rank → Type 0) (W : RingWord → Type 0) (L : Granted → Type 0) (P : Eui → Key → Type 0) (E : Eui → Type 0) (g : Given) (m : Memory)
     (installs : (granted : Granted) → W (Install granted) → At granted.address)
     (offers : (address : Option ℕ) → IsAt At address → (by origin : ℕ) (rank : Rank) → Offered g address by origin rank → OfferFits Own C by origin rank g.now) where
-  pub made_in_at : (d : Doing Memory) → MadeIn W L P E g m d → IsAt At (address_of m.line) → IsAt At (address_of d.memory.line)
-  unfolding begun on_line remembered tagged_with entered goes_up goes_down
+  pub made_in_at : (d : Draft Memory) → MadeIn W L P E g m d → IsAt At (address_of m.station) → IsAt At (address_of d.memory.station)
+  unfolding empty_draft on_station with_memory_by with_pair_tags with_book_entry goes_up goes_down
   made_in_at d Begins h = h
-  made_in_at d (Station e made) h = made_at At W installs g (begun m.line) e made h
-  made_in_at d (OnLine word e made step) h = made_at At W installs (unheard g) (line_part e) (word (line_part e)) step (made_in_at e made h)
-  made_in_at d (Remembers change e made beside) h = subst (λ (l : Line). IsAt At (address_of l)) (sym (beside_line E e.memory (change e.memory) beside)) (made_in_at e made h)
+  made_in_at d (Station e made) h = made_at At W installs g (empty_draft m.station) e made h
+  made_in_at d (OnStation word e made step) h = made_at At W installs (unheard g) (station_part e) (word (station_part e)) step (made_in_at e made h)
+  made_in_at d (Remembers change e made beside) h = subst (λ (l : StationMemory). IsAt At (address_of l)) (sym (beside_station E e.memory (change e.memory) beside)) (made_in_at e made h)
   made_in_at d (TagsIn made opened e x) h = made_in_at e x h
   made_in_at d (Enters x e made change) h = made_in_at e made h
   made_in_at d (Up agent x message e made) h = made_in_at e made h
   made_in_at d (Down x message e made) h = made_in_at e made h
 
-  pub made_in_account : (d : Doing Memory) → MadeIn W L P E g m d → IsAt At (address_of m.line) → IsRouting m.line.routing → Account Own C m.line.routing d.memory.line.routing
-  unfolding begun on_line remembered tagged_with entered goes_up goes_down
-  made_in_account d Begins h sound = account_same m.line.routing sound
-  made_in_account d (Station e made) h sound = made_account At Own C W g installs offers (begun m.line) e made h sound
-  made_in_account d (OnLine word e made step) h sound =
+  pub made_in_account : (d : Draft Memory) → MadeIn W L P E g m d → IsAt At (address_of m.station) → IsRouting m.station.routing → Account Own C m.station.routing d.memory.station.routing
+  unfolding empty_draft on_station with_memory_by with_pair_tags with_book_entry goes_up goes_down
+  made_in_account d Begins h sound = account_same m.station.routing sound
+  made_in_account d (Station e made) h sound = made_account At Own C W g installs offers (empty_draft m.station) e made h sound
+  made_in_account d (OnStation word e made step) h sound =
       let a = made_in_account e made h sound in
-      account_trans m.line.routing e.memory.line.routing _ a (made_account At Own C W (unheard g) installs (unheard_fits At Own C g) (line_part e) (word (line_part e)) step (made_in_at e made h) a.sound)
-  made_in_account d (Remembers change e made beside) h sound = subst (λ (l : Line). Account Own C m.line.routing l.routing) (sym (beside_line E e.memory (change e.memory) beside)) (made_in_account e made h sound)
+      account_trans m.station.routing e.memory.station.routing _ a (made_account At Own C W (unheard g) installs (unheard_fits At Own C g) (station_part e) (word (station_part e)) step (made_in_at e made h) a.sound)
+  made_in_account d (Remembers change e made beside) h sound = subst (λ (l : StationMemory). Account Own C m.station.routing l.routing) (sym (beside_station E e.memory (change e.memory) beside)) (made_in_account e made h sound)
   made_in_account d (TagsIn made opened e x) h sound = made_in_account e x h sound
   made_in_account d (Enters x e made change) h sound = made_in_account e made h sound
   made_in_account d (Up agent x message e made) h sound = made_in_account e made h sound
   made_in_account d (Down x message e made) h sound = made_in_account e made h sound
 
   module _ (first : routing.Routing) where
-    abbrev MemoryAdds : Doing Memory → Type 0
-    MemoryAdds d = RankAdds At Own C W g installs offers first [] m.line.routing d.puts d.memory.line.routing
+    abbrev MemoryAdds : Draft Memory → Type 0
+    MemoryAdds d = RankAdds At Own C W g installs offers first [] m.station.routing d.puts d.memory.station.routing
 
-    pub made_in_adds : (d : Doing Memory) → MadeIn W L P E g m d → IsAt At (address_of m.line) → MemoryAdds d
-    unfolding begun on_line remembered tagged_with entered goes_up goes_down
-    made_in_adds d Begins h = adds_none At Own C W g installs offers first [] m.line.routing
-    made_in_adds d (Station e made) h = made_adds At Own C W g installs offers first (begun m.line) e made h
-    made_in_adds d (OnLine word e made step) h =
-        let a = made_adds At Own C W (unheard g) installs (unheard_fits At Own C g) first (line_part e) (word (line_part e)) step (made_in_at e made h) in
-        adds_then At Own C W g installs offers first [] e.puts _ a.more m.line.routing e.memory.line.routing _ (made_in_adds e made h) a.puts a.leads
+    pub made_in_adds : (d : Draft Memory) → MadeIn W L P E g m d → IsAt At (address_of m.station) → MemoryAdds d
+    unfolding empty_draft on_station with_memory_by with_pair_tags with_book_entry goes_up goes_down
+    made_in_adds d Begins h = adds_none At Own C W g installs offers first [] m.station.routing
+    made_in_adds d (Station e made) h = made_adds At Own C W g installs offers first (empty_draft m.station) e made h
+    made_in_adds d (OnStation word e made step) h =
+        let a = made_adds At Own C W (unheard g) installs (unheard_fits At Own C g) first (station_part e) (word (station_part e)) step (made_in_at e made h) in
+        adds_then At Own C W g installs offers first [] e.puts _ a.more m.station.routing e.memory.station.routing _ (made_in_adds e made h) a.puts a.leads
     made_in_adds d (Remembers change e made beside) h =
-        subst (λ (l : Line). RankAdds At Own C W g installs offers first [] m.line.routing e.puts l.routing) (sym (beside_line E e.memory (change e.memory) beside)) (made_in_adds e made h)
+        subst (λ (l : StationMemory). RankAdds At Own C W g installs offers first [] m.station.routing e.puts l.routing) (sym (beside_station E e.memory (change e.memory) beside)) (made_in_adds e made h)
     made_in_adds d (TagsIn made opened e x) h = made_in_adds e x h
     made_in_adds d (Enters x e made change) h =
-        adds_then At Own C W g installs offers first [] e.puts _ _ m.line.routing e.memory.line.routing e.memory.line.routing (made_in_adds e made h) refl (away_leads Own C first e.memory.line.routing _ (entry_away e.memory.book x))
+        adds_then At Own C W g installs offers first [] e.puts _ _ m.station.routing e.memory.station.routing e.memory.station.routing (made_in_adds e made h) refl (away_leads Own C first e.memory.station.routing _ (entry_away e.memory.book x))
     made_in_adds d (Up agent x message e made) h = made_in_adds e made h
     made_in_adds d (Down x message e made) h = made_in_adds e made h

@@ -17,10 +17,10 @@ use Rattle.routing_set.proofs.Rising.{ended_held, ended_ranks}
 use Rattle.node_rules.specs.Frames.{Sent}
 use Rattle.node_rules.specs.Memory.{Memory, Node, address_of}
 use Rattle.node_rules.specs.Plans.{Plan, Outcome, carry_out, resting}
-use Rattle.node_rules.specs.Doings.{Doing, Ends}
-use Rattle.node_rules.specs.Holding.{in_memory}
+use Rattle.node_rules.specs.Drafts.{Draft, Ends}
+use Rattle.node_rules.specs.MemoryDrafts.{in_memory}
 use Rattle.node_rules.specs.Laws.{all_put, IsWhole, IsCutOff}
-use Rattle.node_rules.specs.NodeSteps.{Did, acts, stays, left_by}
+use Rattle.node_rules.specs.NodeSteps.{NodeStep, acts, stays, left_by}
 use Rattle.node_rules.proofs.Writing.{clean}
 use Rattle.line_laws.specs.Stores.{IsKept}
 use Rattle.line_laws.proofs.Keeping.{Reads, Left, Leads, leads_beside, leads_append, front_reads}
@@ -37,40 +37,40 @@ use Rattle.line_laws.specs.Loops.{ranks_in, stored}
 
 -- What a plan does to ranks and routes.
 pub record PlanRanks (At Own : ℕ → Type 0) (C : ℕ → ℕ → Rank → Type 0) (m : Memory) {A : Type 0} (p : Plan Memory A) : Type 0 where
-  pub leads : (first : routing.Routing) → Leads (RankKept Own C first) m.line.routing p.puts p.memory.line.routing
-  pub account : IsRouting m.line.routing → Account Own C m.line.routing p.memory.line.routing
-  pub backed : IsRouting m.line.routing → All (FrameBacked At p.memory.line.routing) p.frames
-  pub here : IsAt At (address_of p.memory.line)
+  pub leads : (first : routing.Routing) → Leads (RankKept Own C first) m.station.routing p.puts p.memory.station.routing
+  pub account : IsRouting m.station.routing → Account Own C m.station.routing p.memory.station.routing
+  pub backed : IsRouting m.station.routing → All (FrameBacked At p.memory.station.routing) p.frames
+  pub here : IsAt At (address_of p.memory.station)
 
 -- a plan that leaves ranks, routes and ring, and sends nothing
-pub resting_ranks : {A : Type 0} (At Own : ℕ → Type 0) (C : ℕ → ℕ → Rank → Type 0) (m n : Memory) (answer failed : A) → n.line.routing ≡ m.line.routing → n.line.ring ≡ m.line.ring → IsAt At (address_of m.line)
+pub resting_ranks : {A : Type 0} (At Own : ℕ → Type 0) (C : ℕ → ℕ → Rank → Type 0) (m n : Memory) (answer failed : A) → n.station.routing ≡ m.station.routing → n.station.ring ≡ m.station.ring → IsAt At (address_of m.station)
     → PlanRanks At Own C m (resting n answer failed)
 unfolding resting
 resting_ranks At Own C m n answer failed same ring_same h = record {
-  leads = λ first. subst (λ t. Leads (RankKept Own C first) m.line.routing [] t) (sym same) (leads_beside (RankKept Own C first) m.line.routing m.line.routing (λ r q. q));
-  account = λ sound. subst (λ t. Account Own C m.line.routing t) (sym same) (account_same m.line.routing sound);
-  backed = λ sound. All-nil (FrameBacked At n.line.routing);
+  leads = λ first. subst (λ t. Leads (RankKept Own C first) m.station.routing [] t) (sym same) (leads_beside (RankKept Own C first) m.station.routing m.station.routing (λ r q. q));
+  account = λ sound. subst (λ t. Account Own C m.station.routing t) (sym same) (account_same m.station.routing sound);
+  backed = λ sound. All-nil (FrameBacked At n.station.routing);
   here = subst (λ r. IsAt At (option_map (λ (g : Granted). g.address) r)) (sym ring_same) h;
 }
 
 module _ (At Own : ℕ → Type 0) (C : ℕ → ℕ → Rank → Type 0) (W : RingWord → Type 0) (L : Granted → Type 0) (P : Eui → Key → Type 0) (E : Eui → Type 0) (g : Given) (m : Memory)
     (installs : (granted : Granted) → W (Install granted) → At granted.address)
     (offers : (address : Option ℕ) → IsAt At address → (by origin : ℕ) (rank : Rank) → Offered g address by origin rank → OfferFits Own C by origin rank g.now) where
-  pub planned_ranks : {H F : Type 0} (ends : Ends F) (K : Memory → H → Type 0) (D : Doing Memory → H → Type 0)
-      → ((n : Memory) (answer : H) → K n answer → (n.line.routing ≡ m.line.routing) × (n.line.ring ≡ m.line.ring))
-      → ((d : Doing Memory) (answer : H) → D d answer → MadeIn W L P E g m d)
-      → (p : Plan Memory (Result H F)) → Planned in_memory ends m K D p → IsAt At (address_of m.line) → PlanRanks At Own C m p
+  pub planned_ranks : {H F : Type 0} (ends : Ends F) (K : Memory → H → Type 0) (D : Draft Memory → H → Type 0)
+      → ((n : Memory) (answer : H) → K n answer → (n.station.routing ≡ m.station.routing) × (n.station.ring ≡ m.station.ring))
+      → ((d : Draft Memory) (answer : H) → D d answer → MadeIn W L P E g m d)
+      → (p : Plan Memory (Result H F)) → Planned in_memory ends m K D p → IsAt At (address_of m.station) → PlanRanks At Own C m p
   planned_ranks ends K D kept made p (Refuses reason) h = resting_ranks At Own C m m _ _ refl refl h
   planned_ranks ends K D kept made p (Keeps n answer k) h = let same = kept n answer k in resting_ranks At Own C m n _ _ same.0 same.1 h
   planned_ranks ends K D kept made p (Ended d answer done left) h =
       let x = made d answer done in record {
         leads = λ first.
             let a = made_in_adds At Own C W L P E g m installs offers first d x h in
-            leads_append (RankKept Own C first) m.line.routing d.memory.line.routing d.memory.line.routing d.puts _
-            (subst (λ ws. Leads (RankKept Own C first) m.line.routing ws d.memory.line.routing) (sym a.puts) a.leads)
-            (away_leads Own C first d.memory.line.routing _ (counter_away d.memory.line.counter (length d.units)));
+            leads_append (RankKept Own C first) m.station.routing d.memory.station.routing d.memory.station.routing d.puts _
+            (subst (λ ws. Leads (RankKept Own C first) m.station.routing ws d.memory.station.routing) (sym a.puts) a.leads)
+            (away_leads Own C first d.memory.station.routing _ (counter_away d.memory.station.counter (length d.units)));
         account = λ sound. made_in_account At Own C W L P E g m installs offers d x h sound;
-        backed = λ sound. frames_backed At Own C W g installs offers L P E m d d.memory.line.counter.next x h sound;
+        backed = λ sound. frames_backed At Own C W g installs offers L P E m d d.memory.station.counter.next x h sound;
         here = made_in_at At Own C W L P E g m installs offers d x h;
       }
 
@@ -88,7 +88,7 @@ rank_read t r sound kept dest = ap (λ s. routing.rank_of s dest) (ranks_read t 
 
 -- the next hop of its valid route to an address, whether it has a ring or not
 unfoldable pub via : Node → ℕ → Option ℕ
-via x dest = option_and_then (λ (m : Memory). routing.next_of m.line.routing dest) x.memory
+via x dest = option_and_then (λ (m : Memory). routing.next_of m.station.routing dest) x.memory
 
 -- # A node
 
@@ -132,17 +132,17 @@ module _ (At Own : ℕ → Type 0) (C : ℕ → ℕ → Rank → Type 0) where
     halted_by e = record {
       above = above_by;
       not_own = not_own_by;
-      routes = λ dest next k. absurd (none-some next (sym (ap (option_and_then (λ (m : Memory). routing.next_of m.line.routing dest)) e) ∙ k));
+      routes = λ dest next k. absurd (none-some next (sym (ap (option_and_then (λ (m : Memory). routing.next_of m.station.routing dest)) e) ∙ k));
       backed = All-nil (FrameBacked At (stored y));
     }
 
-    live_by : (n : Memory) (frames : List Sent) → y.memory ≡ Some n → n.line.routing ≡ s → ((dest h : ℕ) → routing.next_of t dest ≡ Some h → via x dest ≡ Some h) → All (FrameBacked At s) frames → NodeRanks At Own C x y frames
+    live_by : (n : Memory) (frames : List Sent) → y.memory ≡ Some n → n.station.routing ≡ s → ((dest h : ℕ) → routing.next_of t dest ≡ Some h → via x dest ≡ Some h) → All (FrameBacked At s) frames → NodeRanks At Own C x y frames
     unfolding via
     live_by n frames e is there backed = record {
       above = above_by;
       not_own = not_own_by;
       routes = λ dest next k. cause_by dest next (there dest)
-          (q.account.routes dest next (sym (ap (option_and_then (λ (m : Memory). routing.next_of m.line.routing dest)) e ∙ ap (λ u. routing.next_of u dest) is) ∙ k));
+          (q.account.routes dest next (sym (ap (option_and_then (λ (m : Memory). routing.next_of m.station.routing dest)) e ∙ ap (λ u. routing.next_of u dest) is) ∙ k));
       backed = All-weaker (FrameBacked At s) (FrameBacked At (stored y)) (λ f h. frame_rises At s (stored y) f (λ dest. inl (now dest)) h) frames backed;
     }
 
@@ -163,37 +163,37 @@ module _ (At Own : ℕ → Type 0) (C : ℕ → ℕ → Rank → Type 0) where
           r = x.store.records
 
           t : routing.Routing
-          t = m.line.routing
+          t = m.station.routing
 
           o : Outcome Memory A
           o = carry_out x.store.records x.store.cut (plan m)
 
           sound : IsRouting t
-          sound = k.line.range.routing
+          sound = k.station.range.routing
 
-          at_first : RankKept Own C m.line.routing m.line.routing x.store.records
-          at_first = record { account = account_same m.line.routing k.line.range.routing; ranged = record { sound = k.line.range.routing; floors = k.line.range.floors; ranks = k.line.range.ranks }; kept = k.line.routing }
+          at_first : RankKept Own C m.station.routing m.station.routing x.store.records
+          at_first = record { account = account_same m.station.routing k.station.range.routing; ranged = record { sound = k.station.range.routing; floors = k.station.range.floors; ranks = k.station.range.ranks }; kept = k.station.routing }
 
           whole : IsWhole x.store.records x.store.cut (plan m) (carry_out x.store.records x.store.cut (plan m)) → NodeRanks At Own C x (left_by x (carry_out x.store.records x.store.cut (plan m))).node (carry_out x.store.records x.store.cut (plan m)).frames
           whole w =
-              let q = ((p.leads m.line.routing).run x.store.records at_first).1 in
-              rw w.frames (live_by x (left_by x (carry_out x.store.records x.store.cut (plan m))).node m.line.routing (plan m).memory.line.routing k.line.range.routing k.line.routing
-              (subst (RankKept Own C m.line.routing (plan m).memory.line.routing) (sym w.left) q) (plan m).memory (plan m).frames w.memory refl
-              (λ dest h e. ap (option_and_then (λ (n : Memory). routing.next_of n.line.routing dest)) there ∙ e) (p.backed k.line.range.routing))
+              let q = ((p.leads m.station.routing).run x.store.records at_first).1 in
+              rw w.frames (live_by x (left_by x (carry_out x.store.records x.store.cut (plan m))).node m.station.routing (plan m).memory.station.routing k.station.range.routing k.station.routing
+              (subst (RankKept Own C m.station.routing (plan m).memory.station.routing) (sym w.left) q) (plan m).memory (plan m).frames w.memory refl
+              (λ dest h e. ap (option_and_then (λ (n : Memory). routing.next_of n.station.routing dest)) there ∙ e) (p.backed k.station.range.routing))
 
           by_kind : (b : Bool) (front rest : List Write) (one : Write) → (plan m).puts ≡ front ++ one ∷ rest
-              → Reads (RankKept Own C m.line.routing) (if b then all_put (front ++ one ∷ []) x.store.records else all_put front x.store.records)
-          by_kind true front rest one e = front_reads (RankKept Own C m.line.routing) (plan m).puts (front ++ one ∷ []) rest x.store.records (e ∙ sym (append_one front one rest)) ((p.leads m.line.routing).run x.store.records at_first).0
-          by_kind false front rest one e = front_reads (RankKept Own C m.line.routing) (plan m).puts front (one ∷ rest) x.store.records e ((p.leads m.line.routing).run x.store.records at_first).0
+              → Reads (RankKept Own C m.station.routing) (if b then all_put (front ++ one ∷ []) x.store.records else all_put front x.store.records)
+          by_kind true front rest one e = front_reads (RankKept Own C m.station.routing) (plan m).puts (front ++ one ∷ []) rest x.store.records (e ∙ sym (append_one front one rest)) ((p.leads m.station.routing).run x.store.records at_first).0
+          by_kind false front rest one e = front_reads (RankKept Own C m.station.routing) (plan m).puts front (one ∷ rest) x.store.records e ((p.leads m.station.routing).run x.store.records at_first).0
 
           cut_off : IsCutOff x.store.records x.store.cut (plan m) (carry_out x.store.records x.store.cut (plan m)) → NodeRanks At Own C x (left_by x (carry_out x.store.records x.store.cut (plan m))).node (carry_out x.store.records x.store.cut (plan m)).frames
           cut_off c =
               let q = by_kind c.by.keeps_new c.front c.rest c.write c.split in
-              rw c.frames (halted_by x (left_by x (carry_out x.store.records x.store.cut (plan m))).node m.line.routing q.memory k.line.range.routing k.line.routing
-              (subst (RankKept Own C m.line.routing q.memory) (sym c.left) q.kept) c.memory)
+              rw c.frames (halted_by x (left_by x (carry_out x.store.records x.store.cut (plan m))).node m.station.routing q.memory k.station.range.routing k.station.routing
+              (subst (RankKept Own C m.station.routing q.memory) (sym c.left) q.kept) c.memory)
 
       by_memory : (o : Option Memory) → x.memory ≡ o → Left (IsKept x.role) x.store.records o
-          → let d : Did A = option_map_or (λ m. left_by x (carry_out x.store.records x.store.cut (plan m))) o (stays x halted) in NodeRanks At Own C x d.node d.frames
+          → let d : NodeStep A = option_map_or (λ m. left_by x (carry_out x.store.records x.store.cut (plan m))) o (stays x halted) in NodeRanks At Own C x d.node d.frames
       by_memory None e kept = same_ranks x
       by_memory (Some m) e kept = by_plan m e kept (f m e kept)
 

@@ -26,16 +26,16 @@ use Rattle.routing_set.specs.Histories.{IsRouting}
 use Rattle.routing_set.proofs.Offers.{gone_among, place_there, entered_held, entered_new, entered_first, after_gone}
 use Rattle.routing_set.proofs.LookUps.{is_at, is_at-true, entry_of-find}
 use Rattle.node_rules.specs.Frames.{Sent, Sealed, Up as PlainUp, Down as PlainDown}
-use Rattle.node_rules.specs.Memory.{Line, Memory, Load, Datagram, Command, Body, address_of}
-use Rattle.node_rules.specs.Doings.{Doing, Outgoing, begun, ranked, numbered, tagged, ringed, rerouted, goes, body_goes, waits, leave, waits_for, all_go, units_of, own_mesh, letters, sealed_by, sealing_key}
-use Rattle.node_rules.specs.Holding.{on_line, line_part, remembered, tagged_with, goes_up, goes_down}
-use Rattle.node_rules.specs.Coordinators.{entered}
+use Rattle.node_rules.specs.Memory.{StationMemory, Memory, Load, Datagram, Command, Body, address_of}
+use Rattle.node_rules.specs.Drafts.{Draft, Outgoing, empty_draft, with_rank, with_own_number, with_next_tag, with_ring, with_routing_by, goes, body_goes, waits, leave, waits_for, all_go, units_of, own_mesh, letters, sealed_by, sealing_key}
+use Rattle.node_rules.specs.MemoryDrafts.{on_station, station_part, with_memory_by, with_pair_tags, goes_up, goes_down}
+use Rattle.node_rules.specs.Coordinators.{with_book_entry}
 use Rattle.line_laws.proofs.Made.{RingWord, Install, Given, Offered, IsSaid, Seeks, Answers, Relays, Passes, Tells, Forwards, JustRanked, IsLess, Whole, Part, Carried, Made, Starts, Ranks, Numbers, Tags, Rings, Idles, Loses, Goes, Sends, Waits, Leaves}
-use Rattle.line_laws.proofs.MadeIn.{unheard, MadeIn, Begins, Station, OnLine, Remembers, Tags as TagsIn, Enters, Up, Down}
+use Rattle.line_laws.proofs.MadeIn.{unheard, MadeIn, Begins, Station, OnStation, Remembers, Tags as TagsIn, Enters, Up, Down}
 use Rattle.line_laws.proofs.RankOrder.{at_least_trans}
 use Rattle.line_laws.proofs.RankSteps.{held_kept}
 use Rattle.line_laws.proofs.RankAccount.{offered_account, ended_account}
-use Rattle.line_laws.proofs.RankFold.{IsAt, OfferFits, made_at, made_account, unheard_fits, beside_line, made_in_at, made_in_account}
+use Rattle.line_laws.proofs.RankFold.{IsAt, OfferFits, made_at, made_account, unheard_fits, beside_station, made_in_at, made_in_account}
 
 -- # The rank that was offered last is kept
 
@@ -182,11 +182,11 @@ module _ (At : ℕ → Type 0) (t : routing.Routing) where
 module _ (At Own : ℕ → Type 0) (C : ℕ → ℕ → Rank → Type 0) (W : RingWord → Type 0) (g : Given)
     (installs : (granted : Granted) → W (Install granted) → At granted.address)
     (offers : (address : Option ℕ) → IsAt At address → (by origin : ℕ) (rank : Rank) → Offered g address by origin rank → OfferFits Own C by origin rank g.now) where
-  just_held : (d : Doing Line) (by origin : ℕ) (rank : Rank) → JustRanked g by origin rank d → routing.held d.memory.routing origin ≡ rank
-  unfolding ranked leave
-  just_held d by origin rank j = ap (λ (x : Doing Line). routing.held x.memory.routing origin) j.is ∙ offered_held j.before.memory.routing origin rank by g.now
+  just_held : (d : Draft StationMemory) (by origin : ℕ) (rank : Rank) → JustRanked g by origin rank d → routing.held d.memory.routing origin ≡ rank
+  unfolding with_rank leave
+  just_held d by origin rank j = ap (λ (x : Draft StationMemory). routing.held x.memory.routing origin) j.is ∙ offered_held j.before.memory.routing origin rank by g.now
 
-  said_backed : (s d : Doing Line) (to : ℕ) (unit : MeshUnit) (note : ℕ) → IsSaid W g s d to unit note → IsAt At (address_of d.memory) → UnitBacked At d.memory.routing unit
+  said_backed : (s d : Draft StationMemory) (to : ℕ) (unit : MeshUnit) (note : ℕ) → IsSaid W g s d to unit note → IsAt At (address_of d.memory) → UnitBacked At d.memory.routing unit
   said_backed s d to unit note (Seeks x dest number n load here last some carried) h = Says (Rreq number 0 x dest) (inl (subst (IsAt At) here h, refl))
   said_backed s d to unit note (Answers x by origin number n c dest here last some told) h = Says (Rrep number 0 x origin) (inl (subst (IsAt At) here h, refl))
   said_backed s d to unit note (Relays by origin dest n c rank o just told) h = Says (Rreq rank.number rank.cost origin dest) (inr (inl (just_held d by origin rank just)))
@@ -194,8 +194,8 @@ module _ (At Own : ℕ → Type 0) (C : ℕ → ℕ → Rank → Type 0) (W : Ri
   said_backed s d to unit note (Tells hop lost target dest why there) h = Says (Rerr lost target) tt
   said_backed s d to unit note (Forwards by hop dest u less came is there) h = less_backed At d.memory.routing u less is
 
-  pub made_backed : (s d : Doing Line) → Made W g s d → IsAt At (address_of s.memory) → IsRouting s.memory.routing → All (Out At s.memory.routing) s.units → All (Out At d.memory.routing) d.units
-  unfolding ranked numbered tagged ringed rerouted goes body_goes waits leave
+  pub made_backed : (s d : Draft StationMemory) → Made W g s d → IsAt At (address_of s.memory) → IsRouting s.memory.routing → All (Out At s.memory.routing) s.units → All (Out At d.memory.routing) d.units
+  unfolding with_rank with_own_number with_next_tag with_ring with_routing_by goes body_goes waits leave
   made_backed s d Starts h sound all = all
   made_backed s d (Ranks by origin rank e made o fits) h sound all =
       let a = made_account At Own C W g installs offers s e made h sound in
@@ -219,8 +219,8 @@ module _ (At Own : ℕ → Type 0) (C : ℕ → ℕ → Rank → Type 0) (W : Ri
   made_backed s d (Leaves x dest hop rank e made here offered) h sound all =
       All-append (Out At e.memory.routing) e.units _ (made_backed s e made h sound all) (left_backed At e.memory.routing x hop (filter (waits_for dest) e.memory.waiting))
 
-made_plain : (W : RingWord → Type 0) (g : Given) (s d : Doing Line) → Made W g s d → d.plain ≡ s.plain
-unfolding ranked numbered tagged ringed rerouted goes body_goes waits leave
+made_plain : (W : RingWord → Type 0) (g : Given) (s d : Draft StationMemory) → Made W g s d → d.plain ≡ s.plain
+unfolding with_rank with_own_number with_next_tag with_ring with_routing_by goes body_goes waits leave
 made_plain W g s d Starts = refl
 made_plain W g s d (Ranks by origin rank e made o fits) = made_plain W g s e made
 made_plain W g s d (Numbers e made left) = made_plain W g s e made
@@ -243,26 +243,26 @@ module _ (At Own : ℕ → Type 0) (C : ℕ → ℕ → Rank → Type 0) (W : Ri
     IsPlainFrame (PlainUp agent from message) = Unit {0}
     IsPlainFrame (PlainDown from message) = Unit {0}
 
-    in_plain : (d : Doing Memory) → MadeIn W L P E g m d → All IsPlainFrame d.plain
-    unfolding begun on_line remembered tagged_with entered goes_up goes_down
+    in_plain : (d : Draft Memory) → MadeIn W L P E g m d → All IsPlainFrame d.plain
+    unfolding empty_draft on_station with_memory_by with_pair_tags with_book_entry goes_up goes_down
     in_plain d Begins = All-nil IsPlainFrame
-    in_plain d (Station e made) = subst (All IsPlainFrame) (sym (made_plain W g (begun m.line) e made)) (All-nil IsPlainFrame)
-    in_plain d (OnLine word e made step) = subst (All IsPlainFrame) (sym (made_plain W (unheard g) (line_part e) (word (line_part e)) step)) (in_plain e made)
+    in_plain d (Station e made) = subst (All IsPlainFrame) (sym (made_plain W g (empty_draft m.station) e made)) (All-nil IsPlainFrame)
+    in_plain d (OnStation word e made step) = subst (All IsPlainFrame) (sym (made_plain W (unheard g) (station_part e) (word (station_part e)) step)) (in_plain e made)
     in_plain d (Remembers change e made beside) = in_plain e made
     in_plain d (TagsIn made opened e x) = in_plain e x
     in_plain d (Enters x e made change) = in_plain e made
     in_plain d (Up agent x message e made) = All-push IsPlainFrame e.plain (PlainUp agent x message) (in_plain e made) tt
     in_plain d (Down x message e made) = All-push IsPlainFrame e.plain (PlainDown x message) (in_plain e made) tt
 
-    in_backed : (d : Doing Memory) → MadeIn W L P E g m d → IsAt At (address_of m.line) → IsRouting m.line.routing → All (Out At d.memory.line.routing) d.units
-    unfolding begun on_line remembered tagged_with entered goes_up goes_down
-    in_backed d Begins h sound = All-nil (Out At m.line.routing)
-    in_backed d (Station e made) h sound = made_backed At Own C W g installs offers (begun m.line) e made h sound (All-nil (Out At m.line.routing))
-    in_backed d (OnLine word e made step) h sound =
+    in_backed : (d : Draft Memory) → MadeIn W L P E g m d → IsAt At (address_of m.station) → IsRouting m.station.routing → All (Out At d.memory.station.routing) d.units
+    unfolding empty_draft on_station with_memory_by with_pair_tags with_book_entry goes_up goes_down
+    in_backed d Begins h sound = All-nil (Out At m.station.routing)
+    in_backed d (Station e made) h sound = made_backed At Own C W g installs offers (empty_draft m.station) e made h sound (All-nil (Out At m.station.routing))
+    in_backed d (OnStation word e made step) h sound =
         let a = made_in_account At Own C W L P E g m installs offers e made h sound in
-        made_backed At Own C W (unheard g) installs (unheard_fits At Own C g) (line_part e) (word (line_part e)) step (made_in_at At Own C W L P E g m installs offers e made h) a.sound (in_backed e made h sound)
+        made_backed At Own C W (unheard g) installs (unheard_fits At Own C g) (station_part e) (word (station_part e)) step (made_in_at At Own C W L P E g m installs offers e made h) a.sound (in_backed e made h sound)
     in_backed d (Remembers change e made beside) h sound =
-        subst (λ (l : Line). All (Out At l.routing) e.units) (sym (beside_line E e.memory (change e.memory) beside)) (in_backed e made h sound)
+        subst (λ (l : StationMemory). All (Out At l.routing) e.units) (sym (beside_station E e.memory (change e.memory) beside)) (in_backed e made h sound)
     in_backed d (TagsIn made opened e x) h sound = in_backed e x h sound
     in_backed d (Enters x e made change) h sound = in_backed e made h sound
     in_backed d (Up agent x message e made) h sound = in_backed e made h sound
@@ -288,9 +288,9 @@ module _ (At Own : ℕ → Type 0) (C : ℕ → ℕ → Rank → Type 0) (W : Ri
     plain_backed t (PlainDown from message) h = tt
 
     -- all that goes out at the end of a doing
-    pub frames_backed : (d : Doing Memory) (first : ℕ) → MadeIn W L P E g m d → IsAt At (address_of m.line) → IsRouting m.line.routing
-        → All (FrameBacked At d.memory.line.routing) (d.plain ++ sealed_by d.memory.line.ring first d.units)
+    pub frames_backed : (d : Draft Memory) (first : ℕ) → MadeIn W L P E g m d → IsAt At (address_of m.station) → IsRouting m.station.routing
+        → All (FrameBacked At d.memory.station.routing) (d.plain ++ sealed_by d.memory.station.ring first d.units)
     frames_backed d first made h sound =
-        let t = d.memory.line.routing in
+        let t = d.memory.station.routing in
         All-append (FrameBacked At t) d.plain _ (All-weaker IsPlainFrame (FrameBacked At t) (plain_backed t) d.plain (in_plain d made))
-        (sealed_backed t d.memory.line.ring first d.units (made_in_at At Own C W L P E g m installs offers d made h) (in_backed d made h sound))
+        (sealed_backed t d.memory.station.ring first d.units (made_in_at At Own C W L P E g m installs offers d made h) (in_backed d made h sound))

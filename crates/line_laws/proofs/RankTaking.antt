@@ -19,9 +19,9 @@ use Rattle.node_rules.specs.declared.refusal.Dropped.{Dropped}
 use Rattle.node_rules.specs.declared.refusal.Dropped.TheVariants.{CounterSpent, NoSession, Store}
 use Rattle.node_rules.specs.Memory.{Memory, MeterSession, Course, ByAgent, ByCommand, address_of}
 use Rattle.node_rules.specs.Plans.{resting}
-use Rattle.node_rules.specs.Doings.{Doing, counters_left, refused, sealing, sealed, checked, choose}
+use Rattle.node_rules.specs.Drafts.{Draft, counters_left, refused, sealing, sealed, checked, choose}
 use Rattle.node_rules.specs.Hearing.{dropped, hear}
-use Rattle.node_rules.specs.Holding.{in_memory, unread, Unread, packet_fault}
+use Rattle.node_rules.specs.MemoryDrafts.{in_memory, unread, Unread, packet_fault}
 use Rattle.node_rules.specs.Joining.{is_first}
 use Rattle.node_rules.specs.Meters.{Identity, Hearing, ends, third_course_fault, take_with, take_by, take, challenged, hear_near, hear_order, hear_join, hear_join_in, heard_by, hear_meter}
 use Rattle.line_laws.proofs.Made.{Offered}
@@ -66,15 +66,15 @@ module _ (x : Identity) (m : Memory) (got : Accepted) (cost note now : ℕ) (ok 
 
   -- # The third packet
 
-  walk_sealed : (q : Hearing) (d : Doing Memory) (agreed : Agreed) → Wrong → Walk q (ends m d (heard.Took agreed))
+  walk_sealed : (q : Hearing) (d : Draft Memory) (agreed : Agreed) → Wrong → Walk q (ends m d (heard.Took agreed))
   unfolding sealed
-  walk_sealed q d agreed wrong = by_left (nat_lt (counters_left m.line) (length d.units))
+  walk_sealed q d agreed wrong = by_left (nat_lt (counters_left m.station) (length d.units))
     where
       by_left : (b : Bool) → Walk q (if b then refused dropped m CounterSpent else sealing in_memory dropped d (heard.Took agreed))
       by_left true = Refused CounterSpent refl
       by_left false = Takes agreed refl wrong
 
-  walk_lack : (q : Hearing) (lack : Option Dropped) (d : Doing Memory) (agreed : Agreed) → Wrong → Walk q (checked dropped m lack (ends m d (heard.Took agreed)))
+  walk_lack : (q : Hearing) (lack : Option Dropped) (d : Draft Memory) (agreed : Agreed) → Wrong → Walk q (checked dropped m lack (ends m d (heard.Took agreed)))
   unfolding checked
   walk_lack q None d agreed wrong = walk_sealed q d agreed wrong
   walk_lack q (Some reason) d agreed wrong = Refused reason refl
@@ -82,7 +82,7 @@ module _ (x : Identity) (m : Memory) (got : Accepted) (cost note now : ℕ) (ok 
   -- the challenge of the frame
   record Challenged (packet : List ℕ) : Type 0 where
     unread_is : Unread
-    frame : unread (hear m.line got cost note now).answer ≡ Some unread_is
+    frame : unread (hear m.station got cost note now).answer ≡ Some unread_is
     join : JoinMessage
     read : join_in unread_is.body ≡ Some join
     challenge : join.body ≡ body.Challenge packet
@@ -136,18 +136,18 @@ module _ (x : Identity) (m : Memory) (got : Accepted) (cost note now : ℕ) (ok 
   walk_join (Near agent) join came = walk_choose _ _ _ _ _ (walk_near agent join.body came) (Same refl)
   walk_join (Mesh origin) join came = walk_choose _ _ _ _ _ (walk_choose _ _ _ _ _ (walk_order join.body came) (Same refl)) (Same refl)
 
-  walk_join_in : (u : Unread) → unread (hear m.line got cost note now).answer ≡ Some u → (o : Option JoinMessage) → join_in u.body ≡ o → Walk (hear_join_in (picky ok x) m u.way o now) (hear_join_in x m u.way o now)
+  walk_join_in : (u : Unread) → unread (hear m.station got cost note now).answer ≡ Some u → (o : Option JoinMessage) → join_in u.body ≡ o → Walk (hear_join_in (picky ok x) m u.way o now) (hear_join_in x m u.way o now)
   walk_join_in u frame None read = Same refl
   walk_join_in u frame (Some join) read = walk_join u.way join (λ packet e. record { unread_is = u; frame = frame; join = join; read = read; challenge = e })
 
-  walk_heard : (o : Option Unread) → unread (hear m.line got cost note now).answer ≡ o → Walk (heard_by (picky ok x) m now (hear m.line got cost note now) o) (heard_by x m now (hear m.line got cost note now) o)
+  walk_heard : (o : Option Unread) → unread (hear m.station got cost note now).answer ≡ o → Walk (heard_by (picky ok x) m now (hear m.station got cost note now) o) (heard_by x m now (hear m.station got cost note now) o)
   walk_heard None frame = Same refl
   walk_heard (Some u) frame = walk_join_in u frame (join_in u.body) refl
 
   walk_meter : Walk (hear_meter (picky ok x) m got cost note now) (hear_meter x m got cost note now)
-  walk_meter = walk_heard (unread (hear m.line got cost note now).answer) refl
+  walk_meter = walk_heard (unread (hear m.station got cost note now).answer) refl
 
-module _ (At Own : ℕ → Type 0) (C : ℕ → ℕ → Rank → Type 0) (m : Memory) (here : IsAt At (address_of m.line)) (got : Accepted) (cost note now : ℕ)
+module _ (At Own : ℕ → Type 0) (C : ℕ → ℕ → Rank → Type 0) (m : Memory) (here : IsAt At (address_of m.station)) (got : Accepted) (cost note now : ℕ)
     (offers : (address : Option ℕ) → IsAt At address → (by origin : ℕ) (rank : Rank) → Offered (heard_given got cost note now) address by origin rank → OfferFits Own C by origin rank now)
     (ok : Granted → Bool) (passes : (g : Granted) → ok g ≡ true → At g.address) (fails : (g : Granted) → ok g ≡ false → ¬ (At g.address)) where
   picky_grants : (x : Identity) (granted : Granted) → IsTaken (heard_given got cost note now) (picky ok x) m granted → At granted.address

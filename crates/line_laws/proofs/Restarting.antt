@@ -13,15 +13,15 @@ use Rattle.group_keys.specs.KeyBook as book
 use Rattle.routing_set.specs.RoutingSet as routing
 use Rattle.routing_set.specs.OwnNumber as own_number
 use Rattle.routing_set.proofs.Histories.{opened_again}
-use Rattle.node_rules.specs.Memory.{Line, Body, Memory, Role, Coordinator, Meter}
-use Rattle.node_rules.specs.Opening.{line_of, memory_of, remembering}
+use Rattle.node_rules.specs.Memory.{StationMemory, Body, Memory, Role, Coordinator, Meter}
+use Rattle.node_rules.specs.StoreReading.{station_of, memory_of, remembering}
 use Rattle.node_rules.specs.Laws.{IsShort}
-use Rattle.line_laws.specs.Stores.{IsLineKept, IsNamed, IsKept}
+use Rattle.line_laws.specs.Stores.{IsStationKept, IsNamed, IsKept}
 use Rattle.line_laws.specs.Sizes.{IsSized}
 use Rattle.line_laws.proofs.StoreFold.{ended_kept}
 
 -- a line as its records give it
-pub rested : Line → Line
+pub rested : StationMemory → StationMemory
 rested l = record {
   ring = l.ring;
   counter = counter.counting_at l.counter.limit;
@@ -33,20 +33,20 @@ rested l = record {
   waiting = [];
 }
 
-module _ (l : Line) (r : Records) (k : IsLineKept l r) where
+module _ (l : StationMemory) (r : Records) (k : IsStationKept l r) where
   marks_again : slots.opened marks.peers r ≡ Ok (map marks.at_rest l.marks)
   marks_again = reopened marks.peers r l.marks (λ e. refl) k.range.marks k.marks
 
-  pub line_again : line_of r ≡ Ok (rested l)
-  unfolding line_of rested
-  line_again =
+  pub station_again : station_of r ≡ Ok (rested l)
+  unfolding station_of rested
+  station_again =
       let a : ring.opened r ≡ Ok l.ring = ap ring.ring_from k.ring.stored in
       let b : counter.opened r ≡ Ok (counter.counting_at l.counter.limit) = ap counter.counting_from k.counter.limit in
       let c : own_number.opened r ≡ Ok (own_number.numbering_at l.own_number.limit) = ap own_number.numbering_from k.number.limit in
       let d = opened_again l.routing r k.range.routing.entries k.routing in
       rw (a, b, c, k.tag, d, marks_again) refl
 
-  pub rested_kept : IsLineKept (rested l) r
+  pub rested_kept : IsStationKept (rested l) r
   unfolding rested
   rested_kept =
       let e = ended_kept l r (λ _. true) k in
@@ -76,36 +76,36 @@ pub record Again (role : Role) (r : Records) : Type 0 where
   pub is : memory_of role r ≡ Ok memory
   pub kept : IsKept role memory r
   pub sized : IsSized memory
-  pub next : memory.line.counter.next ≡ counter.stored_limit r
+  pub next : memory.station.counter.next ≡ counter.stored_limit r
 
-rested_sized : (l : Line) (b : book.Book) → IsSized (remembering (rested l) b)
+rested_sized : (l : StationMemory) (b : book.Book) → IsSized (remembering (rested l) b)
 unfolding rested
 rested_sized l b = record {
-  line = record { reassemblies = (omega arith, omega arith); waiting = (omega arith, omega arith); short = All-nil (λ (x : Body). IsShort x.load) };
+  station = record { reassemblies = (omega arith, omega arith); waiting = (omega arith, omega arith); short = All-nil (λ (x : Body). IsShort x.load) };
   sessions = omega arith;
   randoms = omega arith;
 }
 
-next_again : (l : Line) (r : Records) → IsLineKept l r → (rested l).counter.next ≡ counter.stored_limit r
+next_again : (l : StationMemory) (r : Records) → IsStationKept l r → (rested l).counter.next ≡ counter.stored_limit r
 unfolding rested
 next_again l r k = sym (stored_limit-kept l.counter r k.counter)
 
 pub again : (role : Role) (m : Memory) (r : Records) → IsKept role m r → Again role r
 again (Meter psk) m r k = record {
-  memory = remembering (rested m.line) [];
-  is = rw (line_again m.line r k.line) refl;
-  kept = record { line = rested_kept m.line r k.line; book = refl; sessions = All-nil IsNamed };
-  sized = rested_sized m.line [];
-  next = next_again m.line r k.line;
+  memory = remembering (rested m.station) [];
+  is = rw (station_again m.station r k.station) refl;
+  kept = record { station = rested_kept m.station r k.station; book = refl; sessions = All-nil IsNamed };
+  sized = rested_sized m.station [];
+  next = next_again m.station r k.station;
 }
 again Coordinator m r k =
     let opened : slots.opened book.entries r ≡ Ok m.book = reopened book.entries r m.book (λ e. refl) k.book.table k.book.stored ∙ ap Ok (map_same m.book) in
     record {
-      memory = remembering (rested m.line) m.book;
-      is = rw (line_again m.line r k.line, opened) refl;
-      kept = record { line = rested_kept m.line r k.line; book = k.book; sessions = All-nil IsNamed };
-      sized = rested_sized m.line m.book;
-      next = next_again m.line r k.line;
+      memory = remembering (rested m.station) m.book;
+      is = rw (station_again m.station r k.station, opened) refl;
+      kept = record { station = rested_kept m.station r k.station; book = k.book; sessions = All-nil IsNamed };
+      sized = rested_sized m.station m.book;
+      next = next_again m.station r k.station;
     }
   where
     map_same : (b : book.Book) → map (λ e. e) b ≡ b

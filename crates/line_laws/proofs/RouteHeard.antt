@@ -25,7 +25,7 @@ use Rattle.node_rules.specs.declared.heard.Accepted.{Accepted}
 use Rattle.node_rules.specs.Ciphers.{Ciphers}
 use Rattle.node_rules.specs.Frames.{Sealed, Letter, spelled, arrived, to_all}
 use Rattle.node_rules.specs.Hearing.{rank_over}
-use Rattle.node_rules.specs.Memory.{Line, Node}
+use Rattle.node_rules.specs.Memory.{StationMemory, Node}
 use Rattle.line_rules.specs.Worlds.{World, Flight, node_at, has_octets}
 use Rattle.line_rules.specs.Steps.{forged_by}
 use Rattle.node_rules.specs.Accepting.{Accepting, marking}
@@ -79,7 +79,7 @@ module _ (ciphers : Ciphers) (h : Homes) (w : World) (backed : All (FlightBacked
       by_first more false is e = more e
 
   -- what is opened of a flight is what its sender said
-  opened_said : (octets : List ℕ) (l : Line) (from counter : ℕ) (got : Accepted) (a : IsAdmitted l (arrived ciphers octets) from counter got) → Found octets a.key
+  opened_said : (octets : List ℕ) (l : StationMemory) (from counter : ℕ) (got : Accepted) (a : IsAdmitted l (arrived ciphers octets) from counter got) → Found octets a.key
       → (code : ℕ) (body : List ℕ) (message : Message) → unit_in a.payload ≡ Some (units.Local code body) → (code == 1) ≡ true → message_in body ≡ Some message → SaidBy h w from message
   opened_said octets l from counter got a x code body message unit first read = by_flight x.says
     where
@@ -107,7 +107,7 @@ module _ (ciphers : Ciphers) (h : Homes) (w : World) (backed : All (FlightBacked
   not_false false e = absurd (cc)
 
   -- a frame that was accepted, and is not forged
-  pub admitted_said : (octets : List ℕ) (l : Line) (from counter : ℕ) (got : Accepted) → IsAdmitted l (arrived ciphers octets) from counter got → forged_by w octets got.path ≡ false → SaidRight h w got
+  pub admitted_said : (octets : List ℕ) (l : StationMemory) (from counter : ℕ) (got : Accepted) → IsAdmitted l (arrived ciphers octets) from counter got → forged_by w octets got.path ≡ false → SaidRight h w got
   admitted_said octets l from counter got a honest = record {
     run = λ by all key code body message path unit first read.
         let path_is : paths.Sealed by all key ≡ paths.Sealed from (a.to == to_all) a.key = sym path ∙ ap (λ (x : Accepted). x.path) a.got_is in
@@ -120,7 +120,7 @@ module _ (ciphers : Ciphers) (h : Homes) (w : World) (backed : All (FlightBacked
   plain_said : (got : Accepted) → IsPlain got.path → SaidRight h w got
   plain_said got plain = record { run = λ by all key code body message path unit first read. absurd (subst IsPlain path plain) }
 
-  pub accepted_said : (octets : List ℕ) (l : Line) (p : Accepting) (got : Accepted) → Accepts l (arrived ciphers octets) p → p.answer ≡ Ok got → forged_by w octets got.path ≡ false → SaidRight h w got
+  pub accepted_said : (octets : List ℕ) (l : StationMemory) (p : Accepting) (got : Accepted) → Accepts l (arrived ciphers octets) p → p.answer ≡ Ok got → forged_by w octets got.path ≡ false → SaidRight h w got
   unfolding resting marking
   accepted_said octets l p got (Turned reason) e honest = absurd (cc)
   accepted_said octets l p got (Plain x plain) e honest = let same : x ≡ got = cc in plain_said got (subst (λ (y : Accepted). IsPlain y.path) same plain)

@@ -24,12 +24,12 @@ use Rattle.routing_set.proofs.Histories.{opened_again}
 use Rattle.routing_set.proofs.LookUps.{is_at}
 use Rattle.routing_set.proofs.Rising.{route-by, ended_routes}
 use Rattle.node_rules.specs.Frames.{Sent}
-use Rattle.node_rules.specs.Memory.{Line, Memory, Node, Role, Coordinator, Meter, address_of}
+use Rattle.node_rules.specs.Memory.{StationMemory, Memory, Node, Role, Coordinator, Meter, address_of}
 use Rattle.node_rules.specs.Plans.{Plan, carry_out}
-use Rattle.node_rules.specs.Opening.{memory_of, line_of, remembering, reading, tag_in, blank_routing, first_grant}
-use Rattle.node_rules.specs.Doings.{tag_slot}
+use Rattle.node_rules.specs.StoreReading.{memory_of, station_of, remembering, reading, tag_in, blank_routing, first_grant}
+use Rattle.node_rules.specs.Drafts.{tag_slot}
 use Rattle.node_rules.specs.Laws.{IsWhole, IsCutOff}
-use Rattle.node_rules.specs.NodeSteps.{Did, acts, stays, left_by}
+use Rattle.node_rules.specs.NodeSteps.{NodeStep, acts, stays, left_by}
 use Rattle.line_rules.specs.Steps.{restarts, memory_by, ticked, blank_node, coordinator_node}
 use Rattle.node_rules.specs.Coordinators as coordinator_rules
 use Rattle.node_rules.proofs.Writing.{clean}
@@ -58,7 +58,7 @@ acts_frames {A = A} P x halted plan ok f = by_memory x.memory refl ok.kept ok.si
         (clean x.store.records x.store.cut (plan m))
 
     by_memory : (o : Option Memory) → x.memory ≡ o → Left (IsKept x.role) x.store.records o → IfSome o IsSized
-        → let d : Did A = option_map_or (λ m. left_by x (carry_out x.store.records x.store.cut (plan m))) o (stays x halted) in All P d.frames
+        → let d : NodeStep A = option_map_or (λ m. left_by x (carry_out x.store.records x.store.cut (plan m))) o (stays x halted) in All P d.frames
     by_memory None e kept sized = All-nil P
     by_memory (Some m) e kept sized = by_plan m (f m e kept sized)
 
@@ -74,7 +74,7 @@ acts_memory {A = A} P x halted plan f n = by_memory x.memory refl
         (λ (c : IsCutOff x.store.records x.store.cut (plan m) (carry_out x.store.records x.store.cut (plan m))). absurd (none-some n (sym c.memory ∙ e)))
         (clean x.store.records x.store.cut (plan m))
 
-    by_memory : (o : Option Memory) → x.memory ≡ o → let d : Did A = option_map_or (λ m. left_by x (carry_out x.store.records x.store.cut (plan m))) o (stays x halted) in d.node.memory ≡ Some n → P n
+    by_memory : (o : Option Memory) → x.memory ≡ o → let d : NodeStep A = option_map_or (λ m. left_by x (carry_out x.store.records x.store.cut (plan m))) o (stays x halted) in d.node.memory ≡ Some n → P n
     by_memory None e k = absurd (none-some n (sym e ∙ k))
     by_memory (Some m) e k = by_plan m e k
 
@@ -107,8 +107,8 @@ module _ (At Own : ℕ → Type 0) (C : ℕ → ℕ → Rank → Type 0) where
           → via (record { role = role; eui = x.eui; store = x.store; memory = o }) dest ≡ Some next
       by_role Coordinator None dest next e = e
       by_role (Meter psk) None dest next e = e
-      by_role Coordinator (Some m) dest next e = expired_next m.line.routing now dest next e
-      by_role (Meter psk) (Some m) dest next e = expired_next m.line.routing now dest next e
+      by_role Coordinator (Some m) dest next e = expired_next m.station.routing now dest next e
+      by_role (Meter psk) (Some m) dest next e = expired_next m.station.routing now dest next e
 
   -- # A new start
 
@@ -124,9 +124,9 @@ module _ (At Own : ℕ → Type 0) (C : ℕ → ℕ → Rank → Type 0) where
   rested_route : (t : routing.Routing) (dest : ℕ) → routing.next_of (routing.at_rest t) dest ≡ None
   rested_route t dest = ap (option_map (λ (r : Route). r.next)) (route-by (routing.at_rest t) dest ∙ rested_found t.entries dest)
 
-  opened_line : (r : Records) (t : routing.Routing) → routing.opened r ≡ Ok t → (l : Line) → line_of r ≡ Ok l → l.routing ≡ t
-  unfolding line_of
-  opened_line r t is l = by_ring (ring.opened r)
+  opened_station : (r : Records) (t : routing.Routing) → routing.opened r ≡ Ok t → (l : StationMemory) → station_of r ≡ Ok l → l.routing ≡ t
+  unfolding station_of
+  opened_station r t is l = by_ring (ring.opened r)
     where
       not_ok : (bad : BadStore) → Err bad ≡ Ok l → ⊥
       not_ok bad e = cc
@@ -163,35 +163,35 @@ module _ (At Own : ℕ → Type 0) (C : ℕ → ℕ → Rank → Type 0) where
       by_ring (Err bad) e = absurd (not_ok bad e)
       by_ring (Ok a) e = by_counter a (counter.opened r) e
 
-  memory_line : (role : Role) (r : Records) (t : routing.Routing) → routing.opened r ≡ Ok t → (n : Memory) → memory_of role r ≡ Ok n → n.line.routing ≡ t
-  memory_line (Meter psk) r t is n e = by_line (line_of r) refl e
+  memory_station : (role : Role) (r : Records) (t : routing.Routing) → routing.opened r ≡ Ok t → (n : Memory) → memory_of role r ≡ Ok n → n.station.routing ≡ t
+  memory_station (Meter psk) r t is n e = by_station (station_of r) refl e
     where
-      by_line : (o : Result Line BadStore) → line_of r ≡ o → reading o (λ l. Ok (remembering l [])) ≡ Ok n → n.line.routing ≡ t
-      by_line (Err bad) k e = absurd (cc)
-      by_line (Ok l) k e = let same : remembering l [] ≡ n = cc in ap (λ (m : Memory). m.line.routing) (sym same) ∙ opened_line r t is l k
-  memory_line Coordinator r t is n e = by_line (line_of r) refl e
+      by_station : (o : Result StationMemory BadStore) → station_of r ≡ o → reading o (λ l. Ok (remembering l [])) ≡ Ok n → n.station.routing ≡ t
+      by_station (Err bad) k e = absurd (cc)
+      by_station (Ok l) k e = let same : remembering l [] ≡ n = cc in ap (λ (m : Memory). m.station.routing) (sym same) ∙ opened_station r t is l k
+  memory_station Coordinator r t is n e = by_station (station_of r) refl e
     where
-      by_book : (l : Line) (o : Result book.Book BadStore) → line_of r ≡ Ok l → reading o (λ b. Ok (remembering l b)) ≡ Ok n → n.line.routing ≡ t
+      by_book : (l : StationMemory) (o : Result book.Book BadStore) → station_of r ≡ Ok l → reading o (λ b. Ok (remembering l b)) ≡ Ok n → n.station.routing ≡ t
       by_book l (Err bad) k e = absurd (cc)
-      by_book l (Ok b) k e = let same : remembering l b ≡ n = cc in ap (λ (m : Memory). m.line.routing) (sym same) ∙ opened_line r t is l k
+      by_book l (Ok b) k e = let same : remembering l b ≡ n = cc in ap (λ (m : Memory). m.station.routing) (sym same) ∙ opened_station r t is l k
 
-      by_line : (o : Result Line BadStore) → line_of r ≡ o → reading o (λ l. reading (slots.opened book.entries r) (λ b. Ok (remembering l b))) ≡ Ok n → n.line.routing ≡ t
-      by_line (Err bad) k e = absurd (cc)
-      by_line (Ok l) k e = by_book l (slots.opened book.entries r) k e
+      by_station : (o : Result StationMemory BadStore) → station_of r ≡ o → reading o (λ l. reading (slots.opened book.entries r) (λ b. Ok (remembering l b))) ≡ Ok n → n.station.routing ≡ t
+      by_station (Err bad) k e = absurd (cc)
+      by_station (Ok l) k e = by_book l (slots.opened book.entries r) k e
 
   left_routing : (role : Role) (r : Records) (o : Option Memory) → Left (IsKept role) r o → (t : routing.Routing) × (routing.opened r ≡ Ok (routing.at_rest t))
-  left_routing role r None k = (k.memory.line.routing, opened_again k.memory.line.routing r k.kept.line.range.routing.entries k.kept.line.routing)
-  left_routing role r (Some m) k = (m.line.routing, opened_again m.line.routing r k.line.range.routing.entries k.line.routing)
+  left_routing role r None k = (k.memory.station.routing, opened_again k.memory.station.routing r k.kept.station.range.routing.entries k.kept.station.routing)
+  left_routing role r (Some m) k = (m.station.routing, opened_again m.station.routing r k.station.range.routing.entries k.station.routing)
 
   pub restarted_ranks : (x : Node) → NodeOk x → NodeRanks At Own C x (restarts x).node []
   unfolding via
   restarted_ranks x ok = same_store x (restarts x).node refl (λ dest next e. absurd (no_route dest next (memory_of x.role x.store.records) refl e))
     where
-      no_route : (dest next : ℕ) (o : Result Memory BadStore) → memory_of x.role x.store.records ≡ o → option_and_then (λ (m : Memory). routing.next_of m.line.routing dest) (memory_by o) ≡ Some next → ⊥
+      no_route : (dest next : ℕ) (o : Result Memory BadStore) → memory_of x.role x.store.records ≡ o → option_and_then (λ (m : Memory). routing.next_of m.station.routing dest) (memory_by o) ≡ Some next → ⊥
       no_route dest next (Err bad) is e = none-some next e
       no_route dest next (Ok n) is e =
           let t = left_routing x.role x.store.records x.memory ok.kept in
-          let same = memory_line x.role x.store.records (routing.at_rest t.0) t.1 n is in
+          let same = memory_station x.role x.store.records (routing.at_rest t.0) t.1 n is in
           none-some next (sym (rested_route t.0 dest) ∙ ap (λ s. routing.next_of s dest) (sym same) ∙ e)
 
 -- # A new node
@@ -200,7 +200,7 @@ pub blank_ranks : (role : Role) (eui : Eui) (dest : ℕ) → routing.rank_of (st
 unfolding routing.rank_of
 blank_ranks role eui dest =
     let k = (blank_ok role eui).kept in
-    rank_read blank_routing empty k.line.range.routing k.line.routing dest
+    rank_read blank_routing empty k.station.range.routing k.station.routing dest
 
 pub blank_routes : (role : Role) (eui : Eui) (dest next : ℕ) → via (blank_node role eui) dest ≡ Some next → ⊥
 unfolding via routing.route_of
@@ -214,7 +214,7 @@ Nobody by origin rank = ⊥
 
 begun_ranks : (eui : Eui) (key : Key) → NodeRanks Every Every Nobody (blank_node Coordinator eui) (coordinator_node eui key) (acts (blank_node Coordinator eui) (Ok tt) (λ m. coordinator_rules.begin m (first_grant key))).frames
 begun_ranks eui key = acts_ranks Every Every Nobody (blank_node Coordinator eui) (Ok tt) (λ m. coordinator_rules.begin m (first_grant key)) (blank_ok Coordinator eui)
-    (λ m there kept. begin_ranks Every Every Nobody m (by_address (address_of m.line)) key tt)
+    (λ m there kept. begin_ranks Every Every Nobody m (by_address (address_of m.station)) key tt)
   where
     by_address : (o : Option ℕ) → IfSome o Every
     by_address None = tt

@@ -12,7 +12,7 @@ use Rattle.node_rules.specs.Ciphers.{Ciphers}
 use Rattle.node_rules.specs.Frames.{Sent, Sealed, Up, Down, Letter, spelled}
 use Rattle.node_rules.specs.Memory.{Node}
 use Rattle.line_rules.specs.Worlds.{World, Flight, node_at}
-use Rattle.node_rules.specs.NodeSteps.{Did}
+use Rattle.node_rules.specs.NodeSteps.{NodeStep}
 use Rattle.line_rules.specs.Steps.{told, flights_of, flight_by}
 use Rattle.line_laws.proofs.RankOrder.{at_least_trans, beats_at_least}
 use Rattle.line_laws.proofs.RankSaid.{UnitBacked, unit_rises, FrameBacked}
@@ -72,7 +72,7 @@ pub data ComesFrom (h : Homes) (w : World) (i : ℕ) (y : Node) : Type 0 where
   New : ((dest : ℕ) → routing.rank_of (stored y) dest ≡ None) → ((dest next : ℕ) → via y dest ≡ Some next → ⊥) → ComesFrom h w i y
 
 -- What a step says of all nodes and flights.
-pub record LineStep (ciphers : Ciphers) (h : Homes) (w v : World) : Type 0 where
+pub record StationStep (ciphers : Ciphers) (h : Homes) (w v : World) : Type 0 where
   pub forward : (i : ℕ) (x : Node) → node_at w i ≡ Some x → Later v i x
   pub back : (i : ℕ) (y : Node) → node_at v i ≡ Some y → ComesFrom h w i y
   pub flights : All (FlightBacked ciphers h w) w.flights → All (FlightBacked ciphers h v) v.flights
@@ -95,7 +95,7 @@ module _ (ciphers : Ciphers) (h : Homes) where
       let l = forward f.from x there in
       IsLetter letter l.node octets key from l.there (unit_rises (At h f.from) (stored x) (stored l.node) letter.unit l.above backed) read
 
-  pub step_holds : (w v : World) → LineStep ciphers h w v → RoutingHolds ciphers h w → RoutingHolds ciphers h v
+  pub step_holds : (w v : World) → StationStep ciphers h w v → RoutingHolds ciphers h w → RoutingHolds ciphers h v
   step_holds w v s good = record {
     ranks = record { backed = s.flights good.ranks.backed; not_own = λ i y there dest own. not_own_by i y dest own (s.back i y there) };
     routes = record { routes = λ i y there dest next e. route_by i y dest next e (s.back i y there) };
@@ -115,7 +115,7 @@ module _ (ciphers : Ciphers) (h : Homes) where
       route_by i y dest next e (From x frames was r) = cause_by i x y dest next was (r.routes dest next e)
       route_by i y dest next e (New none no_route) = absurd (no_route dest next e)
 
-  pub reach : {b : World} (w v : World) → LineStep ciphers h w v → Reached ciphers h b w → Reached ciphers h b v
+  pub reach : {b : World} (w v : World) → StationStep ciphers h w v → Reached ciphers h b w → Reached ciphers h b v
   reach w v s r = record {
     holds = step_holds w v s r.holds;
     later = λ i x there.
@@ -137,7 +137,7 @@ module _ (ciphers : Ciphers) (h : Homes) where
   frame_flies v number y there (Up agent from message) b read = IsPlain refl
   frame_flies v number y there (Down from message) b read = IsPlain refl
 
-  pub told_step : {A : Type 0} (w : World) (number : ℕ) (x : Node) (d : Did A) → node_at w number ≡ Some x → NodeRanks (At h number) (Own h number) (IsNearer h w) x d.node d.frames → All (FrameRead ciphers) d.frames → LineStep ciphers h w (told ciphers w number d)
+  pub told_step : {A : Type 0} (w : World) (number : ℕ) (x : Node) (d : NodeStep A) → node_at w number ≡ Some x → NodeRanks (At h number) (Own h number) (IsNearer h w) x d.node d.frames → All (FrameRead ciphers) d.frames → StationStep ciphers h w (told ciphers w number d)
   unfolding told
   told_step {A = A} w number x d there r reads = record {
     forward = forward;

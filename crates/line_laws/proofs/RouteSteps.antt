@@ -32,18 +32,18 @@ use Rattle.node_rules.specs.declared.refusal.LeaveRefusal.TheVariants as leaves
 use Rattle.node_rules.specs.declared.refusal.SendRefusal.TheVariants as sends
 use Rattle.node_rules.specs.Ciphers.{Ciphers}
 use Rattle.node_rules.specs.Frames.{Sent, arrived}
-use Rattle.node_rules.specs.Memory.{Line, Memory, Role, Coordinator, Meter, Node, address_of, node_address}
+use Rattle.node_rules.specs.Memory.{StationMemory, Memory, Role, Coordinator, Meter, Node, address_of, node_address}
 use Rattle.node_rules.specs.Plans.{Plan, resting}
 use Rattle.node_rules.specs.Accepting.{Accepting, accept, marking}
 use Rattle.node_rules.specs.Calls as calls
 use Rattle.node_rules.specs.Meters as meters
 use Rattle.node_rules.specs.Coordinators as coordinator_rules
 use Rattle.line_rules.specs.Answers.{Reception, meter_reception, coordinator_reception, random_word, join_word, leave_word, sent_word, ordered_word, frame_word}
-use Rattle.node_rules.specs.Holding.{with_line, give_random}
+use Rattle.node_rules.specs.MemoryDrafts.{with_station, give_random}
 use Rattle.line_rules.specs.Events.{IsEvent, IsLineOctets}
-use Rattle.line_rules.specs.Worlds.{World, Flight, Deeds, node_at, flight_at, is_forged_tag}
-use Rattle.line_rules.specs.Steps.{Step, set_up, ran, told, acted, once_begun, in_setup, has_begun, takes_setup, on_node, on_meter, made_node, blank_node, identity, hears, restarts, ticked, rand, join, joins_by, leave, send, sends_by, sent_if, breaks, breaks_by, lose, tick, restart, cut, show, psk_of, deeds, happened, coordinator, coordinator_node, meter, is_known, depot, depot_by, provisioned, near, near_by, keeps_rank, ranks_full, offered_near, preset, allow, allowed, deliver, inject, arrives, accepted_by, received, by_coordinator, forged_by, note_by, rekey, challenge, activate, kick, step}
-use Rattle.node_rules.specs.NodeSteps.{Did, acts, answering, of_line, changing}
+use Rattle.line_rules.specs.Worlds.{World, Flight, Trace, node_at, flight_at, is_forged_tag}
+use Rattle.line_rules.specs.Steps.{Step, set_up, ran, told, acted, once_begun, in_setup, has_begun, takes_setup, on_node, on_meter, made_node, blank_node, identity, hears, restarts, ticked, rand, join, joins_by, leave, send, sends_by, sent_if, breaks, breaks_by, lose, tick, restart, cut, show, psk_of, trace_of, happened, coordinator, coordinator_node, meter, is_known, depot, depot_by, provisioned, near, near_by, keeps_rank, ranks_full, offered_near, preset, allow, allowed, deliver, inject, arrives, accepted_by, received, by_coordinator, forged_by, note_by, rekey, challenge, activate, kick, step}
+use Rattle.node_rules.specs.NodeSteps.{NodeStep, acts, answering, of_station, changing}
 use Rattle.line_laws.specs.Stores.{IsReadable, IsKept}
 use Rattle.line_laws.specs.Sizes.{IsSized}
 use Rattle.line_laws.specs.Owed.{AreOctets, KeepsRanges}
@@ -51,7 +51,7 @@ use Rattle.line_laws.proofs.Keeping.{Left}
 use Rattle.line_laws.proofs.Nodes.{NodeOk, DidOk, acts_ok}
 use Rattle.line_laws.proofs.StoreMarks.{accept_is, Accepts, Turned, Plain, Marked}
 use Rattle.line_laws.proofs.NodeCalls.{RoutesFit}
-use Rattle.line_laws.proofs.CenterCalls.{accept_ok, accept_failed, accepted_routes}
+use Rattle.line_laws.proofs.CoordinatorCalls.{accept_ok, accept_failed, accepted_routes}
 use Rattle.line_laws.proofs.Answered.{Answered, acts_answered}
 use Rattle.eap_psk.specs.declared.server.Agreed.{Agreed}
 use Rattle.node_rules.specs.declared.heard.MeterHeard.TheVariants as meter_heard
@@ -72,7 +72,7 @@ use Rattle.line_laws.specs.Loops.{stored, Homes, FrameRead, Later, Addressed, Ta
 -- what an event that is taken keeps, where it is not forged
 pub data StepHolds (ciphers : Ciphers) (h : Homes) (w : World) : Step → Type 0 where
   Fails : (fault : StepFault) → StepHolds ciphers h w (Err fault)
-  Taken : (r : World × Deeds) → (r.1.happened.forged ≡ false → Reached ciphers h w r.0) → StepHolds ciphers h w (Ok r)
+  Taken : (r : World × Trace) → (r.1.happened.forged ≡ false → Reached ciphers h w r.0) → StepHolds ciphers h w (Ok r)
 
 -- whether a grant has this home
 abbrev is_home : Option ℕ → Granted → Bool
@@ -126,28 +126,28 @@ module _ (ciphers : Ciphers) (h : Homes) where
       forward i y there = record { node = y; there = pushed_old w.nodes x i y there; above = λ dest. inl refl }
 
   -- what a node did is told
-  pub CallHolds : World → ℕ → Node → {A : Type 0} → Did A → Type 0
+  pub CallHolds : World → ℕ → Node → {A : Type 0} → NodeStep A → Type 0
   CallHolds u number x d = NodeRanks (At h number) (Own h number) (IsNearer h u) x d.node d.frames × All (FrameRead ciphers) d.frames
 
-  told_holds : {A : Type 0} {b : World} (u : World) (number : ℕ) (x : Node) (d : Did A) → node_at u number ≡ Some x → CallHolds u number x d → Reached ciphers h b u → Reached ciphers h b (told ciphers u number d)
+  told_holds : {A : Type 0} {b : World} (u : World) (number : ℕ) (x : Node) (d : NodeStep A) → node_at u number ≡ Some x → CallHolds u number x d → Reached ciphers h b u → Reached ciphers h b (told ciphers u number d)
   unfolding CallHolds
   told_holds u number x d there c good = reach ciphers h u (told ciphers u number d) (told_step ciphers h u number x d there c.0 c.1) good
 
-  answering_holds : {A B : Type 0} (u : World) (number : ℕ) (x : Node) (reads : A → B) (d : Did A) → CallHolds u number x d → CallHolds u number x (answering reads d)
+  answering_holds : {A B : Type 0} (u : World) (number : ℕ) (x : Node) (reads : A → B) (d : NodeStep A) → CallHolds u number x d → CallHolds u number x (answering reads d)
   unfolding CallHolds
   answering_holds u number x reads d c = c
 
   -- the address that a node has is its home
-  at_home : (w : World) (addressed : Addressed h w) (i : ℕ) (x : Node) (m : Memory) → node_at w i ≡ Some x → x.memory ≡ Some m → IsAt (At h i) (address_of m.line)
-  at_home w addressed i x m there is = by_address (address_of m.line) refl
+  at_home : (w : World) (addressed : Addressed h w) (i : ℕ) (x : Node) (m : Memory) → node_at w i ≡ Some x → x.memory ≡ Some m → IsAt (At h i) (address_of m.station)
+  at_home w addressed i x m there is = by_address (address_of m.station) refl
     where
-      by_address : (o : Option ℕ) → address_of m.line ≡ o → IsAt (At h i) o
+      by_address : (o : Option ℕ) → address_of m.station ≡ o → IsAt (At h i) o
       by_address None e = tt
-      by_address (Some a) e = addressed.home i x there a (ap (option_and_then (λ (n : Memory). address_of n.line)) is ∙ e)
+      by_address (Some a) e = addressed.home i x there a (ap (option_and_then (λ (n : Memory). address_of n.station)) is ∙ e)
 
   -- one call of a node, told to a world u
   one_call : {A : Type 0} (w u : World) (addressed : Addressed h w) (number : ℕ) (x : Node) (halted : A) (plan : Memory → Plan Memory A) → node_at w number ≡ Some x → NodeOk x
-      → ((m : Memory) → IsAt (At h number) (address_of m.line) → IsKept x.role m x.store.records → IsSized m → PlanRanks (At h number) (Own h number) (IsNearer h u) m (plan m))
+      → ((m : Memory) → IsAt (At h number) (address_of m.station) → IsKept x.role m x.store.records → IsSized m → PlanRanks (At h number) (Own h number) (IsNearer h u) m (plan m))
       → ((m : Memory) → x.memory ≡ Some m → Reads ciphers (plan m))
       → CallHolds u number x (acts x halted plan)
   unfolding CallHolds
@@ -210,12 +210,12 @@ module _ (ciphers : Ciphers) (fits : KeepsRanges ciphers) (h : Homes) (w : World
 
   -- a call of one node
   call : {A : Type 0} (u : World) (number : ℕ) (x : Node) (halted : A) (plan : Memory → Plan Memory A) → node_at w number ≡ Some x
-      → ((m : Memory) → IsAt (At h number) (address_of m.line) → IsKept x.role m x.store.records → IsSized m → PlanRanks (At h number) (Own h number) (IsNearer h u) m (plan m))
+      → ((m : Memory) → IsAt (At h number) (address_of m.station) → IsKept x.role m x.store.records → IsSized m → PlanRanks (At h number) (Own h number) (IsNearer h u) m (plan m))
       → ((m : Memory) → x.memory ≡ Some m → Reads ciphers (plan m))
       → CallHolds ciphers h u number x (acts x halted plan)
   call u number x halted plan there ranks read = one_call ciphers h w u homes.addressed number x halted plan there (node_ok number x there) ranks read
 
-  acted_holds : (number : ℕ) (x : Node) (d : Did Answer) → node_at w number ≡ Some x → CallHolds ciphers h (ran w) number x d → Holds (Ok (acted ciphers w number d))
+  acted_holds : (number : ℕ) (x : Node) (d : NodeStep Answer) → node_at w number ≡ Some x → CallHolds ciphers h (ran w) number x d → Holds (Ok (acted ciphers w number d))
   acted_holds number x d there c = Taken _ (λ honest. told_holds ciphers h (ran w) number x d there c ran_holds)
 
   abbrev HearsFor : ℕ → ℕ → ℕ → Rank → Type 0
@@ -245,14 +245,14 @@ module _ (ciphers : Ciphers) (fits : KeepsRanges ciphers) (h : Homes) (w : World
       (call (ran w) number x (Err leaves.Halted) meters.leave there (λ m here kept sized. leave_ranks (At h number) (Own h number) (IsNearer h (ran w)) m here (identity ciphers x (record { 0 = [] })))
       (λ m is. none_read (leave_quiet m))))))
 
-  sent_holds : (from to : ℕ) (datagram : List ℕ) (tag : ℕ) (b : Bool) (r : World × Deeds) → Reached ciphers h w r.0 → Holds (Ok (sent_if w from to datagram tag b r))
+  sent_holds : (from to : ℕ) (datagram : List ℕ) (tag : ℕ) (b : Bool) (r : World × Trace) → Reached ciphers h w r.0 → Holds (Ok (sent_if w from to datagram tag b r))
   sent_holds from to datagram tag false r g = Taken _ (λ honest. g)
   sent_holds from to datagram tag true r g = Taken _ (λ honest. counts_hold ciphers h r.0 (record r.0 { sends = r.0.sends + 1 }) refl refl g)
 
   sends_hold : (from to : ℕ) (datagram : List ℕ) (x y : Node) (address : Option ℕ) → node_at w from ≡ Some x → node_at w to ≡ Some y → node_address y ≡ address → IsLineOctets datagram → Holds (Ok (sends_by ciphers w from to datagram x address))
   sends_hold from to datagram x y None there other address says = Taken _ (λ honest. ran_holds)
   sends_hold from to datagram x y (Some a) there other address says =
-      let c = answering_holds ciphers h (ran w) from x sent_word _ (call (ran w) from x (Err sends.Halted) (λ m. of_line m (calls.send m.line a datagram (w.sends + 1) w.clock)) there
+      let c = answering_holds ciphers h (ran w) from x sent_word _ (call (ran w) from x (Err sends.Halted) (λ m. of_station m (calls.send m.station a datagram (w.sends + 1) w.clock)) there
       (λ m here kept sized. send_ranks (At h from) (Own h from) (IsNearer h (ran w)) m here a datagram (w.sends + 1) w.clock) (λ m is. reads.send from x m there is to y a datagram other address says)) in
       sent_holds from to datagram _ _ _ (told_holds ciphers h (ran w) from x _ there c ran_holds)
 
@@ -264,7 +264,7 @@ module _ (ciphers : Ciphers) (fits : KeepsRanges ciphers) (h : Homes) (w : World
   unfolding resting
   breaks_hold number x None there = Taken _ (λ honest. ran_holds)
   breaks_hold number x (Some next) there = acted_holds number x _ there
-      (call (ran w) number x said.Halted (λ m. changing said.Broken (with_line (calls.broke next m.line) m)) there (λ m here kept sized. broke_ranks (At h number) (Own h number) (IsNearer h (ran w)) m here next said.Broken) (λ m is. All-nil (FrameRead ciphers)))
+      (call (ran w) number x said.Halted (λ m. changing said.Broken (with_station (calls.broke next m.station) m)) there (λ m here kept sized. broke_ranks (At h number) (Own h number) (IsNearer h (ran w)) m here next said.Broken) (λ m is. All-nil (FrameRead ciphers)))
 
   break_holds : (number next : ℕ) → Holds (breaks ciphers w number next)
   unfolding breaks
@@ -315,11 +315,11 @@ module _ (ciphers : Ciphers) (fits : KeepsRanges ciphers) (h : Homes) (w : World
             (All-weaker (FlightBacked ciphers h w) (FlightBacked ciphers h (v f)) (λ x b. flight_later ciphers h w (v f) (forward f) x b) w.flights old);
       }) start_here
 
-      by_lost : (f : Flight) (b : Bool) → flight_at w number ≡ Some f → Holds (if b then Err faults.Flight else Ok (v f, deeds (happened w said.Lost)))
+      by_lost : (f : Flight) (b : Bool) → flight_at w number ≡ Some f → Holds (if b then Err faults.Flight else Ok (v f, trace_of (happened w said.Lost)))
       by_lost f true there = Fails faults.Flight
       by_lost f false there = Taken _ (λ honest. lost_holds f there)
 
-      by_flight : (o : Option Flight) → flight_at w number ≡ o → Holds (option_map_or (λ f. if f.lost then Err faults.Flight else Ok (v f, deeds (happened w said.Lost))) o (Err faults.Flight))
+      by_flight : (o : Option Flight) → flight_at w number ≡ o → Holds (option_map_or (λ f. if f.lost then Err faults.Flight else Ok (v f, trace_of (happened w said.Lost))) o (Err faults.Flight))
       by_flight None there = Fails faults.Flight
       by_flight (Some f) there = by_lost f f.lost there
 
@@ -347,7 +347,7 @@ module _ (ciphers : Ciphers) (fits : KeepsRanges ciphers) (h : Homes) (w : World
   own_of c = record { eui = c.eui; ciphers = ciphers }
 
   order_holds : {A : Type 0} (c : Node) (answer : Answer) (order : Memory → Plan Memory (Result A CoordinatorRefusal)) → node_at w 0 ≡ Some c
-      → ((m : Memory) → IsAt (At h 0) (address_of m.line) → PlanRanks (At h 0) (Own h 0) (IsNearer h (ran w)) m (order m)) → ((m : Memory) → c.memory ≡ Some m → Reads ciphers (order m))
+      → ((m : Memory) → IsAt (At h 0) (address_of m.station) → PlanRanks (At h 0) (Own h 0) (IsNearer h (ran w)) m (order m)) → ((m : Memory) → c.memory ≡ Some m → Reads ciphers (order m))
       → Holds (Ok (by_coordinator ciphers w c answer order))
   order_holds c answer order there ranks read = acted_holds 0 c _ there (answering_holds ciphers h (ran w) 0 c (ordered_word answer) _
       (call (ran w) 0 c (Err orders.Halted) order there (λ m here kept sized. ranks m here) read))
@@ -393,12 +393,12 @@ module _ (ciphers : Ciphers) (fits : KeepsRanges ciphers) (h : Homes) (w : World
   meter_holds eui psk = branch (not (takes_setup w) || (nat_lt 999 (length w.nodes) || is_known w eui)) _ _ (λ _. Fails faults.Setup) (λ may.
       Taken _ (λ honest. made_holds ciphers h w (blank_node (Meter psk) eui) (blank_ranks (Meter psk) eui) (blank_routes (Meter psk) eui) start_here))
 
-  preset_holds : (number : ℕ) (plan : Line → calls.Presetting)
-      → ((m : Memory) → IsAt (At h number) (address_of m.line) → PlanRanks (At h number) (Own h number) (IsNearer h (set_up w)) m (of_line m (plan m.line)))
-      → ((m : Memory) → (of_line m (plan m.line)).frames ≡ []) → Holds (preset ciphers w number plan)
+  preset_holds : (number : ℕ) (plan : StationMemory → calls.Presetting)
+      → ((m : Memory) → IsAt (At h number) (address_of m.station) → PlanRanks (At h number) (Own h number) (IsNearer h (set_up w)) m (of_station m (plan m.station)))
+      → ((m : Memory) → (of_station m (plan m.station)).frames ≡ []) → Holds (preset ciphers w number plan)
   preset_holds number plan ranks none = setup _ (at_node number _ (λ x there.
       Taken _ (λ honest. told_holds ciphers h (set_up w) number x _ there
-      (call (set_up w) number x (Ok tt) (λ m. of_line m (plan m.line)) there (λ m here kept sized. ranks m here) (λ m is. none_read (none m))) set_up_holds)))
+      (call (set_up w) number x (Ok tt) (λ m. of_station m (plan m.station)) there (λ m here kept sized. ranks m here) (λ m is. none_read (none m))) set_up_holds)))
 
   counter_holds : (number value : ℕ) → Holds (preset ciphers w number (λ l. calls.preset_counter l value))
   unfolding resting
@@ -416,12 +416,12 @@ module _ (ciphers : Ciphers) (fits : KeepsRanges ciphers) (h : Homes) (w : World
       by_ring None k e = absurd (none-some address e)
       by_ring (Some g) k e = let this : g.address ≡ address = same_Some _ _ e in let low = k.address in omega arith
 
-      by_memory : (o : Option Memory) → Left (IsKept x.role) x.store.records o → option_and_then (λ (m : Memory). address_of m.line) o ≡ Some address → address < 0xFFFE
+      by_memory : (o : Option Memory) → Left (IsKept x.role) x.store.records o → option_and_then (λ (m : Memory). address_of m.station) o ≡ Some address → address < 0xFFFE
       by_memory None k e = absurd (none-some address e)
-      by_memory (Some m) k e = by_ring m.line.ring k.line.range.ring e
+      by_memory (Some m) k e = by_ring m.station.ring k.station.range.ring e
 
   -- another node is there still
-  other_there : {A : Type 0} (a b : ℕ) (d : Did A) (y : Node) → b ≢ a → node_at w b ≡ Some y → node_at (told ciphers (set_up w) a d) b ≡ Some y
+  other_there : {A : Type 0} (a b : ℕ) (d : NodeStep A) (y : Node) → b ≢ a → node_at w b ≡ Some y → node_at (told ciphers (set_up w) a d) b ≡ Some y
   unfolding told
   other_there a b d y apart there = slice_get-set_other w.nodes a b d.node apart ∙ there
 
@@ -432,9 +432,9 @@ module _ (ciphers : Ciphers) (fits : KeepsRanges ciphers) (h : Homes) (w : World
 
   near_call : (u : World) (a b cost : ℕ) (x y : Node) (own to : ℕ) → cost ≤ 255 → node_at w a ≡ Some x → node_at w b ≡ Some y → node_address y ≡ Some to → a ≢ b → h a ≡ Some own → h b ≡ Some to → to < 0xFFFE → CallHolds ciphers h u a x (offered_near x to cost w.clock)
   near_call u a b cost x y own to low there hy ey apart mine other short = answering_holds ciphers h u a x (λ _. tt) _
-      (call u a x (Ok tt) (λ m. of_line m (calls.preset_near m.line to cost w.clock)) there
+      (call u a x (Ok tt) (λ m. of_station m (calls.preset_near m.station to cost w.clock)) there
       (λ m here kept sized. near_ranks (At h a) (Own h a) (IsNearer h u) m here to cost w.clock (record { address = short; low = omega arith; number = omega arith; cost = omega arith }) (not_own a b to apart own mine other) (inl refl))
-      (λ m is. none_read (near_quiet m.line to cost w.clock)))
+      (λ m is. none_read (near_quiet m.station to cost w.clock)))
 
   near_by_holds : (a b cost : ℕ) (x y : Node) (p q : Option ℕ) → cost ≤ 255 → node_at w a ≡ Some x → node_at w b ≡ Some y → node_address x ≡ p → node_address y ≡ q → Holds (near_by ciphers w a b cost x y p q)
   near_by_holds a b cost x y None q low hx hy ep eq = Fails faults.Setup
@@ -453,17 +453,17 @@ module _ (ciphers : Ciphers) (fits : KeepsRanges ciphers) (h : Homes) (w : World
   unfolding near
   near_holds a b cost low = setup _ (at_node a _ (λ x hx. at_node b _ (λ y hy. near_by_holds a b cost x y (node_address x) (node_address y) low hx hy refl refl)))
 
-  depot_by_holds : (number : ℕ) (x c : Node) (d : Did (Result Granted CoordinatorRefusal)) → 0 ≢ number → node_at w number ≡ Some x → node_at w 0 ≡ Some c → CallHolds ciphers h (set_up w) 0 c d
+  depot_by_holds : (number : ℕ) (x c : Node) (d : NodeStep (Result Granted CoordinatorRefusal)) → 0 ≢ number → node_at w number ≡ Some x → node_at w 0 ≡ Some c → CallHolds ciphers h (set_up w) 0 c d
       → ((g : Granted) → d.answer ≡ Ok g → h number ≡ Some g.address) → Holds (depot_by ciphers w number x d)
   depot_by_holds number x c d apart hx hc k home = by_answer d.answer refl
     where
       by_answer : (r : Result Granted CoordinatorRefusal) → d.answer ≡ r → Holds (depot_by ciphers w number x d)
       by_answer (Err reason) e = rw e (Fails faults.Setup)
       by_answer (Ok g) e =
-          let d2 : Did (Result Granted CoordinatorRefusal) = record d { answer = Ok g } in
+          let d2 : NodeStep (Result Granted CoordinatorRefusal) = record d { answer = Ok g } in
           let u = told ciphers (set_up w) 0 d2 in
           let first = told_holds ciphers h (set_up w) 0 c d2 hc (answering_holds ciphers h (set_up w) 0 c (λ _. Ok g) d k) set_up_holds in
-          let second = call u number x (Ok tt) (λ m. meters.provision m g) hx (λ m here kept sized. provision_ranks (At h number) (Own h number) (IsNearer h u) m here g (home g e)) (λ m is. none_read (install_quiet m.line g)) in
+          let second = call u number x (Ok tt) (λ m. meters.provision m g) hx (λ m here kept sized. provision_ranks (At h number) (Own h number) (IsNearer h u) m here g (home g e)) (λ m is. none_read (install_quiet m.station g)) in
           rw e (Taken (provisioned ciphers u number x g) (λ honest. told_holds ciphers h u number x _ (other_there 0 number d2 x (λ same. apart (sym same)) hx) second first))
 
   depot_holds : (number : ℕ) → DepotFits ciphers h w (events.Depot number) → Holds (depot ciphers w number)
@@ -485,11 +485,11 @@ module _ (ciphers : Ciphers) (fits : KeepsRanges ciphers) (h : Homes) (w : World
       → (granted : Granted) → TakenFrom (identity ciphers y psk) m got cost note w.clock granted → h number ≡ Some granted.address)
       → ((m : Memory) → y.memory ≡ Some m → Reads ciphers (coordinator_rules.hear_coordinator (record { eui = y.eui; ciphers = ciphers }) m got cost note w.clock))
       → ((psk : Key) → y.role ≡ Meter psk → (m : Memory) → y.memory ≡ Some m → Reads ciphers (meters.hear_meter (identity ciphers y psk) m got cost note w.clock))
-      → ((m : Memory) → y.memory ≡ Some m → IsAt (At h number) (address_of m.line)) → CallHolds ciphers h (ran w) number y (hears ciphers y got cost note w.clock)
+      → ((m : Memory) → y.memory ≡ Some m → IsAt (At h number) (address_of m.station)) → CallHolds ciphers h (ran w) number y (hears ciphers y got cost note w.clock)
   unfolding CallHolds
-  hears_hold number y got cost note k routes right far took center_reads meter_reads here = by_role y.role refl
+  hears_hold number y got cost note k routes right far took coordinator_reads meter_reads here = by_role y.role refl
     where
-      hears_as : Role → Did Reception
+      hears_as : Role → NodeStep Reception
       hears_as Coordinator = answering coordinator_reception (acts y (Err drops.Store) (λ m. coordinator_rules.hear_coordinator (record { eui = y.eui; ciphers = ciphers }) m got cost note w.clock))
       hears_as (Meter psk) = answering meter_reception (acts y (Err drops.Store) (λ m. meters.hear_meter (identity ciphers y psk) m got cost note w.clock))
 
@@ -498,7 +498,7 @@ module _ (ciphers : Ciphers) (fits : KeepsRanges ciphers) (h : Homes) (w : World
         acts_ranks (At h number) (Own h number) (IsNearer h (ran w)) y (Err drops.Store) (λ m. coordinator_rules.hear_coordinator (record { eui = y.eui; ciphers = ciphers }) m got cost note w.clock) k
             (λ m e kept. coordinator_hears_ranks (At h number) (Own h number) (IsNearer h (ran w)) m (here m e) got cost note w.clock (said_offers h (ran w) number got cost note w.clock routes right far) (record { eui = y.eui; ciphers = ciphers })),
         acts_frames (FrameRead ciphers) y (Err drops.Store) (λ m. coordinator_rules.hear_coordinator (record { eui = y.eui; ciphers = ciphers }) m got cost note w.clock) k
-            (λ m e kept sized. center_reads m e),
+            (λ m e kept sized. coordinator_reads m e),
       )
       by_role (Meter psk) is = answering_holds ciphers h (ran w) number y meter_reception (acts y (Err drops.Store) (λ m. meters.hear_meter (identity ciphers y psk) m got cost note w.clock)) (
         acts_ranks (At h number) (Own h number) (IsNearer h (ran w)) y (Err drops.Store) (λ m. meters.hear_meter (identity ciphers y psk) m got cost note w.clock) k
@@ -513,43 +513,43 @@ module _ (ciphers : Ciphers) (fits : KeepsRanges ciphers) (h : Homes) (w : World
   arrives_hold number x octets cost there are far = by_answer (acts x (Err frames.Halted) plan).answer refl
     where
       plan : Memory → Plan Memory (Result Accepted FrameRefusal)
-      plan m = of_line m (accept m.line x.eui (arrived ciphers octets))
+      plan m = of_station m (accept m.station x.eui (arrived ciphers octets))
 
       did : DidOk x (acts x (Err frames.Halted) plan)
       did = acts_ok x (Err frames.Halted) plan (node_ok number x there) (λ m here kept sized. accept_ok ciphers fits octets are x.role m x.eui sized)
 
-      no_frames : (m : Memory) (p : Accepting) → Accepts m.line (arrived ciphers octets) p → All (FrameRead ciphers) (of_line m p).frames
+      no_frames : (m : Memory) (p : Accepting) → Accepts m.station (arrived ciphers octets) p → All (FrameRead ciphers) (of_station m p).frames
       no_frames m p (Turned reason) = All-nil (FrameRead ciphers)
       no_frames m p (Plain got plain) = All-nil (FrameRead ciphers)
       no_frames m p (Marked from counter got a) = All-nil (FrameRead ciphers)
 
       accepts : CallHolds ciphers h (ran w) number x (acts x (Err frames.Halted) plan)
       accepts = call (ran w) number x (Err frames.Halted) plan there
-          (λ m here kept sized. accept_ranks (At h number) (Own h number) (IsNearer h (ran w)) m here x.eui (arrived ciphers octets) kept.line.range.marks)
-          (λ m is. no_frames m _ (accept_is m.line x.eui (arrived ciphers octets)))
+          (λ m here kept sized. accept_ranks (At h number) (Own h number) (IsNearer h (ran w)) m here x.eui (arrived ciphers octets) kept.station.range.marks)
+          (λ m is. no_frames m _ (accept_is m.station x.eui (arrived ciphers octets)))
 
       answered : (got : Accepted) → (acts x (Err frames.Halted) plan).answer ≡ Ok got → Answered x plan got
-      answered got e = acts_answered x frames.Halted frames.Store plan (λ m. accept_failed ciphers fits octets are m.line _ (accept_is m.line x.eui (arrived ciphers octets))) got e
+      answered got e = acts_answered x frames.Halted frames.Store plan (λ m. accept_failed ciphers fits octets are m.station _ (accept_is m.station x.eui (arrived ciphers octets))) got e
 
       routes : (got : Accepted) → Answered x plan got → RoutesFit got
-      routes got a = accepted_routes ciphers fits octets are a.memory.line _ got (accept_is a.memory.line x.eui (arrived ciphers octets)) a.is
+      routes got a = accepted_routes ciphers fits octets are a.memory.station _ got (accept_is a.memory.station x.eui (arrived ciphers octets)) a.is
 
       right : (got : Accepted) → Answered x plan got → forged_by w octets got.path ≡ false → SaidRight h (ran w) got
-      right got a honest = accepted_said ciphers h (ran w) ran_holds.holds.ranks.backed octets a.memory.line _ got (accept_is a.memory.line x.eui (arrived ciphers octets)) a.is honest
+      right got a honest = accepted_said ciphers h (ran w) ran_holds.holds.ranks.backed octets a.memory.station _ got (accept_is a.memory.station x.eui (arrived ciphers octets)) a.is honest
 
-      here_after : (n : Memory) → (acts x (Err frames.Halted) plan).node.memory ≡ Some n → IsAt (At h number) (address_of n.line)
-      here_after = acts_memory (λ n. IsAt (At h number) (address_of n.line)) x (Err frames.Halted) plan
-          (λ m is. (accept_keeps m _ (accept_is m.line x.eui (arrived ciphers octets)) (at_home ciphers h w homes.addressed number x m there is)))
+      here_after : (n : Memory) → (acts x (Err frames.Halted) plan).node.memory ≡ Some n → IsAt (At h number) (address_of n.station)
+      here_after = acts_memory (λ n. IsAt (At h number) (address_of n.station)) x (Err frames.Halted) plan
+          (λ m is. (accept_keeps m _ (accept_is m.station x.eui (arrived ciphers octets)) (at_home ciphers h w homes.addressed number x m there is)))
         where
-          accept_keeps : (m : Memory) (p : Accepting) → Accepts m.line (arrived ciphers octets) p → IsAt (At h number) (address_of m.line) → IsAt (At h number) (address_of (of_line m p).memory.line)
+          accept_keeps : (m : Memory) (p : Accepting) → Accepts m.station (arrived ciphers octets) p → IsAt (At h number) (address_of m.station) → IsAt (At h number) (address_of (of_station m p).memory.station)
           accept_keeps m p (Turned reason) k = k
           accept_keeps m p (Plain got plain) k = k
           accept_keeps m p (Marked from counter got a) k = k
 
       by_answer : (r : Result Accepted FrameRefusal) → (acts x (Err frames.Halted) plan).answer ≡ r → Holds (Ok (accepted_by ciphers w number octets cost (acts x (Err frames.Halted) plan)))
       by_answer (Err reason) e =
-          let k : Did (Result Accepted FrameRefusal) = record (acts x (Err frames.Halted) plan) { answer = Err reason } in
-          rw e (Taken (told ciphers (ran w) number k, deeds (happened w (frame_word reason))) (λ honest. told_holds ciphers h (ran w) number x k there accepts ran_holds))
+          let k : NodeStep (Result Accepted FrameRefusal) = record (acts x (Err frames.Halted) plan) { answer = Err reason } in
+          rw e (Taken (told ciphers (ran w) number k, trace_of (happened w (frame_word reason))) (λ honest. told_holds ciphers h (ran w) number x k there accepts ran_holds))
       by_answer (Ok got) e =
           let y = (acts x (Err frames.Halted) plan).node in
           let a = answered got e in

@@ -44,18 +44,18 @@ told : (w : World) (s : Step) → StepGood w s → Told w s
 told w s (Fails fault) = tt
 told w s (Taken r ok few is) = is
 
-pub taken_good : (ciphers : Ciphers) → KeepsRanges ciphers → (w : World) → WorldOk w → All FlightFits w.flights → (x : Entry) → IsEvent x.event → step ciphers w x.event ≡ Ok (x.after, x.deeds) → WorldOk x.after × (x.deeds.happened.flights ≤ 24)
+pub taken_good : (ciphers : Ciphers) → KeepsRanges ciphers → (w : World) → WorldOk w → All FlightFits w.flights → (x : Entry) → IsEvent x.event → step ciphers w x.event ≡ Ok (x.after, x.trace) → WorldOk x.after × (x.trace.happened.flights ≤ 24)
 taken_good ciphers fits w ok flown x says e = subst Good e (good w _ (step_good ciphers fits w ok flown x.event says))
 
 -- # Sizes
 
 memory_sized : (role : Role) (m : Memory) (r : Records) → IsKept role m r → IsSized m → runs.IsWithinSizes m
 memory_sized role m r k h = record {
-  peers = k.line.range.marks.short;
-  ranks = k.line.range.routing.entries.short;
-  floors = k.line.range.routing.sixteen;
-  reassemblies = h.line.reassemblies;
-  waiting = h.line.waiting;
+  peers = k.station.range.marks.short;
+  ranks = k.station.range.routing.entries.short;
+  floors = k.station.range.routing.sixteen;
+  reassemblies = h.station.reassemblies;
+  waiting = h.station.waiting;
   sessions = h.sessions;
   randoms = h.randoms;
   book = by_role role k;
@@ -82,7 +82,7 @@ abbrev EntryFlies : Entry → Type 0
 EntryFlies x = All FlightFits x.after.flights
 
 abbrev EntrySized : Entry → Type 0
-EntrySized x = runs.IsSized x.after × (x.deeds.happened.flights ≤ 24)
+EntrySized x = runs.IsSized x.after × (x.trace.happened.flights ≤ 24)
 
 sized_from : (ciphers : Ciphers) → KeepsRanges ciphers → (w : World) → WorldOk w → All FlightFits w.flights → (entries : List Entry) → AreSaid entries → FlightsAreOctets entries → IsRun ciphers w entries → IsAlwaysSized entries
 sized_from ciphers fits w ok flown [] says fly run = All-nil EntrySized
@@ -119,7 +119,7 @@ module _ (ciphers : Ciphers) (w : World) (ok : WorldOk w) where
   event_answered _ e = absurd (cc)
 
 abbrev EntryAnswered : Entry → Type 0
-EntryAnswered x = is_restart x.event ≡ true → x.deeds.happened.answer ≡ said.Restarted
+EntryAnswered x = is_restart x.event ≡ true → x.trace.happened.answer ≡ said.Restarted
 
 answered_from : (ciphers : Ciphers) → KeepsRanges ciphers → (w : World) → WorldOk w → All FlightFits w.flights → (entries : List Entry) → AreSaid entries → FlightsAreOctets entries → IsRun ciphers w entries → RestartsAreAnswered entries
 answered_from ciphers fits w ok flown [] says fly run = All-nil EntryAnswered

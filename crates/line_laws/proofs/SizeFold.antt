@@ -18,17 +18,17 @@ use Rattle.fragment_buffers.specs.Taking as pieces
 use Rattle.fragment_buffers.specs.Reassembly.{PlacedPiece, Reassembly, placed, begun as piece_begun, datagram_of, repeats, overlaps}
 use Rattle.mesh_header.specs.Pieces.{Placed}
 use Rattle.node_rules.specs.declared.heard.Heard.{Heard}
-use Rattle.node_rules.specs.Memory.{Line, Body, Memory, CoordinatorSession, load_octets}
+use Rattle.node_rules.specs.Memory.{StationMemory, Body, Memory, CoordinatorSession, load_octets}
 use Rattle.node_rules.specs.Plans.{Plan, resting}
-use Rattle.node_rules.specs.Doings.{Doing, Ends, begun, waits_for, no_room, blocks_waiting, ranked, numbered, tagged, ringed, rerouted, goes, body_goes, waits, leave}
-use Rattle.node_rules.specs.Holding.{in_memory, on_line, line_part, remembered, tagged_with, goes_up, goes_down}
+use Rattle.node_rules.specs.Drafts.{Draft, Ends, empty_draft, waits_for, no_room, blocks_waiting, with_rank, with_own_number, with_next_tag, with_ring, with_routing_by, goes, body_goes, waits, leave}
+use Rattle.node_rules.specs.MemoryDrafts.{in_memory, on_station, station_part, with_memory_by, with_pair_tags, goes_up, goes_down}
 use Rattle.node_rules.specs.Coordinators as coordinators
-use Rattle.node_rules.specs.Coordinators.{entered}
+use Rattle.node_rules.specs.Coordinators.{with_book_entry}
 use Rattle.node_rules.specs.Laws.{IsShort}
-use Rattle.line_laws.specs.Sizes.{IsLineSized, IsSized}
+use Rattle.line_laws.specs.Sizes.{IsStationSized, IsSized}
 use Rattle.line_laws.proofs.Planned.{Planned, Refuses, Keeps, Ended}
 use Rattle.line_laws.proofs.Made.{RingWord, Given, Made, Starts, Ranks, Numbers, Tags, Rings, Idles, Loses, Goes, Sends, Waits, Leaves}
-use Rattle.line_laws.proofs.MadeIn.{unheard, MadeIn, Begins, Station, OnLine, Remembers, Tags as TagsIn, Enters, Up, Down, Beside, Ends as EndsIn, Asks, Replies, Opens, Answers, Closes, Gives}
+use Rattle.line_laws.proofs.MadeIn.{unheard, MadeIn, Begins, Station, OnStation, Remembers, Tags as TagsIn, Enters, Up, Down, Beside, Ends as EndsIn, Asks, Replies, Opens, Answers, Closes, Gives}
 use Rattle.line_laws.proofs.HearingForms.{Handed, HandsUp, HandsOn, Gathers, Completes}
 
 -- # Gathered pieces
@@ -104,11 +104,11 @@ abbrev waiting_blocks : List Body → ℕ
 waiting_blocks bodies = sum_by (λ (b : Body). pieces.blocks (length (load_octets b.load))) bodies
 
 -- Where there is room for a body, one more may wait.
-pub record HasRoom (l : Line) (octets : ℕ) : Type 0 where
+pub record HasRoom (l : StationMemory) (octets : ℕ) : Type 0 where
   pub count : length l.waiting < 8
   pub blocks : blocks_waiting l + pieces.blocks octets ≤ 80
 
-pub has_room : (l : Line) (octets : ℕ) → no_room l octets ≡ false → HasRoom l octets
+pub has_room : (l : StationMemory) (octets : ℕ) → no_room l octets ≡ false → HasRoom l octets
 has_room l octets = by_tests (nat_lt (length l.waiting) 8) (nat_lt 80 (blocks_waiting l + pieces.blocks octets)) refl refl
   where
     by_tests : (a b : Bool) → nat_lt (length l.waiting) 8 ≡ a → nat_lt 80 (blocks_waiting l + pieces.blocks octets) ≡ b → (if a then b else true) ≡ false → HasRoom l octets
@@ -116,7 +116,7 @@ has_room l octets = by_tests (nat_lt (length l.waiting) 8) (nat_lt 80 (blocks_wa
     by_tests true true ea eb e = absurd (cc)
     by_tests false b ea eb e = absurd (cc)
 
-waits_sized : (l : Line) (b : Body) → no_room l (length (load_octets b.load)) ≡ false → IsShort b.load → IsLineSized l → IsLineSized (record l { waiting = l.waiting ++ b ∷ [] })
+waits_sized : (l : StationMemory) (b : Body) → no_room l (length (load_octets b.load)) ≡ false → IsShort b.load → IsStationSized l → IsStationSized (record l { waiting = l.waiting ++ b ∷ [] })
 waits_sized l b room short h =
     let r = has_room l (length (load_octets b.load)) room in
     let count : length l.waiting < 8 = r.count in
@@ -127,7 +127,7 @@ waits_sized l b room short h =
     record { reassemblies = h.reassemblies; waiting = (omega arith, omega arith); short = All-push (λ (x : Body). IsShort x.load) l.waiting b h.short short }
 
 -- some of them stay
-pub stays_sized : (l : Line) (keep : Body → Bool) → IsLineSized l → IsLineSized (record l { waiting = filter keep l.waiting })
+pub stays_sized : (l : StationMemory) (keep : Body → Bool) → IsStationSized l → IsStationSized (record l { waiting = filter keep l.waiting })
 stays_sized l keep h =
     let count : length (filter keep l.waiting) + length (filter (λ b. not (keep b)) l.waiting) ≡ length l.waiting = length-filter_both keep (λ b. not (keep b)) (λ b. refl) l.waiting in
     let sum : waiting_blocks (filter keep l.waiting) + waiting_blocks (filter (λ b. not (keep b)) l.waiting) ≡ waiting_blocks l.waiting
@@ -138,8 +138,8 @@ stays_sized l keep h =
 
 -- # The words of the line
 
-pub made_sized : (W : RingWord → Type 0) (g : Given) (s d : Doing Line) → Made W g s d → IsLineSized s.memory → IsLineSized d.memory
-unfolding ranked numbered tagged ringed rerouted goes body_goes waits leave
+pub made_sized : (W : RingWord → Type 0) (g : Given) (s d : Draft StationMemory) → Made W g s d → IsStationSized s.memory → IsStationSized d.memory
+unfolding with_rank with_own_number with_next_tag with_ring with_routing_by goes body_goes waits leave
 made_sized W g s d Starts h = h
 made_sized W g s d (Ranks by origin rank e made o fits) h = let k = made_sized W g s e made h in record { reassemblies = k.reassemblies; waiting = k.waiting; short = k.short }
 made_sized W g s d (Numbers e made left) h = let k = made_sized W g s e made h in record { reassemblies = k.reassemblies; waiting = k.waiting; short = k.short }
@@ -152,7 +152,7 @@ made_sized W g s d (Sends own hop to note load e made here there short carried a
 made_sized W g s d (Waits to note load now e made none room short carried alone) h = waits_sized e.memory (record { to = to; note = note; since = now; load = load }) room short (made_sized W g s e made h)
 made_sized W g s d (Leaves own dest hop rank e made here offered) h = stays_sized e.memory (λ b. not (waits_for dest b)) (made_sized W g s e made h)
 
-pub handed_sized : (g : Given) (l n : Line) (answer : Heard) → Handed g l n answer → IsLineSized l → IsLineSized n
+pub handed_sized : (g : Given) (l n : StationMemory) (answer : Heard) → Handed g l n answer → IsStationSized l → IsStationSized n
 handed_sized g l n answer (HandsUp by own mesh octets came here mine) h = h
 handed_sized g l n answer (HandsOn x none) h = h
 handed_sized g l n answer (Gathers by own mesh piece came here mine e) h = record { reassemblies = gathered_sized l.reassemblies mesh.origin piece g.note g.now h.reassemblies; waiting = h.waiting; short = h.short }
@@ -190,11 +190,11 @@ not_not true = refl
 not_not false = refl
 
 pub beside_sized : (E : Eui → Type 0) (n k : Memory) → Beside E n k → IsSized n → IsSized k
-beside_sized E n k EndsIn h = record { line = h.line; sessions = h.sessions; randoms = h.randoms }
-beside_sized E n k (Asks s) h = record { line = h.line; sessions = h.sessions; randoms = h.randoms }
-beside_sized E n k (Replies s value here) h = record { line = h.line; sessions = h.sessions; randoms = let less = length-drop 1 n.randoms in let few = h.randoms in omega arith }
+beside_sized E n k EndsIn h = record { station = h.station; sessions = h.sessions; randoms = h.randoms }
+beside_sized E n k (Asks s) h = record { station = h.station; sessions = h.sessions; randoms = h.randoms }
+beside_sized E n k (Replies s value here) h = record { station = h.station; sessions = h.sessions; randoms = let less = length-drop 1 n.randoms in let few = h.randoms in omega arith }
 beside_sized E n k (Opens s value here room is) h = record {
-  line = h.line;
+  station = h.station;
   sessions = with_sized (record n { randoms = drop 1 n.randoms }) s 0 (by_full (is_some (coordinators.session_of n s.server.eui)) (nat_lt 7 (length n.sessions)) refl refl room) h.sessions;
   randoms = let less = length-drop 1 n.randoms in let few = h.randoms in omega arith;
 }
@@ -203,34 +203,34 @@ beside_sized E n k (Opens s value here room is) h = record {
     by_full true b ea eb e = inl ea
     by_full false false ea eb e = inr (ltb-false _ _ eb)
     by_full false true ea eb e = absurd (cc)
-beside_sized E n k (Answers s t eui there same) h = record { line = h.line; sessions = with_sized n s 0 (inl (answered n s t eui there same)) h.sessions; randoms = h.randoms }
+beside_sized E n k (Answers s t eui there same) h = record { station = h.station; sessions = with_sized n s 0 (inl (answered n s t eui there same)) h.sessions; randoms = h.randoms }
 beside_sized E n k (Closes eui) h = record {
-  line = h.line;
+  station = h.station;
   sessions = let both = length-filter_both (λ s. not (coordinators.is_of eui s)) (λ s. coordinators.is_of eui s) (λ s. not_not (coordinators.is_of eui s)) n.sessions in let few = h.sessions in omega arith;
   randoms = h.randoms;
 }
-beside_sized E n k (Gives value room) h = record { line = h.line; sessions = h.sessions; randoms = let longer = length-append n.randoms (value ∷ []) in let few : length n.randoms ≤ 7 = ltb-false _ _ room in omega arith }
+beside_sized E n k (Gives value room) h = record { station = h.station; sessions = h.sessions; randoms = let longer = length-append n.randoms (value ∷ []) in let few : length n.randoms ≤ 7 = ltb-false _ _ room in omega arith }
 
-pub made_in_sized : (W : RingWord → Type 0) (L : Granted → Type 0) (P : Eui → Key → Type 0) (E : Eui → Type 0) (g : Given) (m : Memory) (d : Doing Memory) → MadeIn W L P E g m d → IsSized m → IsSized d.memory
-unfolding begun on_line remembered tagged_with entered goes_up goes_down
+pub made_in_sized : (W : RingWord → Type 0) (L : Granted → Type 0) (P : Eui → Key → Type 0) (E : Eui → Type 0) (g : Given) (m : Memory) (d : Draft Memory) → MadeIn W L P E g m d → IsSized m → IsSized d.memory
+unfolding empty_draft on_station with_memory_by with_pair_tags with_book_entry goes_up goes_down
 made_in_sized W L P E g m d Begins h = h
-made_in_sized W L P E g m d (Station e made) h = record { line = made_sized W g (begun m.line) e made h.line; sessions = h.sessions; randoms = h.randoms }
-made_in_sized W L P E g m d (OnLine word e made step) h =
+made_in_sized W L P E g m d (Station e made) h = record { station = made_sized W g (empty_draft m.station) e made h.station; sessions = h.sessions; randoms = h.randoms }
+made_in_sized W L P E g m d (OnStation word e made step) h =
     let k = made_in_sized W L P E g m e made h in
-    record { line = made_sized W (unheard g) (line_part e) (word (line_part e)) step k.line; sessions = k.sessions; randoms = k.randoms }
+    record { station = made_sized W (unheard g) (station_part e) (word (station_part e)) step k.station; sessions = k.sessions; randoms = k.randoms }
 made_in_sized W L P E g m d (Remembers change e made beside) h = beside_sized E e.memory (change e.memory) beside (made_in_sized W L P E g m e made h)
 made_in_sized W L P E g m d (TagsIn made opened e x) h = made_in_sized W L P E g m e x h
-made_in_sized W L P E g m d (Enters x e made change) h = let k = made_in_sized W L P E g m e made h in record { line = k.line; sessions = k.sessions; randoms = k.randoms }
+made_in_sized W L P E g m d (Enters x e made change) h = let k = made_in_sized W L P E g m e made h in record { station = k.station; sessions = k.sessions; randoms = k.randoms }
 made_in_sized W L P E g m d (Up agent own message e made) h = made_in_sized W L P E g m e made h
 made_in_sized W L P E g m d (Down own message e made) h = made_in_sized W L P E g m e made h
 
 -- # Plans
 
-pub plan_sized : {H F : Type 0} (W : RingWord → Type 0) (L : Granted → Type 0) (P : Eui → Key → Type 0) (E : Eui → Type 0) (g : Given) (m : Memory) (ends : Ends F) (K : Memory → H → Type 0) (D : Doing Memory → H → Type 0)
-    → ((n : Memory) (answer : H) → K n answer → IsSized m → IsSized n) → ((d : Doing Memory) (answer : H) → D d answer → MadeIn W L P E g m d) → (p : Plan Memory (Result H F)) → Planned in_memory ends m K D p → IsSized m → IsSized p.memory
+pub plan_sized : {H F : Type 0} (W : RingWord → Type 0) (L : Granted → Type 0) (P : Eui → Key → Type 0) (E : Eui → Type 0) (g : Given) (m : Memory) (ends : Ends F) (K : Memory → H → Type 0) (D : Draft Memory → H → Type 0)
+    → ((n : Memory) (answer : H) → K n answer → IsSized m → IsSized n) → ((d : Draft Memory) (answer : H) → D d answer → MadeIn W L P E g m d) → (p : Plan Memory (Result H F)) → Planned in_memory ends m K D p → IsSized m → IsSized p.memory
 unfolding resting
 plan_sized W L P E g m ends K D beside made p (Refuses reason) h = h
 plan_sized W L P E g m ends K D beside made p (Keeps n answer k) h = beside n answer k h
 plan_sized W L P E g m ends K D beside made p (Ended d answer done left) h =
     let k = made_in_sized W L P E g m d (made d answer done) h in
-    record { line = record { reassemblies = k.line.reassemblies; waiting = k.line.waiting; short = k.line.short }; sessions = k.sessions; randoms = k.randoms }
+    record { station = record { reassemblies = k.station.reassemblies; waiting = k.station.waiting; short = k.station.short }; sessions = k.sessions; randoms = k.randoms }

@@ -43,24 +43,24 @@ use Rattle.node_rules.specs.declared.refusal.LeaveRefusal.TheVariants as leaves
 use Rattle.node_rules.specs.declared.refusal.SendRefusal.TheVariants as sends
 use Rattle.node_rules.specs.Ciphers.{Ciphers}
 use Rattle.node_rules.specs.Frames.{arrived}
-use Rattle.node_rules.specs.Memory.{Line, Body, Memory, Role, Coordinator, Meter, CoordinatorSession, Node, address_of, node_address}
+use Rattle.node_rules.specs.Memory.{StationMemory, Body, Memory, Role, Coordinator, Meter, CoordinatorSession, Node, address_of, node_address}
 use Rattle.node_rules.specs.Plans.{Plan, resting, within}
 use Rattle.node_rules.specs.Accepting.{accept}
 use Rattle.node_rules.specs.Calls as calls
 use Rattle.node_rules.specs.Meters as meters
 use Rattle.node_rules.specs.Coordinators as coordinator_rules
-use Rattle.node_rules.specs.Opening.{first_grant, blank_line, blank_routing, tag_in}
+use Rattle.node_rules.specs.StoreReading.{first_grant, blank_station, blank_routing, tag_in}
 use Rattle.line_rules.specs.Answers.{Reception, meter_reception, coordinator_reception, random_word, join_word, leave_word, sent_word, ordered_word, frame_word}
 use Rattle.group_keys.specs.declared.fault.RingFault.TheVariants.{Store as RingStore}
-use Rattle.node_rules.specs.Doings.{choose}
-use Rattle.node_rules.specs.Holding.{with_line}
+use Rattle.node_rules.specs.Drafts.{choose}
+use Rattle.node_rules.specs.MemoryDrafts.{with_station}
 use Rattle.node_rules.specs.Laws.{IsShort}
 use Rattle.line_rules.specs.Events.{IsEvent}
-use Rattle.line_rules.specs.Worlds.{World, Flight, Deeds, node_at, flight_at, is_forged_tag}
-use Rattle.line_rules.specs.Steps.{Step, set_up, ran, told, flights_of, acted, once_begun, in_setup, has_begun, takes_setup, on_node, on_meter, made_node, blank_node, identity, hears, restarts, memory_by, ticked, rand, join, joins_by, leave, send, sends_by, sent_if, breaks, breaks_by, lose, tick, restart, cut, show, psk_of, deeds, happened, coordinator, coordinator_node, meter, is_known, depot, depot_by, provisioned, near, near_by, keeps_rank, ranks_full, offered_near, preset, allow, allowed, deliver, inject, arrives, accepted_by, received, by_coordinator, forged_by, note_by, rekey, challenge, activate, kick, step}
-use Rattle.node_rules.specs.NodeSteps.{Did, acts, stays, answering, of_line}
-use Rattle.line_laws.specs.Stores.{IsReadable, IsLineKept, BookKept, IsNamed, IsKept}
-use Rattle.line_laws.specs.Sizes.{IsLineSized, IsSized}
+use Rattle.line_rules.specs.Worlds.{World, Flight, Trace, node_at, flight_at, is_forged_tag}
+use Rattle.line_rules.specs.Steps.{Step, set_up, ran, told, flights_of, acted, once_begun, in_setup, has_begun, takes_setup, on_node, on_meter, made_node, blank_node, identity, hears, restarts, memory_by, ticked, rand, join, joins_by, leave, send, sends_by, sent_if, breaks, breaks_by, lose, tick, restart, cut, show, psk_of, trace_of, happened, coordinator, coordinator_node, meter, is_known, depot, depot_by, provisioned, near, near_by, keeps_rank, ranks_full, offered_near, preset, allow, allowed, deliver, inject, arrives, accepted_by, received, by_coordinator, forged_by, note_by, rekey, challenge, activate, kick, step}
+use Rattle.node_rules.specs.NodeSteps.{NodeStep, acts, stays, answering, of_station}
+use Rattle.line_laws.specs.Stores.{IsReadable, IsStationKept, BookKept, IsNamed, IsKept}
+use Rattle.line_laws.specs.Sizes.{IsStationSized, IsSized}
 use Rattle.line_laws.specs.Owed.{AreOctets, KeepsRanges}
 use Rattle.line_laws.proofs.Keeping.{Left, leads_beside}
 use Rattle.line_laws.proofs.StoreFold.{ended_kept, beside_kept}
@@ -72,7 +72,7 @@ use Rattle.line_laws.proofs.Nodes.{PlanFits, PlanOk, NodeOk, DidOk, acts_fits, a
 use Rattle.line_laws.proofs.Frontiers.{next_of, frontier, same_low, numbered_lower, numbered_le}
 use Rattle.frame_counters.proofs.Limits.{stored_limit-kept}
 use Rattle.line_laws.proofs.NodeCalls.{RoutesFit, no_some, meter_hears_ok, random_ok, join_ok, leave_ok, send_ok, near_ok, counter_ok, number_ok, broke_ok, provision_ok}
-use Rattle.line_laws.proofs.CenterCalls.{coordinator_hears_ok, accept_ok, accept_failed, accepted_routes, allow_ok, depot_ok, depot_failed, rekey_ok, activate_self_ok, challenge_ok, activate_ok, kick_ok}
+use Rattle.line_laws.proofs.CoordinatorCalls.{coordinator_hears_ok, accept_ok, accept_failed, accepted_routes, allow_ok, depot_ok, depot_failed, rekey_ok, activate_self_ok, challenge_ok, activate_ok, kick_ok}
 use Rattle.line_laws.proofs.StoreMarks.{accept_is}
 use Rattle.line_laws.proofs.Quiet.{acts_quiet, counter_quiet, number_quiet, near_quiet, install_quiet, allow_quiet, depot_quiet, accept_quiet}
 use Rattle.line_laws.proofs.Answered.{acts_answered, depot_grants}
@@ -80,15 +80,15 @@ use Rattle.line_laws.proofs.Worlds.{NodeFits, FlightFits, Rising, WorldOk, withi
 
 -- # What a node does by itself
 
-answering_ok : {A B : Type 0} (x : Node) (reads : A → B) (d : Did A) → DidOk x d → DidOk x (answering reads d)
+answering_ok : {A B : Type 0} (x : Node) (reads : A → B) (d : NodeStep A) → DidOk x d → DidOk x (answering reads d)
 answering_ok x reads d h = record { node = h.node; role = h.role; eui = h.eui; few = h.few; rises = h.rises }
 
 stays_ok : {A : Type 0} (x : Node) (answer : A) → NodeOk x → DidOk x (stays x answer)
 stays_ok x answer ok = record { node = ok; role = refl; eui = refl; few = omega arith; rises = same_low (frontier x) }
 
 -- a plan of the coordinator, at node 0
-pub center_acts : {A : Type 0} (x : Node) (halted : A) (plan : Memory → Plan Memory A) → x.role ≡ Coordinator → NodeOk x → ((m : Memory) → IsSized m → PlanOk Coordinator m (plan m)) → DidOk x (acts x halted plan)
-center_acts x halted plan is ok f = acts_ok x halted plan ok (λ m there kept sized. subst (λ r. PlanOk r m (plan m)) (sym is) (f m sized))
+pub coordinator_acts : {A : Type 0} (x : Node) (halted : A) (plan : Memory → Plan Memory A) → x.role ≡ Coordinator → NodeOk x → ((m : Memory) → IsSized m → PlanOk Coordinator m (plan m)) → DidOk x (acts x halted plan)
+coordinator_acts x halted plan is ok f = acts_ok x halted plan ok (λ m there kept sized. subst (λ r. PlanOk r m (plan m)) (sym is) (f m sized))
 
 -- what a restart gives
 pub read_again : (role : Role) (r : Records) (o : Option Memory) → Left (IsKept role) r o → Again role r
@@ -98,14 +98,14 @@ read_again role r (Some m) k = again role m r k
 -- a restart goes on from the limit
 frontier_low : (role : Role) (r : Records) (o : Option Memory) → Left (IsKept role) r o → next_of o r ≤ counter.stored_limit r
 frontier_low role r None k = same_low (counter.stored_limit r)
-frontier_low role r (Some m) k = let e = stored_limit-kept m.line.counter r k.line.counter in let below = k.line.counter.below in omega arith
+frontier_low role r (Some m) k = let e = stored_limit-kept m.station.counter r k.station.counter in let below = k.station.counter.below in omega arith
 
 pub restarts_ok : (x : Node) → NodeOk x → DidOk x (restarts x)
 restarts_ok x ok =
     let a = read_again x.role x.store.records x.memory ok.kept in
     let low = frontier_low x.role x.store.records x.memory ok.kept in
     let next = a.next in
-    let rises : next_of x.memory x.store.records ≤ a.memory.line.counter.next = omega arith in
+    let rises : next_of x.memory x.store.records ≤ a.memory.station.counter.next = omega arith in
     record {
       node = record { kept = subst (λ o. Left (IsKept x.role) x.store.records (memory_by o)) (sym a.is) a.kept; sized = subst (λ o. IfSome (memory_by o) IsSized) (sym a.is) a.sized };
       role = refl;
@@ -115,12 +115,12 @@ restarts_ok x ok =
     }
 
 -- time
-tick_line_kept : (now : ℕ) (l : Line) (r : Records) → IsLineKept l r → IsLineKept (calls.tick now l) r
-tick_line_kept now l r k = beside_kept _ _ r (ended_kept l r (routing.is_old now) k) refl refl refl refl refl refl
+tick_station_kept : (now : ℕ) (l : StationMemory) (r : Records) → IsStationKept l r → IsStationKept (calls.tick now l) r
+tick_station_kept now l r k = beside_kept _ _ r (ended_kept l r (routing.is_old now) k) refl refl refl refl refl refl
 
-tick_line_sized : (now : ℕ) (l : Line) → IsLineSized l → IsLineSized (calls.tick now l)
+tick_station_sized : (now : ℕ) (l : StationMemory) → IsStationSized l → IsStationSized (calls.tick now l)
 unfolding pieces.unexpired
-tick_line_sized now l h =
+tick_station_sized now l h =
     let young : Reassembly → Bool = λ r. nat_lt now (r.since + 60) in
     let count : length (filter young l.reassemblies) + length (filter (λ r. not (young r)) l.reassemblies) ≡ length l.reassemblies = length-filter_both young (λ r. not (young r)) (λ r. refl) l.reassemblies in
     let sum : pieces.blocks_held (filter young l.reassemblies) + pieces.blocks_held (filter (λ r. not (young r)) l.reassemblies) ≡ pieces.blocks_held l.reassemblies
@@ -132,17 +132,17 @@ tick_line_sized now l h =
 
 tick_meter : (now : ℕ) (psk : Key) (m : Memory) (r : Records) → IsKept (Meter psk) m r → IsSized m → IsKept (Meter psk) (meters.tick now m) r × IsSized (meters.tick now m)
 tick_meter now psk m r k h = (
-  record { line = tick_line_kept now m.line r k.line; book = k.book; sessions = k.sessions },
-  record { line = tick_line_sized now m.line h.line; sessions = h.sessions; randoms = h.randoms },
+  record { station = tick_station_kept now m.station r k.station; book = k.book; sessions = k.sessions },
+  record { station = tick_station_sized now m.station h.station; sessions = h.sessions; randoms = h.randoms },
 )
 
-tick_center : (now : ℕ) (m : Memory) (r : Records) → IsKept Coordinator m r → IsSized m → IsKept Coordinator (coordinator_rules.tick now m) r × IsSized (coordinator_rules.tick now m)
-tick_center now m r k h =
+tick_coordinator : (now : ℕ) (m : Memory) (r : Records) → IsKept Coordinator m r → IsSized m → IsKept Coordinator (coordinator_rules.tick now m) r × IsSized (coordinator_rules.tick now m)
+tick_coordinator now m r k h =
     let young : CoordinatorSession → Bool = λ s. calls.is_within 120 now s.since in
     let count : length (filter young m.sessions) + length (filter (λ s. not (young s)) m.sessions) ≡ length m.sessions = length-filter_both young (λ s. not (young s)) (λ s. refl) m.sessions in
     let few = h.sessions in (
-      record { line = tick_line_kept now m.line r k.line; book = k.book; sessions = All-filter (λ (s : CoordinatorSession). calls.is_within 120 now s.since) IsNamed m.sessions k.sessions },
-      record { line = tick_line_sized now m.line h.line; sessions = omega arith; randoms = h.randoms },
+      record { station = tick_station_kept now m.station r k.station; book = k.book; sessions = All-filter (λ (s : CoordinatorSession). calls.is_within 120 now s.since) IsNamed m.sessions k.sessions },
+      record { station = tick_station_sized now m.station h.station; sessions = omega arith; randoms = h.randoms },
     )
 
 pub ticked_ok : (now : ℕ) (x : Node) → NodeOk x → NodeOk (ticked now x)
@@ -151,12 +151,12 @@ ticked_ok now x ok = by_role x.role x.memory ok.kept ok.sized
     by_role : (role : Role) (o : Option Memory) → Left (IsKept role) x.store.records o → IfSome o IsSized → NodeOk (ticked now (record { role = role; eui = x.eui; store = x.store; memory = o }))
     by_role Coordinator None k h = record { kept = k; sized = tt }
     by_role (Meter psk) None k h = record { kept = k; sized = tt }
-    by_role Coordinator (Some m) k h = let t = tick_center now m x.store.records k h in record { kept = t.0; sized = t.1 }
+    by_role Coordinator (Some m) k h = let t = tick_coordinator now m x.store.records k h in record { kept = t.0; sized = t.1 }
     by_role (Meter psk) (Some m) k h = let t = tick_meter now psk m x.store.records k h in record { kept = t.0; sized = t.1 }
 
 pub resting_ok : {A : Type 0} (role : Role) (m : Memory) → IsSized m → (answer failed : A) → PlanOk role m (resting m answer failed)
 unfolding resting
-resting_ok role m h answer failed = record { leads = leads_beside (IsKept role) m m (λ r k. k); sized = h; few = omega arith; rises = λ fits. record { high = tt; numbered = omega arith } }
+resting_ok role m h answer failed = record { leads = leads_beside (IsKept role) m m (λ r k. k); sized = h; few = omega arith; rises = λ fits. record { high = tt; with_own_number = omega arith } }
 
 -- # A new node
 
@@ -174,7 +174,7 @@ zeros_low (suc n) (suc k) = zeros_low n k
 zero_floors : (class : ℕ) → get_or blank_routing.floors class 0 < 2 ^ 16
 zero_floors class = zeros_low 16 class
 
-blank_kept : IsLineKept blank_line empty
+blank_kept : IsStationKept blank_station empty
 unfolding routing.floors_in
 blank_kept = record {
   range = record {
@@ -197,9 +197,9 @@ blank_kept = record {
 
 pub blank_ok : (role : Role) (eui : Eui) → NodeOk (blank_node role eui)
 blank_ok role eui = record {
-  kept = record { line = blank_kept; book = by_role role; sessions = All-nil IsNamed };
+  kept = record { station = blank_kept; book = by_role role; sessions = All-nil IsNamed };
   sized = record {
-    line = record { reassemblies = (omega arith, omega arith); waiting = (omega arith, omega arith); short = All-nil (λ (b : Body). IsShort b.load) };
+    station = record { reassemblies = (omega arith, omega arith); waiting = (omega arith, omega arith); short = All-nil (λ (b : Body). IsShort b.load) };
     sessions = omega arith;
     randoms = omega arith;
   };
@@ -224,19 +224,19 @@ true_false e = cc
 -- # Steps
 
 -- the flights that an event says are those that it adds
-abbrev pub IsTold : World → World × Deeds → Type 0
+abbrev pub IsTold : World → World × Trace → Type 0
 IsTold w r = length r.0.flights ≡ length w.flights + r.1.happened.flights
 
 pub data StepGood (w : World) : Step → Type 0 where
   Fails : (fault : StepFault) → StepGood w (Err fault)
-  Taken : (r : World × Deeds) → WorldOk r.0 → r.1.happened.flights ≤ 24 → IsTold w r → StepGood w (Ok r)
+  Taken : (r : World × Trace) → WorldOk r.0 → r.1.happened.flights ≤ 24 → IsTold w r → StepGood w (Ok r)
 
 -- a node's frames are flights more
-told_more : {A : Type 0} (ciphers : Ciphers) (w : World) (number : ℕ) (d : Did A) → length (told ciphers w number d).flights ≡ length w.flights + length d.frames
+told_more : {A : Type 0} (ciphers : Ciphers) (w : World) (number : ℕ) (d : NodeStep A) → length (told ciphers w number d).flights ≡ length w.flights + length d.frames
 unfolding told
 told_more ciphers w number d = let both = length-append w.flights (flights_of ciphers number d) in let same : length (flights_of ciphers number d) ≡ length d.frames = length-map d.frames _ in omega arith
 
-told_none : {A : Type 0} (ciphers : Ciphers) (w : World) (number : ℕ) (d : Did A) → d.frames ≡ [] → length (told ciphers w number d).flights ≡ length w.flights + 0
+told_none : {A : Type 0} (ciphers : Ciphers) (w : World) (number : ℕ) (d : NodeStep A) → d.frames ≡ [] → length (told ciphers w number d).flights ≡ length w.flights + 0
 told_none ciphers w number d none = told_more ciphers w number d ∙ ap (λ fs. length w.flights + length fs) none
 
 none_more : (w v : World) → v.flights ≡ w.flights → length v.flights ≡ length w.flights + 0
@@ -295,7 +295,7 @@ module _ (ciphers : Ciphers) (fits : KeepsRanges ciphers) (w : World) (ok : Worl
       by_number false e = at_place FlightFits w.flights (number - 1) f e flown
 
   -- what a node did is told to the world and to the report
-  acted_good : (number : ℕ) (x : Node) (d : Did Answer) → node_at w number ≡ Some x → DidOk x d → StepGood w (Ok (acted ciphers w number d))
+  acted_good : (number : ℕ) (x : Node) (d : NodeStep Answer) → node_at w number ≡ Some x → DidOk x d → StepGood w (Ok (acted ciphers w number d))
   acted_good number x d there did = Taken _ (told_ok ciphers fits (ran w) number x d ran_ok there did (λ e. absurd (true_false e))) did.few (told_more ciphers (ran w) number d)
 
   -- # coordinator, meter
@@ -340,14 +340,14 @@ module _ (ciphers : Ciphers) (fits : KeepsRanges ciphers) (w : World) (ok : Worl
       acted_good number x _ there (answering_ok x leave_word _ (acts_ok x (Err leaves.Halted) meters.leave (node_ok number x there)
       (λ m here kept sized. leave_ok x.role m sized ciphers fits (identity ciphers x (record { 0 = [] })) refl)))))
 
-  sent_good : (from to : ℕ) (datagram : List ℕ) (tag : ℕ) (b : Bool) (r : World × Deeds) → WorldOk r.0 → r.1.happened.flights ≤ 24 → IsTold w r → StepGood w (Ok (sent_if w from to datagram tag b r))
+  sent_good : (from to : ℕ) (datagram : List ℕ) (tag : ℕ) (b : Bool) (r : World × Trace) → WorldOk r.0 → r.1.happened.flights ≤ 24 → IsTold w r → StepGood w (Ok (sent_if w from to datagram tag b r))
   sent_good from to datagram tag false r g few is = Taken _ g few is
   sent_good from to datagram tag true r g few is = Taken _ (counts_ok r.0 (record r.0 { sends = r.0.sends + 1 }) g refl refl (λ e. e)) few is
 
   sends_good : (from to : ℕ) (datagram : List ℕ) (x : Node) (address : Option ℕ) → node_at w from ≡ Some x → StepGood w (Ok (sends_by ciphers w from to datagram x address))
   sends_good from to datagram x None there = Taken _ ran_ok (omega arith) (none_more w (ran w) refl)
   sends_good from to datagram x (Some a) there =
-      let did = answering_ok x sent_word _ (acts_ok x (Err sends.Halted) (λ m. of_line m (calls.send m.line a datagram (w.sends + 1) w.clock)) (node_ok from x there) (λ m here kept sized. send_ok x.role m sized a datagram (w.sends + 1) w.clock)) in
+      let did = answering_ok x sent_word _ (acts_ok x (Err sends.Halted) (λ m. of_station m (calls.send m.station a datagram (w.sends + 1) w.clock)) (node_ok from x there) (λ m here kept sized. send_ok x.role m sized a datagram (w.sends + 1) w.clock)) in
       sent_good from to datagram _ _ _ (told_ok ciphers fits (ran w) from x _ ran_ok there did (λ e. absurd (true_false e))) did.few (told_more ciphers (ran w) from _)
 
   send_good : (from to : ℕ) (datagram : List ℕ) → StepGood w (send ciphers w from to datagram)
@@ -386,11 +386,11 @@ module _ (ciphers : Ciphers) (fits : KeepsRanges ciphers) (w : World) (ok : Worl
   unfolding lose
   lose_good number = once _ (by_flight (flight_at w number) refl)
     where
-      by_lost : (f : Flight) (b : Bool) → flight_at w number ≡ Some f → StepGood w (if b then Err faults.Flight else Ok (record (ran w) { flights = slice_set w.flights (number - 1) (record f { lost = true }) }, deeds (happened w said.Lost)))
+      by_lost : (f : Flight) (b : Bool) → flight_at w number ≡ Some f → StepGood w (if b then Err faults.Flight else Ok (record (ran w) { flights = slice_set w.flights (number - 1) (record f { lost = true }) }, trace_of (happened w said.Lost)))
       by_lost f true there = Fails faults.Flight
       by_lost f false there = Taken _ (record { nodes = ok.nodes; fits = ok.fits; first = ok.first; count = ok.count; rising = lost_rising number f there; quiet = λ e. absurd (true_false e) }) (omega arith) (let same = length-set w.flights (number - 1) (record f { lost = true }) in omega arith)
 
-      by_flight : (o : Option Flight) → flight_at w number ≡ o → StepGood w (option_map_or (λ f. if f.lost then Err faults.Flight else Ok (record (ran w) { flights = slice_set w.flights (number - 1) (record f { lost = true }) }, deeds (happened w said.Lost))) o (Err faults.Flight))
+      by_flight : (o : Option Flight) → flight_at w number ≡ o → StepGood w (option_map_or (λ f. if f.lost then Err faults.Flight else Ok (record (ran w) { flights = slice_set w.flights (number - 1) (record f { lost = true }) }, trace_of (happened w said.Lost))) o (Err faults.Flight))
       by_flight None there = Fails faults.Flight
       by_flight (Some f) there = by_lost f f.lost there
 
@@ -437,7 +437,7 @@ module _ (ciphers : Ciphers) (fits : KeepsRanges ciphers) (w : World) (ok : Worl
   show_good number = once _ (at_node number _ (λ x there. Taken _ ran_ok (omega arith) (none_more w (ran w) refl)))
 
   -- another node is there still
-  other_there : {A : Type 0} (a b : ℕ) (d : Did A) (y : Node) → b ≢ a → node_at w b ≡ Some y → node_at (told ciphers (set_up w) a d) b ≡ Some y
+  other_there : {A : Type 0} (a b : ℕ) (d : NodeStep A) (y : Node) → b ≢ a → node_at w b ≡ Some y → node_at (told ciphers (set_up w) a d) b ≡ Some y
   unfolding told
   other_there a b d y apart there = slice_get-set_other w.nodes a b d.node apart ∙ there
 
@@ -446,15 +446,15 @@ module _ (ciphers : Ciphers) (fits : KeepsRanges ciphers) (w : World) (ok : Worl
   hears_ok : (x : Node) (got : Accepted) (cost note now : ℕ) → NodeOk x → RoutesFit got → DidOk x (hears ciphers x got cost note now)
   hears_ok x got cost note now h routes = by_role x.role refl
     where
-      hears_as : Role → Did Reception
+      hears_as : Role → NodeStep Reception
       hears_as Coordinator = answering coordinator_reception (acts x (Err drops.Store) (λ m. coordinator_rules.hear_coordinator (record { eui = x.eui; ciphers = ciphers }) m got cost note now))
       hears_as (Meter psk) = answering meter_reception (acts x (Err drops.Store) (λ m. meters.hear_meter (identity ciphers x psk) m got cost note now))
 
       by_role : (role : Role) → x.role ≡ role → DidOk x (hears_as role)
-      by_role Coordinator is = answering_ok x coordinator_reception _ (center_acts x (Err drops.Store) _ is h (λ m sized. coordinator_hears_ok ciphers fits (record { eui = x.eui; ciphers = ciphers }) m sized got cost note now routes))
+      by_role Coordinator is = answering_ok x coordinator_reception _ (coordinator_acts x (Err drops.Store) _ is h (λ m sized. coordinator_hears_ok ciphers fits (record { eui = x.eui; ciphers = ciphers }) m sized got cost note now routes))
       by_role (Meter psk) is = answering_ok x meter_reception _ (acts_ok x (Err drops.Store) _ h (λ m there kept sized. meter_hears_ok x.role m sized ciphers fits (identity ciphers x psk) refl got cost note now routes))
 
-  received_good : (number : ℕ) (x : Node) (forged : Bool) (d : Did Reception) → node_at w number ≡ Some x → DidOk x d → StepGood w (Ok (received ciphers w number forged d))
+  received_good : (number : ℕ) (x : Node) (forged : Bool) (d : NodeStep Reception) → node_at w number ≡ Some x → DidOk x d → StepGood w (Ok (received ciphers w number forged d))
   received_good number x forged d there did = Taken _ (counts_ok (told ciphers (ran w) number d) _ (told_ok ciphers fits (ran w) number x d ran_ok there did (λ e. absurd (true_false e))) refl refl (λ e. e)) did.few (told_more ciphers (ran w) number d)
 
   arrives_good : (number : ℕ) (x : Node) (octets : List ℕ) (cost : ℕ) → node_at w number ≡ Some x → AreOctets octets → StepGood w (Ok (arrives ciphers w number x octets cost))
@@ -462,21 +462,21 @@ module _ (ciphers : Ciphers) (fits : KeepsRanges ciphers) (w : World) (ok : Worl
   arrives_good number x octets cost there are = by_answer (acts x (Err frames.Halted) plan).answer refl
     where
       plan : Memory → Plan Memory (Result Accepted FrameRefusal)
-      plan m = of_line m (accept m.line x.eui (arrived ciphers octets))
+      plan m = of_station m (accept m.station x.eui (arrived ciphers octets))
 
       did : DidOk x (acts x (Err frames.Halted) plan)
       did = acts_ok x (Err frames.Halted) plan (node_ok number x there) (λ m here kept sized. accept_ok ciphers fits octets are x.role m x.eui sized)
 
       routes : (got : Accepted) → (acts x (Err frames.Halted) plan).answer ≡ Ok got → RoutesFit got
       routes got e =
-          let a = acts_answered x frames.Halted frames.Store plan (λ m. accept_failed ciphers fits octets are m.line _ (accept_is m.line x.eui (arrived ciphers octets))) got e in
-          accepted_routes ciphers fits octets are a.memory.line _ got (accept_is a.memory.line x.eui (arrived ciphers octets)) a.is
+          let a = acts_answered x frames.Halted frames.Store plan (λ m. accept_failed ciphers fits octets are m.station _ (accept_is m.station x.eui (arrived ciphers octets))) got e in
+          accepted_routes ciphers fits octets are a.memory.station _ got (accept_is a.memory.station x.eui (arrived ciphers octets)) a.is
 
       by_answer : (r : Result Accepted FrameRefusal) → (acts x (Err frames.Halted) plan).answer ≡ r → StepGood w (Ok (accepted_by ciphers w number octets cost (acts x (Err frames.Halted) plan)))
       by_answer (Err reason) e =
-          let k : Did (Result Accepted FrameRefusal) = record (acts x (Err frames.Halted) plan) { answer = Err reason } in
-          rw e (Taken (told ciphers (ran w) number k, deeds (happened w (frame_word reason))) (told_ok ciphers fits (ran w) number x k ran_ok there (record { node = did.node; role = did.role; eui = did.eui; few = did.few; rises = did.rises }) (λ e. absurd (true_false e))) (omega arith)
-          (told_none ciphers (ran w) number k (acts_quiet x (Err frames.Halted) plan (λ m. accept_quiet m.line _ _ (accept_is m.line x.eui (arrived ciphers octets))))))
+          let k : NodeStep (Result Accepted FrameRefusal) = record (acts x (Err frames.Halted) plan) { answer = Err reason } in
+          rw e (Taken (told ciphers (ran w) number k, trace_of (happened w (frame_word reason))) (told_ok ciphers fits (ran w) number x k ran_ok there (record { node = did.node; role = did.role; eui = did.eui; few = did.few; rises = did.rises }) (λ e. absurd (true_false e))) (omega arith)
+          (told_none ciphers (ran w) number k (acts_quiet x (Err frames.Halted) plan (λ m. accept_quiet m.station _ _ (accept_is m.station x.eui (arrived ciphers octets))))))
       by_answer (Ok got) e =
           let y = (acts x (Err frames.Halted) plan).node in
           let d = hears ciphers y got cost (note_by w octets got.path) w.clock in
@@ -506,7 +506,7 @@ module _ (ciphers : Ciphers) (fits : KeepsRanges ciphers) (w : World) (ok : Worl
 
   order_good : {A : Type 0} (c : Node) (answer : Answer) (order : Memory → Plan Memory (Result A CoordinatorRefusal)) → node_at w 0 ≡ Some c → ((m : Memory) → IsSized m → PlanOk Coordinator m (order m))
       → StepGood w (Ok (by_coordinator ciphers w c answer order))
-  order_good c answer order there f = acted_good 0 c _ there (answering_ok c (ordered_word answer) _ (center_acts c (Err orders.Halted) order (ok.first c there) (node_ok 0 c there) f))
+  order_good c answer order there f = acted_good 0 c _ there (answering_ok c (ordered_word answer) _ (coordinator_acts c (Err orders.Halted) order (ok.first c there) (node_ok 0 c there) f))
 
   rekey_good : (index : ℕ) (key : Key) → length key.0 ≡ 16 → StepGood w (rekey ciphers w index key)
   unfolding rekey
@@ -540,19 +540,19 @@ module _ (ciphers : Ciphers) (fits : KeepsRanges ciphers) (w : World) (ok : Worl
   unfolding allow
   allow_good number = once _ (at_meter number _ (λ x is. at_node 0 _ (λ c there.
       by_option (λ psk. Ok (allowed ciphers w number (acts c (Err orders.Halted) (λ m. coordinator_rules.allow m x.eui psk)))) (psk_of x) (Err faults.Node)
-      (λ psk pair. Taken _ (told_ok ciphers fits (ran w) 0 c _ ran_ok there (center_acts c (Err orders.Halted) _ (ok.first c there) (node_ok 0 c there)
+      (λ psk pair. Taken _ (told_ok ciphers fits (ran w) 0 c _ ran_ok there (coordinator_acts c (Err orders.Halted) _ (ok.first c there) (node_ok 0 c there)
       (λ m sized. allow_ok ciphers fits (own_of c) m sized x.eui psk (node_fits number x is).eui ((node_fits number x is).psk psk (psk_is x psk pair)))) (λ e. absurd (true_false e))) (omega arith) (told_none ciphers (ran w) 0 _ (acts_quiet c (Err orders.Halted) _ (λ m. allow_quiet m x.eui psk)))) (Fails faults.Node))))
 
   -- # Setup
 
   pub begin_ok : (key : Key) → length key.0 ≡ 16 → (m : Memory) → IsSized m → PlanOk Coordinator m (coordinator_rules.begin m (first_grant key))
   unfolding choose
-  begin_ok key long m sized = by_ring (is_some m.line.ring)
+  begin_ok key long m sized = by_ring (is_some m.station.ring)
     where
       readable : IsReadable (first_grant key)
       readable = record { grant = record { index = omega arith; held = refl }; address = omega arith; key0 = omega (arith, long); key1 = refl }
 
-      by_ring : (b : Bool) → PlanOk Coordinator m (if b then resting m (Ok tt) (Err RingStore) else within (λ l. with_line l m) (λ r. r) (calls.install m.line (first_grant key)))
+      by_ring : (b : Bool) → PlanOk Coordinator m (if b then resting m (Ok tt) (Err RingStore) else within (λ l. with_station l m) (λ r. r) (calls.install m.station (first_grant key)))
       by_ring true = resting_ok Coordinator m sized (Ok tt) (Err RingStore)
       by_ring false = provision_ok Coordinator m sized (first_grant key) readable
 
@@ -592,9 +592,9 @@ module _ (ciphers : Ciphers) (fits : KeepsRanges ciphers) (w : World) (ok : Worl
       first_same [] some x = absurd (omega arith)
       first_same (y ∷ xs) some x = refl
 
-  preset_good : (number : ℕ) (plan : Line → calls.Presetting) → ((role : Role) (m : Memory) → IsSized m → PlanFits role m (of_line m (plan m.line))) → ((l : Line) → (plan l).frames ≡ []) → StepGood w (preset ciphers w number plan)
+  preset_good : (number : ℕ) (plan : StationMemory → calls.Presetting) → ((role : Role) (m : Memory) → IsSized m → PlanFits role m (of_station m (plan m.station))) → ((l : StationMemory) → (plan l).frames ≡ []) → StepGood w (preset ciphers w number plan)
   preset_good number plan f quiet = setup_with _ (λ began. at_node number _ (λ x there.
-      Taken _ (told_fits ciphers (set_up w) number x _ set_up_ok there (acts_fits x (Ok tt) _ (node_ok number x there) (λ m here kept sized. f x.role m sized)) (set_up_ok.quiet (still began)) (acts_quiet x (Ok tt) _ (λ m. quiet m.line))) (omega arith) (told_none ciphers (set_up w) number _ (acts_quiet x (Ok tt) _ (λ m. quiet m.line)))))
+      Taken _ (told_fits ciphers (set_up w) number x _ set_up_ok there (acts_fits x (Ok tt) _ (node_ok number x there) (λ m here kept sized. f x.role m sized)) (set_up_ok.quiet (still began)) (acts_quiet x (Ok tt) _ (λ m. quiet m.station))) (omega arith) (told_none ciphers (set_up w) number _ (acts_quiet x (Ok tt) _ (λ m. quiet m.station)))))
 
   -- an address of a node is below FFFE
   address_low : (x : Node) (address : ℕ) → NodeOk x → node_address x ≡ Some address → address < 0xFFFE
@@ -604,9 +604,9 @@ module _ (ciphers : Ciphers) (fits : KeepsRanges ciphers) (w : World) (ok : Worl
       by_ring None k e = absurd (no_some _ e)
       by_ring (Some g) k e = let this : g.address ≡ address = same_Some _ _ e in let low = k.address in omega arith
 
-      by_memory : (o : Option Memory) → Left (IsKept x.role) x.store.records o → option_and_then (λ (m : Memory). address_of m.line) o ≡ Some address → address < 0xFFFE
+      by_memory : (o : Option Memory) → Left (IsKept x.role) x.store.records o → option_and_then (λ (m : Memory). address_of m.station) o ≡ Some address → address < 0xFFFE
       by_memory None k e = absurd (no_some _ e)
-      by_memory (Some m) k e = by_ring m.line.ring k.line.range.ring e
+      by_memory (Some m) k e = by_ring m.station.ring k.station.range.ring e
 
   near_by_good : (a b cost : ℕ) (x y : Node) (p q : Option ℕ) → cost ≤ 255 → node_at w a ≡ Some x → node_at w b ≡ Some y → node_address x ≡ p → node_address y ≡ q → StepGood w (near_by ciphers w a b cost x y p q)
   near_by_good a b cost x y None q low hx hy ep eq = Fails faults.Setup
@@ -620,7 +620,7 @@ module _ (ciphers : Ciphers) (fits : KeepsRanges ciphers) (w : World) (ok : Worl
       (let one = told_none ciphers (set_up w) a (offered_near x q cost w.clock) (offered_quiet x q) in let two = told_none ciphers (told ciphers (set_up w) a (offered_near x q cost w.clock)) b (offered_near y p cost w.clock) (offered_quiet y p) in omega arith))
     where
       offered_quiet : (z : Node) (to : ℕ) → (offered_near z to cost w.clock).frames ≡ []
-      offered_quiet z to = acts_quiet z (Ok tt) (λ m. of_line m (calls.preset_near m.line to cost w.clock)) (λ m. near_quiet m.line to cost w.clock)
+      offered_quiet z to = acts_quiet z (Ok tt) (λ m. of_station m (calls.preset_near m.station to cost w.clock)) (λ m. near_quiet m.station to cost w.clock)
 
       offered : (z : Node) (to : ℕ) → NodeOk z → to < 0xFFFE → DidOk z (offered_near z to cost w.clock)
       offered z to h short = answering_ok z (λ _. tt) _ (acts_ok z (Ok tt) _ h (λ m here kept sized. near_ok z.role m sized to cost w.clock short (omega arith)))
@@ -629,18 +629,18 @@ module _ (ciphers : Ciphers) (fits : KeepsRanges ciphers) (w : World) (ok : Worl
   unfolding near
   near_good a b cost low = setup _ (at_node a _ (λ x hx. at_node b _ (λ y hy. near_by_good a b cost x y (node_address x) (node_address y) low hx hy refl refl)))
 
-  depot_by_good : (number : ℕ) (x c : Node) (d : Did (Result Granted CoordinatorRefusal)) → 0 ≢ number → node_at w number ≡ Some x → node_at w 0 ≡ Some c → DidOk c d → ((g : Granted) → d.answer ≡ Ok g → IsReadable g) → d.frames ≡ []
+  depot_by_good : (number : ℕ) (x c : Node) (d : NodeStep (Result Granted CoordinatorRefusal)) → 0 ≢ number → node_at w number ≡ Some x → node_at w 0 ≡ Some c → DidOk c d → ((g : Granted) → d.answer ≡ Ok g → IsReadable g) → d.frames ≡ []
       → StepGood w (depot_by ciphers w number x d)
   depot_by_good number x c d apart hx hc did readable quiet = by_answer d.answer refl
     where
       by_answer : (r : Result Granted CoordinatorRefusal) → d.answer ≡ r → StepGood w (depot_by ciphers w number x d)
       by_answer (Err reason) e = rw e (Fails faults.Setup)
       by_answer (Ok g) e =
-          let k : Did (Result Granted CoordinatorRefusal) = record d { answer = Ok g } in
+          let k : NodeStep (Result Granted CoordinatorRefusal) = record d { answer = Ok g } in
           let first = told_ok ciphers fits (set_up w) 0 c k set_up_ok hc (record { node = did.node; role = did.role; eui = did.eui; few = did.few; rises = did.rises }) (λ e. quiet) in
           let second = acts_ok x (Ok tt) (λ m. meters.provision m g) (node_ok number x hx) (λ m here kept sized. provision_ok x.role m sized g (readable g e)) in
-          rw e (Taken (provisioned ciphers (told ciphers (set_up w) 0 k) number x g) (told_ok ciphers fits (told ciphers (set_up w) 0 k) number x _ first (other_there 0 number k x (λ same. apart (sym same)) hx) second (λ e. acts_quiet x (Ok tt) (λ m. meters.provision m g) (λ m. install_quiet m.line g))) (omega arith)
-          (let one = told_none ciphers (set_up w) 0 k quiet in let two = told_none ciphers (told ciphers (set_up w) 0 k) number (acts x (Ok tt) (λ m. meters.provision m g)) (acts_quiet x (Ok tt) (λ m. meters.provision m g) (λ m. install_quiet m.line g)) in omega arith))
+          rw e (Taken (provisioned ciphers (told ciphers (set_up w) 0 k) number x g) (told_ok ciphers fits (told ciphers (set_up w) 0 k) number x _ first (other_there 0 number k x (λ same. apart (sym same)) hx) second (λ e. acts_quiet x (Ok tt) (λ m. meters.provision m g) (λ m. install_quiet m.station g))) (omega arith)
+          (let one = told_none ciphers (set_up w) 0 k quiet in let two = told_none ciphers (told ciphers (set_up w) 0 k) number (acts x (Ok tt) (λ m. meters.provision m g)) (acts_quiet x (Ok tt) (λ m. meters.provision m g) (λ m. install_quiet m.station g)) in omega arith))
 
   depot_good : (number : ℕ) → StepGood w (depot ciphers w number)
   unfolding depot
@@ -650,7 +650,7 @@ module _ (ciphers : Ciphers) (fits : KeepsRanges ciphers) (w : World) (ok : Worl
       let known = (node_fits number x hx).eui in
       let long = (node_fits number x hx).psk psk (psk_is x psk pair) in
       let apart : 0 ≢ number = λ same. eqb-false _ _ (or_parts _ _ may).0 (sym same) in
-      depot_by_good number x c _ apart hx hc (center_acts c (Err orders.Halted) _ (ok.first c hc) (node_ok 0 c hc) (λ m sized. depot_ok ciphers fits (own_of c) m sized x.eui psk known long)) (λ g e. granted c x.eui psk g (ok.first c hc) (node_ok 0 c hc) known long e) (acts_quiet c (Err orders.Halted) _ (λ m. depot_quiet m x.eui psk)))
+      depot_by_good number x c _ apart hx hc (coordinator_acts c (Err orders.Halted) _ (ok.first c hc) (node_ok 0 c hc) (λ m sized. depot_ok ciphers fits (own_of c) m sized x.eui psk known long)) (λ g e. granted c x.eui psk g (ok.first c hc) (node_ok 0 c hc) known long e) (acts_quiet c (Err orders.Halted) _ (λ m. depot_quiet m x.eui psk)))
       (Fails faults.Setup)))))
     where
       of_role : (role : Role) (m : Memory) (r : Records) → role ≡ Coordinator → IsKept role m r → length m.book ≤ 999
@@ -664,7 +664,7 @@ module _ (ciphers : Ciphers) (fits : KeepsRanges ciphers) (w : World) (ok : Worl
       granted c eui psk g is h known long e =
           let a = acts_answered c orders.Halted orders.Store (λ m. coordinator_rules.depot m eui psk) (λ m. coordinator_failed m eui psk known long) g e in
           let k = kept_at c a.memory h a.there in
-          depot_grants a.memory eui psk g k.0.line.range.ring (of_role c.role a.memory c.store.records is k.0) a.is
+          depot_grants a.memory eui psk g k.0.station.range.ring (of_role c.role a.memory c.store.records is k.0) a.is
         where
           coordinator_failed : (m : Memory) (eui : Eui) (psk : Key) → length eui.0 ≡ 8 → length psk.0 ≡ 16 → (coordinator_rules.depot m eui psk).failed ≡ Err orders.Store
           coordinator_failed m eui psk known long = depot_failed ciphers fits (own_of c) m eui psk known long

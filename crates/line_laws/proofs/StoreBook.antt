@@ -16,25 +16,25 @@ use Rattle.plc_base.specs.Grant.{Granted}
 use Rattle.group_keys.specs.declared.key_book.BookEntry.{BookEntry}
 use Rattle.group_keys.specs.KeyBook as book
 use Rattle.group_keys.proofs.Books.{entry_in-entry_octets, entry_same}
-use Rattle.node_rules.specs.Memory.{Line, Memory, Role, Coordinator, Meter}
-use Rattle.line_laws.specs.Stores.{IsHeld, IsLineKept, IsReadableEntry, IsBookKept, BookKept, IsNamed, IsKept}
+use Rattle.node_rules.specs.Memory.{StationMemory, Memory, Role, Coordinator, Meter}
+use Rattle.line_laws.specs.Stores.{IsHeld, IsStationKept, IsReadableEntry, IsBookKept, BookKept, IsNamed, IsKept}
 use Rattle.routing_set.specs.declared.rank.Rank.{Rank}
 use Rattle.routing_set.specs.RoutingSet as routing
-use Rattle.node_rules.specs.Doings.{Doing, begun}
-use Rattle.node_rules.specs.Holding.{with_line, on_line, line_part, remembered, tagged_with, goes_up, goes_down}
+use Rattle.node_rules.specs.Drafts.{Draft, empty_draft}
+use Rattle.node_rules.specs.MemoryDrafts.{with_station, on_station, station_part, with_memory_by, with_pair_tags, goes_up, goes_down}
 use Rattle.node_rules.specs.Coordinators as coordinators
-use Rattle.node_rules.specs.Coordinators.{entered}
+use Rattle.node_rules.specs.Coordinators.{with_book_entry}
 use Rattle.line_laws.proofs.Keeping.{Leads, leads_beside, leads_one, leads_map}
 use Rattle.line_laws.proofs.Beside.{Lasts, With}
 use Rattle.line_laws.proofs.StoreRanks.{EntryFits}
 use Rattle.line_laws.proofs.StoreFold.{WordFits, Adds, adds_none, adds_then, adds_beside, made_adds}
 use Rattle.line_laws.proofs.Made.{RingWord, Given, ByRequest, ByReply, ByItself, Offered}
-use Rattle.line_laws.proofs.MadeIn.{unheard, Beside, Ends, Asks, Replies, Opens, Answers, Closes, Gives, EuiFrom, Known, OfSession, EntryChange, Allows, Issues, Kicks, MadeIn, Begins, Station, OnLine, Remembers, Tags, Enters, Up, Down}
+use Rattle.line_laws.proofs.MadeIn.{unheard, Beside, Ends, Asks, Replies, Opens, Answers, Closes, Gives, EuiFrom, Known, OfSession, EntryChange, Allows, Issues, Kicks, MadeIn, Begins, Station, OnStation, Remembers, Tags, Enters, Up, Down}
 use Rattle.line_laws.proofs.Slots.{book_stays, ring_stays, counter_stays, number_stays, tag_stays, routing_stays, marks_stay}
 
 -- the line stays where the book is written
-pub line_stays : (l : Line) (r : Records) (slot : ℕ) (octets : List ℕ) → IsLineKept l r → 0x1000 ≤ slot → IsLineKept l (insert r slot octets)
-line_stays l r slot octets k high = record {
+pub station_stays : (l : StationMemory) (r : Records) (slot : ℕ) (octets : List ℕ) → IsStationKept l r → 0x1000 ≤ slot → IsStationKept l (insert r slot octets)
+station_stays l r slot octets k high = record {
   range = k.range;
   ring = ring_stays r slot octets l.ring k.ring (omega arith);
   counter = counter_stays r slot octets l.counter k.counter (omega arith);
@@ -89,9 +89,9 @@ holds_same b e = by_place (book.place_of b e.eui) refl
 module _ (role : Role) where
   pub kept_with : (m : Memory) (e : BookEntry) (r : Records) → IsKept role m r → ((r : Records) → IsBookKept m.book r → IsReadableEntry e) → book.has_room m.book e.eui ≡ true → role ≡ Coordinator
       → IsKept role (record m { book = book.with_entry m.book e }) (insert r (0x1000 + book.place_for m.book e.eui) (book.entry_octets (book.place_for m.book e.eui) e))
-  kept_with m e r k fits room center = record {
-    line = line_stays m.line r _ _ k.line (omega arith);
-    book = by_role role center k.book (fits r) room;
+  kept_with m e r k fits room coordinator = record {
+    station = station_stays m.station r _ _ k.station (omega arith);
+    book = by_role role coordinator k.book (fits r) room;
     sessions = k.sessions;
   }
     where
@@ -101,16 +101,16 @@ module _ (role : Role) where
       by_role (Meter psk) c b f g = absurd (cc)
 
   pub same_book : (m : Memory) (b : book.Book) (r : Records) → IsKept role m r → b ≡ m.book → IsKept role (record m { book = b }) r
-  same_book m b r k e = record { line = k.line; book = rw e k.book; sessions = k.sessions }
+  same_book m b r k e = record { station = k.station; book = rw e k.book; sessions = k.sessions }
 
   -- an entry is stored where it changes
   pub entry_leads : (m : Memory) (e : BookEntry) → ((r : Records) → IsBookKept m.book r → IsReadableEntry e) → book.has_room m.book e.eui ≡ true → role ≡ Coordinator
       → Leads (IsKept role) m (puts_of (book.change_write m.book e)) (record m { book = book.with_entry m.book e })
-  entry_leads m e fits room center = by_holding (book.holds m.book e) refl
+  entry_leads m e fits room coordinator = by_holding (book.holds m.book e) refl
     where
       by_holding : (b : Bool) → book.holds m.book e ≡ b → Leads (IsKept role) m (puts_of (if b then None else book.entry_write m.book e)) (record m { book = book.with_entry m.book e })
       by_holding true same = leads_beside (IsKept role) m _ (λ r k. same_book m _ r k (holds_same m.book e same))
-      by_holding false other = leads_one (IsKept role) m _ _ (λ r k. kept_with m e r k fits room center)
+      by_holding false other = leads_one (IsKept role) m _ _ (λ r k. kept_with m e r k fits room coordinator)
 
 -- # What is looked up
 
@@ -169,16 +169,16 @@ unfolding Rest
 rest_lasts role n r slot octets low k = (book_lasts role n.book r slot octets low k.0, k.1)
 
 -- a line's writes over all of the memory
-pub line_leads : (role : Role) (n : Memory) (l k : Line) (ps : List Write) → Leads (With (Rest role n)) l ps k → Leads (IsKept role) (with_line l n) ps (with_line k n)
+pub station_leads : (role : Role) (n : Memory) (l k : StationMemory) (ps : List Write) → Leads (With (Rest role n)) l ps k → Leads (IsKept role) (with_station l n) ps (with_station k n)
 unfolding Rest
-line_leads role n l k ps x = leads_map (With (Rest role n)) (IsKept role) (λ (j : Line). with_line j n)
-    (λ j r q. record { line = q.kept; book = q.rest.0; sessions = q.rest.1 }) (λ j r q. record { kept = q.line; rest = (q.book, q.sessions) }) l k ps x
+station_leads role n l k ps x = leads_map (With (Rest role n)) (IsKept role) (λ (j : StationMemory). with_station j n)
+    (λ j r q. record { station = q.kept; book = q.rest.0; sessions = q.rest.1 }) (λ j r q. record { kept = q.station; rest = (q.book, q.sessions) }) l k ps x
 
 module _ (role : Role) (W : RingWord → Type 0) (L : Granted → Type 0) (P : Eui → Key → Type 0) (E : Eui → Type 0) (g : Given) (m : Memory)
     (words : (w : RingWord) → W w → WordFits w)
     (offers : (address : Option ℕ) (by origin : ℕ) (rank : Rank) → Offered g address by origin rank → EntryFits (routing.offered_entry origin rank by g.now))
     (known : (eui : Eui) → E eui → length eui.0 ≡ 8) (pairs : (eui : Eui) (psk : Key) → P eui psk → length psk.0 ≡ 16)
-    (center : (b : book.Book) (e : BookEntry) → EntryChange L P E m b e → role ≡ Coordinator)
+    (coordinator : (b : book.Book) (e : BookEntry) → EntryChange L P E m b e → role ≡ Coordinator)
     (grants : (granted : Granted) → L granted → IsHeld granted.key0 × IsHeld granted.key1) (sessions : All IsNamed m.sessions) where
   named : (eui : Eui) → EuiFrom E m eui → length eui.0 ≡ 8
   named eui (Known x is) = known x is
@@ -233,17 +233,17 @@ module _ (role : Role) (W : RingWord → Type 0) (L : Granted → Type 0) (P : E
   beside_named n k (Closes eui) all = All-filter (λ s. not (coordinators.is_of eui s)) IsNamed n.sessions all
   beside_named n k (Gives value room) all = all
 
-  beside_line : (n k : Memory) → Beside E n k → (k.line ≡ n.line) × (k.book ≡ n.book)
-  beside_line n k Ends = (refl, refl)
-  beside_line n k (Asks s) = (refl, refl)
-  beside_line n k (Replies s value here) = (refl, refl)
-  beside_line n k (Opens s value here room is) = (refl, refl)
-  beside_line n k (Answers s t eui there same) = (refl, refl)
-  beside_line n k (Closes eui) = (refl, refl)
-  beside_line n k (Gives value room) = (refl, refl)
+  beside_station : (n k : Memory) → Beside E n k → (k.station ≡ n.station) × (k.book ≡ n.book)
+  beside_station n k Ends = (refl, refl)
+  beside_station n k (Asks s) = (refl, refl)
+  beside_station n k (Replies s value here) = (refl, refl)
+  beside_station n k (Opens s value here room is) = (refl, refl)
+  beside_station n k (Answers s t eui there same) = (refl, refl)
+  beside_station n k (Closes eui) = (refl, refl)
+  beside_station n k (Gives value room) = (refl, refl)
 
   pub beside_stays : (n k : Memory) (r : Records) → Beside E n k → IsKept role n r → IsKept role k r
-  beside_stays n k r x q = let same = beside_line n k x in record { line = rw same.0 q.line; book = rw same.1 q.book; sessions = beside_named n k x q.sessions }
+  beside_stays n k r x q = let same = beside_station n k x in record { station = rw same.0 q.station; book = rw same.1 q.book; sessions = beside_named n k x q.sessions }
 
   -- nothing is offered where nothing is heard
   pub unheard_offers : (k : Given) (address : Option ℕ) (by origin : ℕ) (rank : Rank) → Offered (unheard k) address by origin rank → EntryFits (routing.offered_entry origin rank by k.now)
@@ -251,17 +251,17 @@ module _ (role : Role) (W : RingWord → Type 0) (L : Granted → Type 0) (P : E
   unheard_offers k address by origin rank (ByReply own number c o to here apart few told) = let x = told.came.is in absurd (cc)
   unheard_offers k address by origin rank (ByItself is) = absurd (cc)
 
-  pub made_in_adds : (d : Doing Memory) → MadeIn W L P E g m d → Adds (IsKept role) (begun m) d
-  unfolding begun on_line remembered tagged_with entered goes_up goes_down
-  made_in_adds d Begins = adds_none (IsKept role) (begun m)
+  pub made_in_adds : (d : Draft Memory) → MadeIn W L P E g m d → Adds (IsKept role) (empty_draft m) d
+  unfolding empty_draft on_station with_memory_by with_pair_tags with_book_entry goes_up goes_down
+  made_in_adds d Begins = adds_none (IsKept role) (empty_draft m)
   made_in_adds d (Station e made) =
-      let a = made_adds (Rest role m) (rest_lasts role m) W g words offers (begun m.line) e made in
-      record { more = a.more; puts = a.puts; leads = line_leads role m m.line e.memory a.more a.leads }
-  made_in_adds d (OnLine word e made step) =
-      let a = made_adds (Rest role e.memory) (rest_lasts role e.memory) W (unheard g) words (unheard_offers g) (line_part e) (word (line_part e)) step in
-      adds_then (IsKept role) (begun m) e d a.more (made_in_adds e made) a.puts (line_leads role e.memory e.memory.line (word (line_part e)).memory a.more a.leads)
-  made_in_adds d (Remembers change e made beside) = adds_beside (IsKept role) (begun m) e d (made_in_adds e made) refl (λ r k. beside_stays e.memory (change e.memory) r beside k)
-  made_in_adds d (Tags made opened e x) = adds_beside (IsKept role) (begun m) e d (made_in_adds e x) refl (λ r k. k)
-  made_in_adds d (Enters x e made change) = adds_then (IsKept role) (begun m) e d _ (made_in_adds e made) refl (entry_leads role e.memory x (entry_fits e.memory.book x change) (entry_room e.memory.book x change) (center e.memory.book x change))
-  made_in_adds d (Up agent own message e made) = adds_beside (IsKept role) (begun m) e d (made_in_adds e made) refl (λ r k. k)
-  made_in_adds d (Down own message e made) = adds_beside (IsKept role) (begun m) e d (made_in_adds e made) refl (λ r k. k)
+      let a = made_adds (Rest role m) (rest_lasts role m) W g words offers (empty_draft m.station) e made in
+      record { more = a.more; puts = a.puts; leads = station_leads role m m.station e.memory a.more a.leads }
+  made_in_adds d (OnStation word e made step) =
+      let a = made_adds (Rest role e.memory) (rest_lasts role e.memory) W (unheard g) words (unheard_offers g) (station_part e) (word (station_part e)) step in
+      adds_then (IsKept role) (empty_draft m) e d a.more (made_in_adds e made) a.puts (station_leads role e.memory e.memory.station (word (station_part e)).memory a.more a.leads)
+  made_in_adds d (Remembers change e made beside) = adds_beside (IsKept role) (empty_draft m) e d (made_in_adds e made) refl (λ r k. beside_stays e.memory (change e.memory) r beside k)
+  made_in_adds d (Tags made opened e x) = adds_beside (IsKept role) (empty_draft m) e d (made_in_adds e x) refl (λ r k. k)
+  made_in_adds d (Enters x e made change) = adds_then (IsKept role) (empty_draft m) e d _ (made_in_adds e made) refl (entry_leads role e.memory x (entry_fits e.memory.book x change) (entry_room e.memory.book x change) (coordinator e.memory.book x change))
+  made_in_adds d (Up agent own message e made) = adds_beside (IsKept role) (empty_draft m) e d (made_in_adds e made) refl (λ r k. k)
+  made_in_adds d (Down own message e made) = adds_beside (IsKept role) (empty_draft m) e d (made_in_adds e made) refl (λ r k. k)

@@ -7,13 +7,13 @@ use Rattle.plc_base.specs.Keeper.{Records, Write}
 use Rattle.group_keys.specs.KeyRing as ring
 use Rattle.routing_set.specs.declared.rank.Rank.{Rank}
 use Rattle.routing_set.specs.RoutingSet as routing
-use Rattle.node_rules.specs.Memory.{Line}
-use Rattle.node_rules.specs.Doings.{Doing, ranked, numbered, tagged, ringed, rerouted, goes, body_goes, waits, leave}
+use Rattle.node_rules.specs.Memory.{StationMemory}
+use Rattle.node_rules.specs.Drafts.{Draft, with_rank, with_own_number, with_next_tag, with_ring, with_routing_by, goes, body_goes, waits, leave}
 use Rattle.routing_set.proofs.Endings.{kept_ended}
 use Rattle.routing_set.proofs.Histories.{ended_sound}
 use Rattle.routing_set.specs.declared.entry.RoutingEntry.{RoutingEntry}
 use Rattle.std.proofs.lemmas.List.Elements.{All-map, All-weaker}
-use Rattle.line_laws.specs.Stores.{IsHeld, IsReadable, IsLineKept}
+use Rattle.line_laws.specs.Stores.{IsHeld, IsReadable, IsStationKept}
 use Rattle.line_laws.proofs.Keeping.{Leads, leads_beside, leads_append}
 use Rattle.line_laws.proofs.Beside.{Lasts, With, low_one}
 use Rattle.line_laws.proofs.StoreWords.{ring_kept, number_leads, tag_leads}
@@ -58,16 +58,16 @@ module _ (W : RingWord → Type 0) (words : (w : RingWord) → W w → WordFits 
 
 module _ {M : Type 0} (Q : M → Records → Type 0) where
   -- The writes that a doing has more lead from the one memory to the other.
-  pub record Adds (s d : Doing M) : Type 0 where
+  pub record Adds (s d : Draft M) : Type 0 where
     pub more : List Write
     pub puts : d.puts ≡ s.puts ++ more
     pub leads : Leads Q s.memory more d.memory
 
-  pub adds_none : (s : Doing M) → Adds s s
+  pub adds_none : (s : Draft M) → Adds s s
   adds_none s = record { more = []; puts = sym (append-nil s.puts); leads = leads_beside Q s.memory s.memory (λ r q. q) }
 
   -- a word that stores
-  pub adds_then : (s d e : Doing M) (ps : List Write) → Adds s d → e.puts ≡ d.puts ++ ps → Leads Q d.memory ps e.memory → Adds s e
+  pub adds_then : (s d e : Draft M) (ps : List Write) → Adds s d → e.puts ≡ d.puts ++ ps → Leads Q d.memory ps e.memory → Adds s e
   adds_then s d e ps a is leads = record {
     more = a.more ++ ps;
     puts = is ∙ ap (λ ws. ws ++ ps) a.puts ∙ append_assoc s.puts a.more ps;
@@ -75,13 +75,13 @@ module _ {M : Type 0} (Q : M → Records → Type 0) where
   }
 
   -- a word that stores nothing
-  pub adds_beside : (s d e : Doing M) → Adds s d → e.puts ≡ d.puts → ((r : Records) → Q d.memory r → Q e.memory r) → Adds s e
+  pub adds_beside : (s d e : Draft M) → Adds s d → e.puts ≡ d.puts → ((r : Records) → Q d.memory r → Q e.memory r) → Adds s e
   adds_beside s d e a is same = adds_then s d e [] a (is ∙ sym (append-nil d.puts)) (leads_beside Q d.memory e.memory same)
 
 -- # The words of the line
 
 -- routes end and bodies come and go beside the store
-pub ended_kept : (l : Line) (r : Records) (test : RoutingEntry → Bool) → IsLineKept l r → IsLineKept (record l { routing = routing.ended test l.routing }) r
+pub ended_kept : (l : StationMemory) (r : Records) (test : RoutingEntry → Bool) → IsStationKept l r → IsStationKept (record l { routing = routing.ended test l.routing }) r
 ended_kept l r test k = record {
   range = record {
     ring = k.range.ring;
@@ -109,7 +109,7 @@ ended_kept l r test k = record {
     same false e h = h
 
 -- only what waits and what is gathered are others
-pub beside_kept : (l n : Line) (r : Records) → IsLineKept l r → n.ring ≡ l.ring → n.counter ≡ l.counter → n.own_number ≡ l.own_number → n.next_tag ≡ l.next_tag → n.routing ≡ l.routing → n.marks ≡ l.marks → IsLineKept n r
+pub beside_kept : (l n : StationMemory) (r : Records) → IsStationKept l r → n.ring ≡ l.ring → n.counter ≡ l.counter → n.own_number ≡ l.own_number → n.next_tag ≡ l.next_tag → n.routing ≡ l.routing → n.marks ≡ l.marks → IsStationKept n r
 beside_kept l n r k e1 e2 e3 e4 e5 e6 = record {
   range = record {
     ring = rw e1 k.range.ring;
@@ -131,11 +131,11 @@ beside_kept l n r k e1 e2 e3 e4 e5 e6 = record {
 
 module _ (B : Records → Type 0) (lasts : Lasts B) (W : RingWord → Type 0) (g : Given) (words : (w : RingWord) → W w → WordFits w)
     (offers : (address : Option ℕ) (by origin : ℕ) (rank : Rank) → Offered g address by origin rank → EntryFits (routing.offered_entry origin rank by g.now)) where
-  abbrev LineAdds : Doing Line → Doing Line → Type 0
-  LineAdds s d = Adds (With B) s d
+  abbrev StationAdds : Draft StationMemory → Draft StationMemory → Type 0
+  StationAdds s d = Adds (With B) s d
 
-  pub made_adds : (s d : Doing Line) → Made W g s d → LineAdds s d
-  unfolding ranked numbered tagged ringed rerouted goes body_goes waits leave
+  pub made_adds : (s d : Draft StationMemory) → Made W g s d → StationAdds s d
+  unfolding with_rank with_own_number with_next_tag with_ring with_routing_by goes body_goes waits leave
   made_adds s d Starts = adds_none (With B) s
   made_adds s d (Ranks by origin rank e made o fits) = adds_then (With B) s e _ _ (made_adds s e made) refl (ranks_lead B lasts e.memory origin rank by g.now (offers _ by origin rank o) fits.room)
   made_adds s d (Numbers e made left) = adds_then (With B) s e _ _ (made_adds s e made) refl (number_leads B lasts e.memory left)

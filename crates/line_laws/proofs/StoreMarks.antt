@@ -23,10 +23,10 @@ use Rattle.node_rules.specs.declared.heard.Accepted.{Accepted}
 use Rattle.node_rules.specs.declared.refusal.FrameRefusal.{FrameRefusal}
 use Rattle.node_rules.specs.declared.refusal.FrameRefusal.TheVariants.{NotForMe, Store}
 use Rattle.node_rules.specs.Frames.{Arrived, to_all}
-use Rattle.node_rules.specs.Memory.{Line}
+use Rattle.node_rules.specs.Memory.{StationMemory}
 use Rattle.node_rules.specs.Plans.{resting}
 use Rattle.node_rules.specs.Accepting.{Accepting, is_for_me, refuse, marking, admitted, open_sealed, with_key, accept_head, accept}
-use Rattle.line_laws.specs.Stores.{IsLineKept}
+use Rattle.line_laws.specs.Stores.{IsStationKept}
 use Rattle.line_laws.proofs.Keeping.{Leads}
 use Rattle.line_laws.proofs.Beside.{Lasts, With, low_one, low_beside, low_when}
 use Rattle.line_laws.proofs.Slots.{ring_stays, counter_stays, number_stays, tag_stays, routing_stays}
@@ -34,7 +34,7 @@ use Rattle.line_laws.proofs.Slots.{ring_stays, counter_stays, number_stays, tag_
 -- # What accepting is
 
 -- A sealed frame whose tag is right, and whose counter is above the mark.
-pub record IsAdmitted (l : Line) (a : Option Arrived) (from counter : ℕ) (got : Accepted) : Type 0 where
+pub record IsAdmitted (l : StationMemory) (a : Option Arrived) (from counter : ℕ) (got : Accepted) : Type 0 where
   pub frame : Arrived
   pub is : a ≡ Some frame
   pub to : ℕ
@@ -53,12 +53,12 @@ IsPlain (paths.Sealed from all key) = ⊥
 IsPlain (paths.Up from) = Unit {0}
 IsPlain (paths.Down from) = Unit {0}
 
-pub data Accepts (l : Line) (a : Option Arrived) : Accepting → Type 0 where
+pub data Accepts (l : StationMemory) (a : Option Arrived) : Accepting → Type 0 where
   Turned : (reason : FrameRefusal) → Accepts l a (resting l (Err reason) (Err Store))
   Plain : (got : Accepted) → IsPlain got.path → Accepts l a (resting l (Ok got) (Err Store))
   Marked : (from counter : ℕ) (got : Accepted) → IsAdmitted l a from counter got → Accepts l a (marking l from counter got)
 
-module _ (l : Line) (x : Arrived) where
+module _ (l : StationMemory) (x : Arrived) where
   abbrev Is : Accepting → Type 0
   Is p = Accepts l (Some x) p
 
@@ -84,14 +84,14 @@ module _ (l : Line) (x : Arrived) where
   for_me_is true = head_is x.head refl
   for_me_is false = Turned _
 
-pub accept_is : (l : Line) (own : Eui) (a : Option Arrived) → Accepts l a (accept l own a)
+pub accept_is : (l : StationMemory) (own : Eui) (a : Option Arrived) → Accepts l a (accept l own a)
 accept_is l own None = Turned _
 accept_is l own (Some x) = for_me_is l x (is_for_me l own x.head)
 
 -- # What it stores
 
-marks_kept : (l : Line) (r : Records) (place : ℕ) (octets : List ℕ) (t : marks.Table) → IsLineKept l r → place < 64 → slots.IsTable marks.peers t → marks.IsKept t (insert r (0x0100 + place) octets)
-    → IsLineKept (record l { marks = t }) (insert r (0x0100 + place) octets)
+marks_kept : (l : StationMemory) (r : Records) (place : ℕ) (octets : List ℕ) (t : marks.Table) → IsStationKept l r → place < 64 → slots.IsTable marks.peers t → marks.IsKept t (insert r (0x0100 + place) octets)
+    → IsStationKept (record l { marks = t }) (insert r (0x0100 + place) octets)
 marks_kept l r place octets t k within table kept = record {
   range = record { ring = k.range.ring; counter = k.range.counter; number = k.range.number; tag = k.range.tag; routing = k.range.routing; floors = k.range.floors; ranks = k.range.ranks; marks = table };
   ring = ring_stays r _ octets l.ring k.ring (omega arith);
@@ -102,7 +102,7 @@ marks_kept l r place octets t k within table kept = record {
   marks = kept;
 }
 
-same_marks : (l : Line) (r : Records) (t : marks.Table) → IsLineKept l r → slots.IsTable marks.peers t → marks.IsKept t r → IsLineKept (record l { marks = t }) r
+same_marks : (l : StationMemory) (r : Records) (t : marks.Table) → IsStationKept l r → slots.IsTable marks.peers t → marks.IsKept t r → IsStationKept (record l { marks = t }) r
 same_marks l r t k table kept = record {
   range = record { ring = k.range.ring; counter = k.range.counter; number = k.range.number; tag = k.range.tag; routing = k.range.routing; floors = k.range.floors; ranks = k.range.ranks; marks = table };
   ring = k.ring;
@@ -113,7 +113,7 @@ same_marks l r t k table kept = record {
   marks = kept;
 }
 
-module _ (B : Records → Type 0) (lasts : Lasts B) (l : Line) (from counter : ℕ) (address : from < 0xFFFE) (fits : counter < 2 ^ 32) where
+module _ (B : Records → Type 0) (lasts : Lasts B) (l : StationMemory) (from counter : ℕ) (address : from < 0xFFFE) (fits : counter < 2 ^ 32) where
   ahead : Peer
   ahead = marks.peer_ahead from counter
 

@@ -19,8 +19,8 @@ use Rattle.routing_set.proofs.Entries.{entry_in-octets_of}
 use Rattle.routing_set.proofs.FloorRecords.{floors_in-insert}
 use Rattle.routing_set.proofs.Offers.{entered_held, writes_held, entered_new, writes_new, entered_first, writes_first, after_gone, gone_among, place_there, one_goes, room_old}
 use Rattle.routing_set.proofs.Rising.{entered_sound}
-use Rattle.node_rules.specs.Memory.{Line}
-use Rattle.line_laws.specs.Stores.{IsLineKept}
+use Rattle.node_rules.specs.Memory.{StationMemory}
+use Rattle.line_laws.specs.Stores.{IsStationKept}
 use Rattle.line_laws.proofs.Keeping.{Leads, leads_append}
 use Rattle.line_laws.proofs.Beside.{Lasts, With, low_one, low_beside, low_when}
 use Rattle.line_laws.proofs.Slots.{put_outside, ring_stays, counter_stays, number_stays, tag_stays, marks_stay}
@@ -42,8 +42,8 @@ pub record IsRanged (t : routing.Routing) : Type 0 where
   pub ranks : All HasNumber t.entries
 
 -- the others stay
-routing_kept : (l : Line) (r : Records) (slot : ℕ) (octets : List ℕ) (t : routing.Routing) → IsLineKept l r → 4 < slot → (slot < 0x0100) ⊎ (0x0140 ≤ slot) → IsRanged t
-    → routing.IsKept t (insert r slot octets) → IsLineKept (record l { routing = t }) (insert r slot octets)
+routing_kept : (l : StationMemory) (r : Records) (slot : ℕ) (octets : List ℕ) (t : routing.Routing) → IsStationKept l r → 4 < slot → (slot < 0x0100) ⊎ (0x0140 ≤ slot) → IsRanged t
+    → routing.IsKept t (insert r slot octets) → IsStationKept (record l { routing = t }) (insert r slot octets)
 routing_kept l r slot octets t k above apart x kept = record {
   range = record { ring = k.range.ring; counter = k.range.counter; number = k.range.number; tag = k.range.tag; routing = x.sound; floors = x.floors; ranks = x.ranks; marks = k.range.marks };
   ring = ring_stays r slot octets l.ring k.ring (omega arith);
@@ -63,7 +63,7 @@ reads_entry : (e : RoutingEntry) (place : ℕ) → EntryFits e → routing.ranks
 reads_entry e place f = entry_in-octets_of e f.address f.low f.number f.cost
 
 -- an entry in a place
-place_leads : (B : Records → Type 0) (lasts : Lasts B) (l : Line) (e : RoutingEntry) (place : ℕ) → place < length l.routing.entries → place < 64 → EntryFits e → IsRanged (record l.routing { entries = set l.routing.entries place e })
+place_leads : (B : Records → Type 0) (lasts : Lasts B) (l : StationMemory) (e : RoutingEntry) (place : ℕ) → place < length l.routing.entries → place < 64 → EntryFits e → IsRanged (record l.routing { entries = set l.routing.entries place e })
     → Leads (With B) l (slots.entry_write routing.ranks place e ∷ []) (record l { routing = record l.routing { entries = set l.routing.entries place e } })
 place_leads B lasts l e place within inside f x = low_one B lasts l _ _ (omega arith) (λ r k.
     routing_kept l r (0x0200 + place) (routing.octets_of e) _ k (omega arith) (inr (omega arith)) x (record {
@@ -72,7 +72,7 @@ place_leads B lasts l e place within inside f x = low_one B lasts l _ _ (omega a
     }))
 
 -- an entry behind the others
-push_leads : (B : Records → Type 0) (lasts : Lasts B) (l : Line) (e : RoutingEntry) → EntryFits e → IsRanged (record l.routing { entries = l.routing.entries ++ e ∷ [] })
+push_leads : (B : Records → Type 0) (lasts : Lasts B) (l : StationMemory) (e : RoutingEntry) → EntryFits e → IsRanged (record l.routing { entries = l.routing.entries ++ e ∷ [] })
     → Leads (With B) l (slots.entry_write routing.ranks (length l.routing.entries) e ∷ []) (record l { routing = record l.routing { entries = l.routing.entries ++ e ∷ [] } })
 push_leads B lasts l e f x = low_one B lasts l _ _ (let short = x.sound.entries.short in let longer = length-append l.routing.entries (e ∷ []) in omega arith) (λ r k.
     routing_kept l r (0x0200 + length l.routing.entries) (routing.octets_of e) _ k (omega arith) (inr (omega arith)) x (record {
@@ -92,7 +92,7 @@ raised_range floors gone fits number long class = by_rise (routing.raises floors
         ⊎_elim (λ (here : class ≡ routing.class_of gone.address). rw (here, get_or-set_same floors (routing.class_of gone.address) gone.rank.number 0 within) number)
         (λ (other : class ≢ routing.class_of gone.address). rw (get_or-set_other floors (routing.class_of gone.address) class gone.rank.number 0 other) (fits class)) (cases_eq class (routing.class_of gone.address))
 
-half_leads : (B : Records → Type 0) (lasts : Lasts B) (l : Line) (gone : RoutingEntry) → IsRanged (record l.routing { floors = routing.raised l.routing.floors gone })
+half_leads : (B : Records → Type 0) (lasts : Lasts B) (l : StationMemory) (gone : RoutingEntry) → IsRanged (record l.routing { floors = routing.raised l.routing.floors gone })
     → Leads (With B) l (puts_of (routing.floors_due l.routing.floors (Some gone))) (record l { routing = record l.routing { floors = routing.raised l.routing.floors gone } })
 half_leads B lasts l gone x = by_rise (routing.raises l.routing.floors gone) refl
   where
@@ -116,7 +116,7 @@ sound_by : (r t : routing.Routing) (e : RoutingEntry) (now : ℕ) → IsRouting 
 sound_by r t e now s room is = subst IsRouting is (entered_sound r e now s room)
 
 -- where the address is kept, or no place has to be made
-held_leads : (B : Records → Type 0) (lasts : Lasts B) (l : Line) (e : RoutingEntry) (now place : ℕ) → EntryFits e → IsRanged l.routing → routing.is_full l.routing e.address now ≡ false → routing.place_of l.routing.entries e.address ≡ Some place
+held_leads : (B : Records → Type 0) (lasts : Lasts B) (l : StationMemory) (e : RoutingEntry) (now place : ℕ) → EntryFits e → IsRanged l.routing → routing.is_full l.routing e.address now ≡ false → routing.place_of l.routing.entries e.address ≡ Some place
     → Leads (With B) l (routing.entry_writes l.routing e now) (record l { routing = routing.entered l.routing e now })
 held_leads B lasts l e now place f x room at =
     let there = found routing.ranks l.routing.entries e.address place e at in
@@ -129,7 +129,7 @@ held_leads B lasts l e now place f x room at =
     let short = x.sound.entries.short in
     rw (writes_held l.routing e now place at, is) (place_leads B lasts l e place there.0 (omega arith) f after)
 
-new_leads : (B : Records → Type 0) (lasts : Lasts B) (l : Line) (e : RoutingEntry) (now : ℕ) → EntryFits e → IsRanged l.routing → routing.is_full l.routing e.address now ≡ false → routing.place_of l.routing.entries e.address ≡ None
+new_leads : (B : Records → Type 0) (lasts : Lasts B) (l : StationMemory) (e : RoutingEntry) (now : ℕ) → EntryFits e → IsRanged l.routing → routing.is_full l.routing e.address now ≡ false → routing.place_of l.routing.entries e.address ≡ None
     → (length l.routing.entries == 64) ≡ false → Leads (With B) l (routing.entry_writes l.routing e now) (record l { routing = routing.entered l.routing e now })
 new_leads B lasts l e now f x room at short =
     let is = entered_new l.routing e now at short in
@@ -153,7 +153,7 @@ among_number entries gone a all = at_place entries a.place a.there all
     at_place (x ∷ xs) zero e all = let is : x ≡ gone = cc in subst HasNumber is (all 0 x (omega arith))
     at_place (x ∷ xs) (suc place) e all = at_place xs place e (λ k d lt. all (suc k) d (omega arith))
 
-gone_leads : (B : Records → Type 0) (lasts : Lasts B) (l : Line) (e gone : RoutingEntry) (now place : ℕ) → EntryFits e → IsRanged l.routing → routing.is_full l.routing e.address now ≡ false → routing.place_of l.routing.entries e.address ≡ None
+gone_leads : (B : Records → Type 0) (lasts : Lasts B) (l : StationMemory) (e gone : RoutingEntry) (now place : ℕ) → EntryFits e → IsRanged l.routing → routing.is_full l.routing e.address now ≡ false → routing.place_of l.routing.entries e.address ≡ None
     → (length l.routing.entries == 64) ≡ true → routing.first_to_go now l.routing.entries ≡ Some gone → routing.place_of l.routing.entries gone.address ≡ Some place
     → Leads (With B) l (routing.entry_writes l.routing e now) (record l { routing = routing.entered l.routing e now })
 gone_leads B lasts l e gone now place f x room at whole first there =
@@ -180,7 +180,7 @@ gone_leads B lasts l e gone now place f x room at whole first there =
     rw (puts, is) (leads_append (With B) l (record l { routing = record t { floors = routing.raised t.floors gone } }) _ _ _ (half_leads B lasts l gone half)
     (place_leads B lasts (record l { routing = record t { floors = routing.raised t.floors gone } }) e place within.0 (omega arith) f after))
 
-entered_leads : (B : Records → Type 0) (lasts : Lasts B) (l : Line) (e : RoutingEntry) (now : ℕ) → EntryFits e → IsRanged l.routing → routing.is_full l.routing e.address now ≡ false
+entered_leads : (B : Records → Type 0) (lasts : Lasts B) (l : StationMemory) (e : RoutingEntry) (now : ℕ) → EntryFits e → IsRanged l.routing → routing.is_full l.routing e.address now ≡ false
     → Leads (With B) l (routing.entry_writes l.routing e now) (record l { routing = routing.entered l.routing e now })
 entered_leads B lasts l e now f x room = by_place (routing.place_of l.routing.entries e.address) refl
   where
@@ -208,7 +208,7 @@ entered_leads B lasts l e now f x room = by_place (routing.place_of l.routing.en
     by_place None at = by_length (length l.routing.entries == 64) refl at
 
 -- an offer that is taken
-pub ranks_lead : (B : Records → Type 0) (lasts : Lasts B) (l : Line) (dest : ℕ) (rank : Rank) (next now : ℕ) → EntryFits (routing.offered_entry dest rank next now) → routing.is_full l.routing dest now ≡ false
+pub ranks_lead : (B : Records → Type 0) (lasts : Lasts B) (l : StationMemory) (dest : ℕ) (rank : Rank) (next now : ℕ) → EntryFits (routing.offered_entry dest rank next now) → routing.is_full l.routing dest now ≡ false
     → Leads (With B) l (routing.offer_writes l.routing dest rank next now) (record l { routing = routing.offered l.routing dest rank next now })
 ranks_lead B lasts l dest rank next now f room = low_when B lasts l _ _ (λ r k.
     entered_leads B lasts l (routing.offered_entry dest rank next now) now f (record { sound = k.range.routing; floors = k.range.floors; ranks = k.range.ranks }) room)

@@ -14,10 +14,10 @@ use Rattle.group_keys.specs.KeyRing as ring
 use Rattle.group_keys.proofs.Rings.{ring_in-ring_octets}
 use Rattle.routing_set.specs.OwnNumber as own_number
 use Rattle.routing_set.proofs.Limits as number_limits
-use Rattle.node_rules.specs.Memory.{Line}
-use Rattle.node_rules.specs.Doings.{tag_slot, tag_after, numbers_spent}
-use Rattle.node_rules.specs.Opening.{tag_in}
-use Rattle.line_laws.specs.Stores.{IsReadable, IsLineKept}
+use Rattle.node_rules.specs.Memory.{StationMemory}
+use Rattle.node_rules.specs.Drafts.{tag_slot, tag_after, numbers_spent}
+use Rattle.node_rules.specs.StoreReading.{tag_in}
+use Rattle.line_laws.specs.Stores.{IsReadable, IsStationKept}
 use Rattle.line_laws.proofs.Keeping.{Leads}
 use Rattle.line_laws.proofs.Beside.{Lasts, With, low_one, low_beside}
 use Rattle.line_laws.proofs.Slots.{ring_stays, counter_stays, number_stays, tag_stays, routing_stays, marks_stay}
@@ -28,7 +28,7 @@ ring_reads : (x : ring.Ring) → IfSome x IsReadable → ring.ring_in (ring.ring
 ring_reads None h = refl
 ring_reads (Some g) h = ring_in-ring_octets g h.grant h.address h.key0 h.key1
 
-pub ring_kept : (l : Line) (r : Records) (x : ring.Ring) → IsLineKept l r → IfSome x IsReadable → IsLineKept (record l { ring = x }) (insert r 1 (ring.ring_octets x))
+pub ring_kept : (l : StationMemory) (r : Records) (x : ring.Ring) → IsStationKept l r → IfSome x IsReadable → IsStationKept (record l { ring = x }) (insert r 1 (ring.ring_octets x))
 ring_kept l r x k h = record {
   range = record { ring = h; counter = k.range.counter; number = k.range.number; tag = k.range.tag; routing = k.range.routing; floors = k.range.floors; ranks = k.range.ranks; marks = k.range.marks };
   ring = record { stored = ap ring.ring_at (get-insert_same r 1 1 (ring.ring_octets x) refl) ∙ ring_reads x h };
@@ -41,8 +41,8 @@ ring_kept l r x k h = record {
 
 -- # The counter
 
-pub limit_kept : (l : Line) (r : Records) (c : counter.Counting) → IsLineKept l r → c.limit < 2 ^ 32 → c.next ≤ c.limit
-    → IsLineKept (record l { counter = c }) (insert r 2 (big_bytes 4 c.limit))
+pub limit_kept : (l : StationMemory) (r : Records) (c : counter.Counting) → IsStationKept l r → c.limit < 2 ^ 32 → c.next ≤ c.limit
+    → IsStationKept (record l { counter = c }) (insert r 2 (big_bytes 4 c.limit))
 limit_kept l r c k fits below = record {
   range = record { ring = k.range.ring; counter = fits; number = k.range.number; tag = k.range.tag; routing = k.range.routing; floors = k.range.floors; ranks = k.range.ranks; marks = k.range.marks };
   ring = ring_stays r 2 _ l.ring k.ring (omega arith);
@@ -53,7 +53,7 @@ limit_kept l r c k fits below = record {
   marks = marks_stay r 2 _ l.marks k.marks (inl (omega arith));
 }
 
-next_kept : (l : Line) (r : Records) (next : ℕ) → IsLineKept l r → next ≤ l.counter.limit → IsLineKept (record l { counter = record l.counter { next = next } }) r
+next_kept : (l : StationMemory) (r : Records) (next : ℕ) → IsStationKept l r → next ≤ l.counter.limit → IsStationKept (record l { counter = record l.counter { next = next } }) r
 next_kept l r next k below = record {
   range = record { ring = k.range.ring; counter = k.range.counter; number = k.range.number; tag = k.range.tag; routing = k.range.routing; floors = k.range.floors; ranks = k.range.ranks; marks = k.range.marks };
   ring = k.ring;
@@ -64,7 +64,7 @@ next_kept l r next k below = record {
   marks = k.marks;
 }
 
-pub counter_leads : (B : Records → Type 0) (lasts : Lasts B) (l : Line) (count : ℕ) → count ≤ 1024 → l.counter.next + count ≤ 4294967295
+pub counter_leads : (B : Records → Type 0) (lasts : Lasts B) (l : StationMemory) (count : ℕ) → count ≤ 1024 → l.counter.next + count ≤ 4294967295
     → Leads (With B) l (puts_of (counter.reserve_write l.counter count)) (record l { counter = counter.reserved l.counter count })
 counter_leads B lasts l count few left = by_due (counter.passes l.counter count) refl
   where
@@ -78,8 +78,8 @@ counter_leads B lasts l count few left = by_due (counter.passes l.counter count)
 
 -- # The own number
 
-pub number_kept : (l : Line) (r : Records) (n : own_number.Numbering) → IsLineKept l r → 1 ≤ n.limit → n.limit < 2 ^ 16 → n.last ≤ n.limit
-    → IsLineKept (record l { own_number = n }) (insert r 3 (big_bytes 2 n.limit))
+pub number_kept : (l : StationMemory) (r : Records) (n : own_number.Numbering) → IsStationKept l r → 1 ≤ n.limit → n.limit < 2 ^ 16 → n.last ≤ n.limit
+    → IsStationKept (record l { own_number = n }) (insert r 3 (big_bytes 2 n.limit))
 number_kept l r n k low fits below = record {
   range = record { ring = k.range.ring; counter = k.range.counter; number = (low, fits); tag = k.range.tag; routing = k.range.routing; floors = k.range.floors; ranks = k.range.ranks; marks = k.range.marks };
   ring = ring_stays r 3 _ l.ring k.ring (omega arith);
@@ -90,7 +90,7 @@ number_kept l r n k low fits below = record {
   marks = marks_stay r 3 _ l.marks k.marks (inl (omega arith));
 }
 
-last_kept : (l : Line) (r : Records) (last : ℕ) → IsLineKept l r → last ≤ l.own_number.limit → IsLineKept (record l { own_number = record l.own_number { last = last } }) r
+last_kept : (l : StationMemory) (r : Records) (last : ℕ) → IsStationKept l r → last ≤ l.own_number.limit → IsStationKept (record l { own_number = record l.own_number { last = last } }) r
 last_kept l r last k below = record {
   range = record { ring = k.range.ring; counter = k.range.counter; number = k.range.number; tag = k.range.tag; routing = k.range.routing; floors = k.range.floors; ranks = k.range.ranks; marks = k.range.marks };
   ring = k.ring;
@@ -101,7 +101,7 @@ last_kept l r last k below = record {
   marks = k.marks;
 }
 
-pub number_leads : (B : Records → Type 0) (lasts : Lasts B) (l : Line) → numbers_spent l ≡ false → Leads (With B) l (puts_of (own_number.advance_write l.own_number)) (record l { own_number = own_number.advanced l.own_number })
+pub number_leads : (B : Records → Type 0) (lasts : Lasts B) (l : StationMemory) → numbers_spent l ≡ false → Leads (With B) l (puts_of (own_number.advance_write l.own_number)) (record l { own_number = own_number.advanced l.own_number })
 number_leads B lasts l left = by_due (own_number.passes l.own_number) refl
   where
     by_due : (b : Bool) → own_number.passes l.own_number ≡ b
@@ -117,7 +117,7 @@ number_leads B lasts l left = by_due (own_number.passes l.own_number) refl
 tag_reads : (r : Records) (tag : ℕ) → tag < 2 ^ 16 → tag_in (get (insert r tag_slot (big_bytes 2 tag)) tag_slot) ≡ Ok tag
 tag_reads r tag fits = ap tag_in (get-insert_same r tag_slot tag_slot (big_bytes 2 tag) refl) ∙ ap Ok (big_number-reads_back 2 tag [] (omega arith))
 
-pub tag_kept : (l : Line) (r : Records) (tag : ℕ) → IsLineKept l r → tag < 2 ^ 16 → IsLineKept (record l { next_tag = tag }) (insert r tag_slot (big_bytes 2 tag))
+pub tag_kept : (l : StationMemory) (r : Records) (tag : ℕ) → IsStationKept l r → tag < 2 ^ 16 → IsStationKept (record l { next_tag = tag }) (insert r tag_slot (big_bytes 2 tag))
 tag_kept l r tag k fits = record {
   range = record { ring = k.range.ring; counter = k.range.counter; number = k.range.number; tag = fits; routing = k.range.routing; floors = k.range.floors; ranks = k.range.ranks; marks = k.range.marks };
   ring = ring_stays r 4 _ l.ring k.ring (omega arith);
@@ -128,5 +128,5 @@ tag_kept l r tag k fits = record {
   marks = marks_stay r 4 _ l.marks k.marks (inl (omega arith));
 }
 
-pub tag_leads : (B : Records → Type 0) (lasts : Lasts B) (l : Line) → Leads (With B) l (record { slot = tag_slot; octets = big_bytes 2 (tag_after l.next_tag) } ∷ []) (record l { next_tag = tag_after l.next_tag })
+pub tag_leads : (B : Records → Type 0) (lasts : Lasts B) (l : StationMemory) → Leads (With B) l (record { slot = tag_slot; octets = big_bytes 2 (tag_after l.next_tag) } ∷ []) (record l { next_tag = tag_after l.next_tag })
 tag_leads B lasts l = low_one B lasts l _ _ (omega arith) (λ r k. tag_kept l r (tag_after l.next_tag) k (omega arith))

@@ -12,7 +12,7 @@ use Rattle.node_rules.specs.Ciphers.{Ciphers}
 use Rattle.node_rules.specs.Frames.{spelled}
 use Rattle.node_rules.specs.Memory.{Memory, Coordinator, Meter, Node}
 use Rattle.line_rules.specs.Worlds.{World, Flight, node_at}
-use Rattle.node_rules.specs.NodeSteps.{Did}
+use Rattle.node_rules.specs.NodeSteps.{NodeStep}
 use Rattle.line_rules.specs.Steps.{told, flights_of, flight_by}
 use Rattle.line_rules.specs.Runs.{CounterRises}
 use Rattle.frame_counters.proofs.Limits.{stored_limit-kept}
@@ -59,12 +59,12 @@ within [] k x e = absurd (cc)
 within (y ∷ ys) zero x e = omega arith
 within (y ∷ ys) (suc k) x e = let less = within ys k x e in omega arith
 
-flights_none : {A : Type 0} (ciphers : Ciphers) (w : World) (number : ℕ) (d : Did A) → w.flights ≡ [] → d.frames ≡ [] → (told ciphers w number d).flights ≡ []
+flights_none : {A : Type 0} (ciphers : Ciphers) (w : World) (number : ℕ) (d : NodeStep A) → w.flights ≡ [] → d.frames ≡ [] → (told ciphers w number d).flights ≡ []
 unfolding told
 flights_none ciphers w number d e f = ap (λ fs. fs ++ flights_of ciphers number d) e ∙ ap (λ frames. map (λ frame. flight_by number (spelled ciphers frame)) frames) f
 
 -- what a node did is told
-pub told_with : {A : Type 0} (ciphers : Ciphers) (w : World) (number : ℕ) (x : Node) (d : Did A) → WorldOk w → node_at w number ≡ Some x → DidFits x d → Rising (told ciphers w number d) → (w.running ≡ false → d.frames ≡ []) → WorldOk (told ciphers w number d)
+pub told_with : {A : Type 0} (ciphers : Ciphers) (w : World) (number : ℕ) (x : Node) (d : NodeStep A) → WorldOk w → node_at w number ≡ Some x → DidFits x d → Rising (told ciphers w number d) → (w.running ≡ false → d.frames ≡ []) → WorldOk (told ciphers w number d)
 unfolding told
 told_with ciphers w number x d ok there did rising still = record {
   nodes = All-set NodeOk w.nodes number d.node did.node ok.nodes;
@@ -104,7 +104,7 @@ none_rising w e = record {
     none_pairs i j d lt inside = absurd (omega arith)
 
 -- in the setup, where nothing flies yet
-pub told_fits : {A : Type 0} (ciphers : Ciphers) (w : World) (number : ℕ) (x : Node) (d : Did A) → WorldOk w → node_at w number ≡ Some x → DidFits x d → w.flights ≡ [] → d.frames ≡ [] → WorldOk (told ciphers w number d)
+pub told_fits : {A : Type 0} (ciphers : Ciphers) (w : World) (number : ℕ) (x : Node) (d : NodeStep A) → WorldOk w → node_at w number ≡ Some x → DidFits x d → w.flights ≡ [] → d.frames ≡ [] → WorldOk (told ciphers w number d)
 told_fits ciphers w number x d ok there did none still = told_with ciphers w number x d ok there did (none_rising (told ciphers w number d) (flies none still)) (λ e. still)
   where
     flies : w.flights ≡ [] → d.frames ≡ [] → (told ciphers w number d).flights ≡ []
@@ -114,10 +114,10 @@ frontier_cap : (x : Node) → NodeOk x → frontier x ≤ 4294967295
 frontier_cap x ok = by_memory x.memory ok.kept
   where
     by_memory : (o : Option Memory) → Left (IsKept x.role) x.store.records o → next_of o x.store.records ≤ 4294967295
-    by_memory None k = let e = stored_limit-kept k.memory.line.counter x.store.records k.kept.line.counter in let fits = k.kept.line.range.counter in omega arith
-    by_memory (Some m) k = let fits = k.line.range.counter in let below = k.line.counter.below in omega arith
+    by_memory None k = let e = stored_limit-kept k.memory.station.counter x.store.records k.kept.station.counter in let fits = k.kept.station.range.counter in omega arith
+    by_memory (Some m) k = let fits = k.station.range.counter in let below = k.station.counter.below in omega arith
 
-told_rising : {A : Type 0} (ciphers : Ciphers) → KeepsRanges ciphers → (w : World) (number : ℕ) (x : Node) (d : Did A) → WorldOk w → node_at w number ≡ Some x → DidOk x d → Rising (told ciphers w number d)
+told_rising : {A : Type 0} (ciphers : Ciphers) → KeepsRanges ciphers → (w : World) (number : ℕ) (x : Node) (d : NodeStep A) → WorldOk w → node_at w number ≡ Some x → DidOk x d → Rising (told ciphers w number d)
 unfolding told
 told_rising ciphers fits w number x d ok there did = record { below = below; pairs = grown.pairs; homes = All-append (λ (f : Flight). f.from < length (set w.nodes number d.node)) w.flights (flights_of ciphers number d) old_homes new_homes; heads = All-append IsSpelled w.flights (flights_of ciphers number d) ok.rising.heads new_heads }
   where
@@ -149,7 +149,7 @@ told_rising ciphers fits w number x d ok there did = record { below = below; pai
         subst (λ k. All (IsBelow k (frontier y)) (w.flights ++ flights_of ciphers number d)) (sym e) (subst (λ (z : Node). All (IsBelow number (frontier z)) (w.flights ++ flights_of ciphers number d)) got grown.below))
         (λ (e : n ≢ number). All-append (IsBelow n (frontier y)) w.flights (flights_of ciphers number d) (ok.rising.below n y (sym (slice_get-set_other w.nodes number n d.node e) ∙ is)) (others n e (frontier y))) (cases_eq n number)
 
-pub told_ok : {A : Type 0} (ciphers : Ciphers) → KeepsRanges ciphers → (w : World) (number : ℕ) (x : Node) (d : Did A) → WorldOk w → node_at w number ≡ Some x → DidOk x d → (w.running ≡ false → d.frames ≡ []) → WorldOk (told ciphers w number d)
+pub told_ok : {A : Type 0} (ciphers : Ciphers) → KeepsRanges ciphers → (w : World) (number : ℕ) (x : Node) (d : NodeStep A) → WorldOk w → node_at w number ≡ Some x → DidOk x d → (w.running ≡ false → d.frames ≡ []) → WorldOk (told ciphers w number d)
 told_ok ciphers fits w number x d ok there did still =
     told_with ciphers w number x d ok there (record { node = did.node; role = did.role; eui = did.eui; few = did.few }) (told_rising ciphers fits w number x d ok there did) still
 

@@ -7,8 +7,8 @@ use Rattle.fragment_buffers.specs.Reassembly.{PlacedPiece, Reassembly}
 use Rattle.node_rules.specs.declared.heard.Heard.{Heard}
 use Rattle.node_rules.specs.declared.heard.Heard.TheVariants as heard
 use Rattle.node_rules.specs.Frames.{Letter, Sent, Sealed, Up, Down}
-use Rattle.node_rules.specs.Memory.{Line, Body, Load, Datagram, Command}
-use Rattle.node_rules.specs.Doings.{Outgoing}
+use Rattle.node_rules.specs.Memory.{StationMemory, Body, Load, Datagram, Command}
+use Rattle.node_rules.specs.Drafts.{Outgoing}
 
 -- # Counting the octet at a position of the datagram of a note
 
@@ -59,5 +59,5 @@ up_is n i (heard.Up from note octets) = weigh n note (below i (length octets))
 up_is n i _ = 0
 
 -- what waits and what is gathered at a node
-abbrev pub keeps : ℕ → ℕ → Line → ℕ
+abbrev pub keeps : ℕ → ℕ → StationMemory → ℕ
 keeps n i l = sum_by (body_is n i) l.waiting + sum_by (held_is n i) l.reassemblies

@@ -9,12 +9,12 @@ use Rattle.line_laws.specs.Laws.{AreSaid, FlightsAreOctets}
 
 -- every meter to which keys are issued is named by 8 octets
 abbrev pub IssuedAreNamed : List Entry → Type 0
-IssuedAreNamed entries = All (λ (x : Entry). All (λ (i : Issued). IsEui i.eui) x.deeds.issued) entries
+IssuedAreNamed entries = All (λ (x : Entry). All (λ (i : Issued). IsEui i.eui) x.trace.issued) entries
 
 -- after each event up to the first forged one, each meter holds only keys that were issued to it up to then
 abbrev pub IsIssuedAfter : List Entry → List Entry → Type 0
 IsIssuedAfter before [] = Unit {0}
-IsIssuedAfter before (x ∷ xs) = x.deeds.happened.forged ≡ false → HasOnlyIssuedKeys (issued (before ++ x ∷ [])) x.after × IsIssuedAfter (before ++ x ∷ []) xs
+IsIssuedAfter before (x ∷ xs) = x.trace.happened.forged ≡ false → HasOnlyIssuedKeys (issued (before ++ x ∷ [])) x.after × IsIssuedAfter (before ++ x ∷ []) xs
 
 -- so it is from the beginning of a run on
 abbrev pub OnlyIssuedKeys : Type 0

@@ -31,7 +31,7 @@ EveryRestartIsAnswered = (ciphers : Ciphers) → KeepsRanges ciphers → (entrie
 -- each event says how many flights it adds
 abbrev pub AddsUp : World → List Entry → Type 0
 AddsUp w [] = Unit {0}
-AddsUp w (x ∷ xs) = (length x.after.flights ≡ length w.flights + x.deeds.happened.flights) × AddsUp x.after xs
+AddsUp w (x ∷ xs) = (length x.after.flights ≡ length w.flights + x.trace.happened.flights) × AddsUp x.after xs
 
 -- the flights that are told are all that there are
 abbrev pub EveryFlightIsTold : Type 0

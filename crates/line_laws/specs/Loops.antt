@@ -32,13 +32,13 @@ use Rattle.node_rules.specs.Coordinators as coordinator_rules
 use Rattle.line_rules.specs.Events.{IsLineOctets}
 use Rattle.node_rules.specs.Frames.{Sent, Sealed, Up, Down, Letter, Arrived, spelled, arrived}
 use Rattle.node_rules.specs.Hearing.{hear}
-use Rattle.node_rules.specs.Holding.{unread, Unread}
+use Rattle.node_rules.specs.MemoryDrafts.{unread, Unread}
 use Rattle.node_rules.specs.Memory.{Memory, MeterSession, Meter, Node, node_address}
 use Rattle.node_rules.specs.Meters as meters
 use Rattle.node_rules.specs.Meters.{Identity}
 use Rattle.node_rules.specs.Plans.{Plan}
 use Rattle.line_rules.specs.Runs.{Entry, IsRun, HasNoLoop}
-use Rattle.node_rules.specs.NodeSteps.{Did, acts, of_line}
+use Rattle.node_rules.specs.NodeSteps.{NodeStep, acts, of_station}
 use Rattle.line_rules.specs.Steps.{identity, hears, psk_of, note_by, forged_by}
 use Rattle.line_rules.specs.Worlds.{World, node_at, is_forged_tag, start}
 use Rattle.line_laws.specs.Laws.{AreSaid, FlightsAreOctets}
@@ -98,12 +98,12 @@ abbrev pub Reads : Ciphers → {A : Type 0} → Plan Memory A → Type 0
 Reads ciphers p = All (FrameRead ciphers) p.frames
 
 -- what is left of accepting octets
-abbrev pub accepting : Ciphers → Node → List ℕ → Did (Result Accepted FrameRefusal)
-accepting ciphers x octets = acts x (Err frames.Halted) (λ m. of_line m (accept m.line x.eui (arrived ciphers octets)))
+abbrev pub accepting : Ciphers → Node → List ℕ → NodeStep (Result Accepted FrameRefusal)
+accepting ciphers x octets = acts x (Err frames.Halted) (λ m. of_station m (accept m.station x.eui (arrived ciphers octets)))
 
 -- So it is of every call of a node of a line that may send sealed frames.
 pub record CallsRead (ciphers : Ciphers) (w : World) : Type 0 where
-  pub send : (number : ℕ) (x : Node) (m : Memory) → node_at w number ≡ Some x → x.memory ≡ Some m → (b : ℕ) (y : Node) (to : ℕ) (datagram : List ℕ) → node_at w b ≡ Some y → node_address y ≡ Some to → IsLineOctets datagram → Reads ciphers (of_line m (calls.send m.line to datagram (w.sends + 1) w.clock))
+  pub send : (number : ℕ) (x : Node) (m : Memory) → node_at w number ≡ Some x → x.memory ≡ Some m → (b : ℕ) (y : Node) (to : ℕ) (datagram : List ℕ) → node_at w b ≡ Some y → node_address y ≡ Some to → IsLineOctets datagram → Reads ciphers (of_station m (calls.send m.station to datagram (w.sends + 1) w.clock))
   pub challenge : (number : ℕ) (x : Node) (m : Memory) → node_at w number ≡ Some x → x.memory ≡ Some m → (b : ℕ) (y : Node) → node_at w b ≡ Some y → Reads ciphers (coordinator_rules.challenge x.eui m y.eui w.clock)
   pub activate : (number : ℕ) (x : Node) (m : Memory) → node_at w number ≡ Some x → x.memory ≡ Some m → (b : ℕ) (y : Node) (index : ℕ) → node_at w b ≡ Some y → index ≤ 1 → Reads ciphers (coordinator_rules.activate m y.eui index w.clock)
   pub kick : (number : ℕ) (x : Node) (m : Memory) → node_at w number ≡ Some x → x.memory ≡ Some m → (b : ℕ) (y : Node) → node_at w b ≡ Some y → Reads ciphers (coordinator_rules.kick m y.eui)
@@ -118,7 +118,7 @@ pub record CallsRead (ciphers : Ciphers) (w : World) : Type 0 where
 -- A grant that stands in the challenge of a frame, for the peer of the meter's session.
 pub record TakenFrom (x : Identity) (m : Memory) (got : Accepted) (cost note now : ℕ) (granted : Granted) : Type 0 where
   pub unread_is : Unread
-  pub frame : unread (hear m.line got cost note now).answer ≡ Some unread_is
+  pub frame : unread (hear m.station got cost note now).answer ≡ Some unread_is
   pub join : JoinMessage
   pub read : join_in unread_is.body ≡ Some join
   pub packet : List ℕ
@@ -131,7 +131,7 @@ pub record TakenFrom (x : Identity) (m : Memory) (got : Accepted) (cost note now
   pub is : x.ciphers.granted x.psk peer packet ≡ Some granted
 
 -- where a meter takes the grant of a frame that it accepted, and no pair tag that it finds right there is forged, the grant has the meter's home
-abbrev pub TakesItsOwn : Ciphers → Homes → World → ℕ → List ℕ → ℕ → Did (Result Accepted FrameRefusal) → Type 0
+abbrev pub TakesItsOwn : Ciphers → Homes → World → ℕ → List ℕ → ℕ → NodeStep (Result Accepted FrameRefusal) → Type 0
 TakesItsOwn ciphers h w number octets cost d =
     (got : Accepted) → d.answer ≡ Ok got → list_any (is_forged_tag w.made) (hears ciphers d.node got cost (note_by w octets got.path) w.clock).opened ≡ false
     → (psk : Key) → d.node.role ≡ Meter psk → (m : Memory) → d.node.memory ≡ Some m
@@ -163,7 +163,7 @@ pub record EventHomed (ciphers : Ciphers) (h : Homes) (w : World) (x : Entry) : 
 
 abbrev pub AreHomed : Ciphers → Homes → World → List Entry → Type 0
 AreHomed ciphers h w [] = Unit {0}
-AreHomed ciphers h w (x ∷ xs) = x.deeds.happened.forged ≡ false → (e : EventHomed ciphers h w x) × AreHomed ciphers e.homes x.after xs
+AreHomed ciphers h w (x ∷ xs) = x.trace.happened.forged ≡ false → (e : EventHomed ciphers h w x) × AreHomed ciphers e.homes x.after xs
 
 -- each node is there after an event, and no rank that it stores is lower
 abbrev pub RanksRise : World → World → Type 0
@@ -172,7 +172,7 @@ RanksRise w v = (i : ℕ) (x : Node) → node_at w i ≡ Some x → Later v i x
 -- after each event up to the first forged one no valid next hops form a loop, and no stored rank is lower than before
 abbrev pub AreLoopFree : World → List Entry → Type 0
 AreLoopFree w [] = Unit {0}
-AreLoopFree w (x ∷ xs) = x.deeds.happened.forged ≡ false → HasNoLoop x.after × RanksRise w x.after × AreLoopFree x.after xs
+AreLoopFree w (x ∷ xs) = x.trace.happened.forged ≡ false → HasNoLoop x.after × RanksRise w x.after × AreLoopFree x.after xs
 
 -- no node has a home
 abbrev pub nowhere : Homes

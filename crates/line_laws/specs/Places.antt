@@ -18,7 +18,7 @@ use Rattle.line_laws.specs.Custody.{weigh, below, content_is, keeps}
 
 -- what a node keeps, and a halted one nothing
 abbrev pub node_keeps : ℕ → ℕ → Option Memory → ℕ
-node_keeps n i memory = option_map_or (λ (m : Memory). keeps n i m.line) memory 0
+node_keeps n i memory = option_map_or (λ (m : Memory). keeps n i m.station) memory 0
 
 -- the unit that a flight carries, as its key opens it
 abbrev pub unit_of : Ciphers → Flight → Option MeshUnit

@@ -4,8 +4,8 @@ use Rattle.plc_base.specs.Addresses.{IsAddress}
 use Rattle.mac_frames.specs.Grammar.{IsTarget}
 use Rattle.routing_set.specs.declared.entry.RoutingEntry.{RoutingEntry}
 use Rattle.routing_set.specs.declared.entry.Route.{Route}
-use Rattle.node_rules.specs.Memory.{Line, Body, Load, Datagram, Command}
-use Rattle.node_rules.specs.Doings.{Doing, Outgoing}
+use Rattle.node_rules.specs.Memory.{StationMemory, Body, Load, Datagram, Command}
+use Rattle.node_rules.specs.Drafts.{Draft, Outgoing}
 use Rattle.line_laws.specs.Stores.{IsReadable}
 use Rattle.line_laws.specs.Letters.{IsFit, IsRoute}
 
@@ -24,7 +24,7 @@ abbrev pub HasHop : RoutingEntry → Type 0
 HasHop e = IfSome e.route (λ (t : Route). IsAddress t.next)
 
 -- What a node spells of is in its ranges.
-pub record IsLineRanged (l : Line) : Type 0 where
+pub record IsStationRanged (l : StationMemory) : Type 0 where
   pub ring : IfSome l.ring IsReadable
   pub tag : l.next_tag < 2 ^ 16
   pub hops : All HasHop l.routing.entries
@@ -38,6 +38,6 @@ pub record IsOut (o : Outgoing) : Type 0 where
   pub route : IsRoute o.unit
 
 -- What is being done is in its ranges.
-pub record IsRanged (d : Doing Line) : Type 0 where
-  pub line : IsLineRanged d.memory
+pub record IsRanged (d : Draft StationMemory) : Type 0 where
+  pub station : IsStationRanged d.memory
   pub units : All IsOut d.units

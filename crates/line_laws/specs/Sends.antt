@@ -7,7 +7,7 @@ use Rattle.fragment_buffers.specs.Reassembly.{PlacedPiece, Reassembly}
 use Rattle.node_rules.specs.declared.heard.Heard.{Heard}
 use Rattle.node_rules.specs.declared.heard.Heard.TheVariants as heard
 use Rattle.node_rules.specs.Memory.{Body, Load, Datagram, Command}
-use Rattle.node_rules.specs.Doings.{Outgoing}
+use Rattle.node_rules.specs.Drafts.{Outgoing}
 
 -- A send in addresses: from which to which, and the tag that names its pieces.
 pub record SentAs : Type 0 where

@@ -15,9 +15,9 @@ use Rattle.routing_set.specs.declared.entry.RoutingEntry.{RoutingEntry}
 use Rattle.routing_set.specs.RoutingSet as routing
 use Rattle.routing_set.specs.Histories.{IsRouting}
 use Rattle.routing_set.specs.OwnNumber as own_number
-use Rattle.node_rules.specs.Memory.{Line, Memory, Role, Coordinator, Meter, CoordinatorSession}
-use Rattle.node_rules.specs.Doings.{tag_slot}
-use Rattle.node_rules.specs.Opening.{tag_in}
+use Rattle.node_rules.specs.Memory.{StationMemory, Memory, Role, Coordinator, Meter, CoordinatorSession}
+use Rattle.node_rules.specs.Drafts.{tag_slot}
+use Rattle.node_rules.specs.StoreReading.{tag_in}
 
 -- a key that may be held takes 17 octets
 abbrev pub IsHeld : Option Key → Type 0
@@ -31,7 +31,7 @@ pub record IsReadable (g : Granted) : Type 0 where
   pub key1 : IsHeld g.key1
 
 -- What a node holds on the line is in its ranges.
-pub record IsInRange (l : Line) : Type 0 where
+pub record IsInRange (l : StationMemory) : Type 0 where
   pub ring : IfSome l.ring IsReadable
   pub counter : l.counter.limit < 2 ^ 32
   pub number : (1 ≤ l.own_number.limit) × (l.own_number.limit < 2 ^ 16)
@@ -42,7 +42,7 @@ pub record IsInRange (l : Line) : Type 0 where
   pub marks : slots.IsTable marks.peers l.marks
 
 -- It is what the records give.
-pub record IsLineKept (l : Line) (records : Records) : Type 0 where
+pub record IsStationKept (l : StationMemory) (records : Records) : Type 0 where
   pub range : IsInRange l
   pub ring : ring.IsKept l.ring records
   pub counter : counter.IsKept l.counter records
@@ -75,6 +75,6 @@ IsNamed s = length s.server.eui.0 ≡ 8
 
 -- What a node of this role holds is what the records give.
 pub record IsKept (role : Role) (m : Memory) (records : Records) : Type 0 where
-  pub line : IsLineKept m.line records
+  pub station : IsStationKept m.station records
   pub book : BookKept role m.book records
   pub sessions : All IsNamed m.sessions

@@ -7,8 +7,8 @@ use Rattle.line_driver.specs.declared.machine.Exit.{Exit}
 use Rattle.line_driver.specs.declared.machine.Exit.TheVariants as exits
 use Rattle.line_driver.specs.Clauses as by_driver
 use Rattle.std.specs.declared.option.Option.{Option}
-use Rattle.line_world.specs.declared.event.Event.{Event}
-use Rattle.line_world.specs.declared.event.StepFault.TheVariants as faults
+use Rattle.line_rules.specs.declared.event.Event.{Event}
+use Rattle.line_rules.specs.declared.event.StepFault.TheVariants as faults
 use Rattle.line_world.specs.Worlds.{World, Step, start}
 use Rattle.line_world.specs.Steps.{step}
 use Rattle.line_world.specs.Runs.{Entry, IsRun, CountsRight}

@@ -7,8 +7,8 @@ use Rattle.line_driver.specs.declared.machine.Exit.{Exit}
 use Rattle.line_driver.specs.Outcomes.{Turn, Takes}
 use Rattle.line_driver.specs.Clauses.{Told, Turned}
 use Rattle.line_driver.proofs.Turned.{taken}
-use Rattle.line_world.specs.declared.event.Event.{Event}
-use Rattle.line_world.specs.declared.event.Happenings.{Happenings}
+use Rattle.line_rules.specs.declared.event.Event.{Event}
+use Rattle.line_rules.specs.declared.happenings.Happenings.{Happenings}
 use Rattle.line_world.specs.Worlds.{World}
 use Rattle.line_world.specs.Steps.{step}
 use Rattle.line_replay.specs.declared.reading.Reading.TheVariants.{Reads}

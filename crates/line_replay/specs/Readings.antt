@@ -5,8 +5,8 @@ use Rattle.std.specs.Str.{bytes_eq}
 use Rattle.hex.specs.Hex.{decode_of}
 use Rattle.plc_base.specs.declared.address.Eui.{Eui}
 use Rattle.plc_base.specs.declared.key.Key.{Key}
-use Rattle.line_world.specs.declared.event.Event.{Event}
-use Rattle.line_world.specs.declared.event.Event.TheVariants.{Coordinator, Meter, Depot, Near, Counter, Send, Deliver, Inject, Lose, Restart}
+use Rattle.line_rules.specs.declared.event.Event.{Event}
+use Rattle.line_rules.specs.declared.event.Event.TheVariants.{Coordinator, Meter, Depot, Near, Counter, Send, Deliver, Inject, Lose, Restart}
 use Rattle.line_replay.specs.declared.reading.Reading.{Reading}
 use Rattle.line_replay.specs.declared.reading.Reading.TheVariants.{Quiet, NoForm, Reads}
 

@@ -3,8 +3,8 @@ use Rattle.std.specs.Prelude.{◌≡◌, Some, ℕ, ◌+◌, Bool, List, [], ◌
 use Rattle.line_driver.specs.Lines.{Content, Text, Long, TooMuch, Line, lines}
 use Rattle.line_driver.specs.Clauses.{IsStop}
 use Rattle.line_driver.specs.Outcomes.{Turn, Skips, Takes, Stops, Outcome, outcome as outcome_of}
-use Rattle.line_world.specs.declared.event.Event.{Event}
-use Rattle.line_world.specs.declared.event.StepFault.TheVariants as faults
+use Rattle.line_rules.specs.declared.event.Event.{Event}
+use Rattle.line_rules.specs.declared.event.StepFault.TheVariants as faults
 use Rattle.line_world.specs.declared.world.Flight.{Flight}
 use Rattle.line_world.specs.Worlds.{World, Step, start}
 use Rattle.line_world.specs.Steps.{step}

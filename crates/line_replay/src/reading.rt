@@ -3,7 +3,7 @@ ghost use Rattle.std.specs.Prelude.{◌≡◌, ◌==◌, ◌<◌, length, positi
 ghost use Rattle.std.specs.Option.{option_map};
 ghost use Rattle.line_replay.specs.Readings.{field, Field, digit_more, number_from, number, cost, eui, key, hex_octets, coordinator_of, meter_of, depot_of, near_of, counter_of, send_of, deliver_of, inject_of, lose_of, restart_of, setup_by, event_by, event_of, reading};
 
-use line_world::Event;
+use line_rules::Event;
 use plc_base::{Eui, Key, LinkCost, OctetRef};
 
 /// The most octets that a line holds in hexadecimal.

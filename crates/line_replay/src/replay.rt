@@ -10,7 +10,8 @@ ghost use Rattle.line_replay.specs.Report.{Playing, is_forged, reading_taking, t
 use crate::reading::{LINE_OCTETS, Reading, read_line};
 use crate::report::{Reason, end_text, push_happened, push_sent, refuse};
 use line_driver::{Exit, LineKind, LineMachine, tell, tell_made};
-use line_world::{Event, Happenings, MAX_EVENTS, StepFault, World};
+use line_rules::{Event, Happenings, StepFault};
+use line_world::{MAX_EVENTS, World};
 use plc_base::{FrameBuf, Sink};
 use std::alloc::{AllocError, Global};
 use std::marker::Model;

@@ -5,7 +5,8 @@ ghost use Rattle.line_driver.specs.Clauses.{StopsWith};
 ghost use Rattle.line_replay.specs.Texts.{answer_word, verdict_word, reason_word, answer_text, up_text, forged_text, happened_text, fly_text, flies_text, sent_text, bad_text, end_text};
 
 use line_driver::{Exit, stop};
-use line_world::{Answer, Handed, Happenings, World};
+use line_rules::{Answer, Handed, Happenings};
+use line_world::World;
 use plc_base::Sink;
 use std::alloc::{AllocError, Global};
 use std::fmt::Write;
@@ -36,23 +37,73 @@ fn answer_word(answer: Answer) -> &'static str
         Answer::Made => "Made",
         Answer::Joined => "Joined",
         Answer::Set => "Set",
+        Answer::Allowed => "Allowed",
+        Answer::Given => "Given",
+        Answer::Asked => "Asked",
+        Answer::Left => "Left",
         Answer::Sent => "Sent",
-        Answer::Up => "Up",
+        Answer::Waiting => "Waiting",
         Answer::Lost => "Lost",
+        Answer::Broken => "Broken",
+        Answer::Ticked => "Ticked",
         Answer::Restarted => "Restarted",
+        Answer::Drawn => "Drawn",
+        Answer::Challenged => "Challenged",
+        Answer::Activated => "Activated",
+        Answer::Ordered => "Ordered",
+        Answer::Kicked => "Kicked",
+        Answer::Shown => "Shown",
+        Answer::Up => "Up",
+        Answer::Held => "Held",
+        Answer::Relayed => "Relayed",
+        Answer::Answered => "Answered",
+        Answer::Learned => "Learned",
+        Answer::Reported => "Reported",
+        Answer::Carried => "Carried",
+        Answer::Replied => "Replied",
+        Answer::Took => "Took",
+        Answer::Noted => "Noted",
+        Answer::Declined => "Declined",
+        Answer::Keyed => "Keyed",
+        Answer::Done => "Done",
         Answer::NoAddress => "NoAddress",
+        Answer::Halted => "Halted",
         Answer::NotJoined => "NotJoined",
         Answer::BadSize => "BadSize",
         Answer::ToSelf => "ToSelf",
-        Answer::NoRoute => "NoRoute",
-        Answer::CounterSpent => "CounterSpent",
+        Answer::WaitingFull => "WaitingFull",
+        Answer::MetersFull => "MetersFull",
+        Answer::RandomsFull => "RandomsFull",
+        Answer::AlreadyJoined => "AlreadyJoined",
+        Answer::IndexActive => "IndexActive",
+        Answer::NotIssued => "NotIssued",
+        Answer::BadStore => "BadStore",
         Answer::Malformed => "Malformed",
         Answer::NotForMe => "NotForMe",
         Answer::NoKey => "NoKey",
         Answer::BadTag => "BadTag",
         Answer::Replayed => "Replayed",
         Answer::PeersFull => "PeersFull",
+        Answer::Store => "Store",
         Answer::BadUnit => "BadUnit",
+        Answer::NoRoute => "NoRoute",
+        Answer::HopsSpent => "HopsSpent",
+        Answer::NotBetter => "NotBetter",
+        Answer::CostSpent => "CostSpent",
+        Answer::RoutesFull => "RoutesFull",
+        Answer::NotAllowed => "NotAllowed",
+        Answer::NoSession => "NoSession",
+        Answer::SessionsFull => "SessionsFull",
+        Answer::NoRandom => "NoRandom",
+        Answer::Form => "Form",
+        Answer::OtherSession => "OtherSession",
+        Answer::BadMac => "BadMac",
+        Answer::BadChannel => "BadChannel",
+        Answer::NoSuccess => "NoSuccess",
+        Answer::NotHeld => "NotHeld",
+        Answer::BufferFull => "BufferFull",
+        Answer::SeqSpent => "SeqSpent",
+        Answer::CounterSpent => "CounterSpent",
     }
 }
 
@@ -60,26 +111,39 @@ fn verdict_word(answer: Answer) -> &'static str
     ensures { result.now ≡ verdict_word answer }
 {
     match answer {
-        Answer::Made
-        | Answer::Joined
-        | Answer::Set
-        | Answer::Sent
-        | Answer::Up
-        | Answer::Lost
-        | Answer::Restarted => "ok",
-        Answer::NoAddress
-        | Answer::NotJoined
-        | Answer::BadSize
-        | Answer::ToSelf
-        | Answer::NoRoute
-        | Answer::CounterSpent
-        | Answer::Malformed
-        | Answer::NotForMe
-        | Answer::NoKey
-        | Answer::BadTag
-        | Answer::Replayed
-        | Answer::PeersFull
-        | Answer::BadUnit => "no",
+        Answer::Made => "ok",
+        Answer::Joined => "ok",
+        Answer::Set => "ok",
+        Answer::Allowed => "ok",
+        Answer::Given => "ok",
+        Answer::Asked => "ok",
+        Answer::Left => "ok",
+        Answer::Sent => "ok",
+        Answer::Waiting => "ok",
+        Answer::Lost => "ok",
+        Answer::Broken => "ok",
+        Answer::Ticked => "ok",
+        Answer::Restarted => "ok",
+        Answer::Drawn => "ok",
+        Answer::Challenged => "ok",
+        Answer::Activated => "ok",
+        Answer::Ordered => "ok",
+        Answer::Kicked => "ok",
+        Answer::Shown => "ok",
+        Answer::Up => "ok",
+        Answer::Held => "ok",
+        Answer::Relayed => "ok",
+        Answer::Answered => "ok",
+        Answer::Learned => "ok",
+        Answer::Reported => "ok",
+        Answer::Carried => "ok",
+        Answer::Replied => "ok",
+        Answer::Took => "ok",
+        Answer::Noted => "ok",
+        Answer::Declined => "ok",
+        Answer::Keyed => "ok",
+        Answer::Done => "ok",
+        _ => "no",
     }
 }
 

@@ -7,7 +7,7 @@ use crate::reading::{LINE_OCTETS, hex_octets};
 use crate::report::{Reason, refuse};
 use line_driver::{Exit, LineKind, LineMachine, tell};
 use mac_frames::{FrameFault, FrameFaultKind, MacHead, read_frame};
-use plc_base::{Eui, OctetRef, OctetRef, Sink};
+use plc_base::{Eui, OctetRef, Sink};
 use std::alloc::{AllocError, Global};
 use std::marker::Model;
 

@@ -18,13 +18,13 @@ use Rattle.node_rules.specs.declared.refusal.CoordinatorRefusal.{CoordinatorRefu
 use Rattle.node_rules.specs.declared.refusal.CoordinatorRefusal.TheVariants as orders
 use Rattle.node_rules.specs.declared.refusal.FrameRefusal.{FrameRefusal}
 use Rattle.node_rules.specs.Ciphers.{Ciphers}
-use Rattle.node_rules.specs.Memory.{Line, Node, node_address}
+use Rattle.node_rules.specs.Memory.{StationMemory, Node, node_address}
 use Rattle.node_rules.specs.Calls as calls
 use Rattle.node_rules.specs.Coordinators as coordinator_rules
 use Rattle.line_rules.specs.Answers.{Reception}
-use Rattle.line_rules.specs.Worlds.{World, Flight, Deeds, node_at, flight_at}
+use Rattle.line_rules.specs.Worlds.{World, Flight, Trace, node_at, flight_at}
 use Rattle.line_rules.specs.Steps.{provisioned, ticked, Step, set_up, ran, told, acted, has_begun, takes_setup, once_begun, in_setup, on_node, on_meter, made_node, is_known, coordinator, meter, depot, depot_by, psk_of, near, near_by, preset, allow, allowed, rand, join, joins_by, leave, send, sends_by, sent_if, breaks, breaks_by, deliver, inject, arrives, accepted_by, received, on_flight, lose, tick, restart, cut, show, rekey, challenge, activate, activate_at, kick, step}
-use Rattle.node_rules.specs.NodeSteps.{Did, acts}
+use Rattle.node_rules.specs.NodeSteps.{NodeStep, acts}
 use Rattle.line_rules.specs.Laws.{SameFlight, KeepsFlights, GoesOn, StepsGoOn}
 
 -- # Flights
@@ -55,7 +55,7 @@ set_up_goes w = record { events = refl; clock = omega arith; running = λ e. e; 
 ran_goes : (w : World) → GoesOn w (ran w)
 ran_goes w = record { events = refl; clock = omega arith; running = λ e. refl; nodes = omega arith; flights = same_flights w.flights; made = ([], sym (append-nil w.made)) }
 
-told_goes : {A : Type 0} (ciphers : Ciphers) (w v : World) (number : ℕ) (d : Did A) → GoesOn w v → GoesOn w (told ciphers v number d)
+told_goes : {A : Type 0} (ciphers : Ciphers) (w v : World) (number : ℕ) (d : NodeStep A) → GoesOn w v → GoesOn w (told ciphers v number d)
 unfolding told
 told_goes ciphers w v number d g = record {
   events = g.events;
@@ -74,7 +74,7 @@ counts_go w v sends ups forged done g = record { events = g.events; clock = g.cl
 
 data StepShape (w : World) : Step → Type 0 where
   Fails : (fault : StepFault) → StepShape w (Err fault)
-  Taken : (r : World × Deeds) → GoesOn w r.0 → StepShape w (Ok r)
+  Taken : (r : World × Trace) → GoesOn w r.0 → StepShape w (Ok r)
 
 module _ (ciphers : Ciphers) (w : World) where
   branch : (b : Bool) (p q : Step) → StepShape w p → StepShape w q → StepShape w (if b then p else q)
@@ -97,7 +97,7 @@ module _ (ciphers : Ciphers) (w : World) where
   at_meter : (number : ℕ) (f : Node → Step) → ((x : Node) → StepShape w (f x)) → StepShape w (on_meter w number f)
   at_meter number f h = branch (number == 0) (Err faults.Node) (on_node w number f) (Fails faults.Node) (at_node number f h)
 
-  acted_goes : (number : ℕ) (d : Did Answer) → GoesOn w (acted ciphers w number d).0
+  acted_goes : (number : ℕ) (d : NodeStep Answer) → GoesOn w (acted ciphers w number d).0
   acted_goes number d = told_goes ciphers w (ran w) number d (ran_goes w)
 
   made_goes : (x : Node) → GoesOn w (made_node w x).0
@@ -116,7 +116,7 @@ module _ (ciphers : Ciphers) (w : World) where
   unfolding meter
   meter_shape eui psk = branch (not (takes_setup w) || (nat_lt 999 (length w.nodes) || is_known w eui)) _ _ (Fails faults.Setup) (Taken _ (made_goes _))
 
-  depot_by_shape : (number : ℕ) (x : Node) (d : Did (Result Granted CoordinatorRefusal)) → StepShape w (depot_by ciphers w number x d)
+  depot_by_shape : (number : ℕ) (x : Node) (d : NodeStep (Result Granted CoordinatorRefusal)) → StepShape w (depot_by ciphers w number x d)
   depot_by_shape number x d = by_answer d.answer refl
     where
       by_answer : (r : Result Granted CoordinatorRefusal) → d.answer ≡ r → StepShape w (depot_by ciphers w number x d)
@@ -137,7 +137,7 @@ module _ (ciphers : Ciphers) (w : World) where
   unfolding near
   near_shape a b cost = setup _ (at_node a _ (λ x. at_node b _ (λ y. near_by_shape a b cost x y (node_address x) (node_address y))))
 
-  preset_shape : (number : ℕ) (plan : Line → calls.Presetting) → StepShape w (preset ciphers w number plan)
+  preset_shape : (number : ℕ) (plan : StationMemory → calls.Presetting) → StepShape w (preset ciphers w number plan)
   preset_shape number plan = setup _ (at_node number _ (λ x. Taken _ (told_goes ciphers w _ number _ (set_up_goes w))))
 
   -- # The other kinds
@@ -164,7 +164,7 @@ module _ (ciphers : Ciphers) (w : World) where
   unfolding leave
   leave_shape number = once _ (at_meter number _ (λ x. Taken _ (acted_goes number _)))
 
-  sent_goes : (from to : ℕ) (datagram : List ℕ) (tag : ℕ) (b : Bool) (r : World × Deeds) → GoesOn w r.0 → GoesOn w (sent_if w from to datagram tag b r).0
+  sent_goes : (from to : ℕ) (datagram : List ℕ) (tag : ℕ) (b : Bool) (r : World × Trace) → GoesOn w r.0 → GoesOn w (sent_if w from to datagram tag b r).0
   sent_goes from to datagram tag false r g = g
   sent_goes from to datagram tag true r g = counts_go w r.0 (r.0.sends + 1) r.0.ups r.0.forged r.0.done g
 
@@ -184,14 +184,14 @@ module _ (ciphers : Ciphers) (w : World) where
   unfolding breaks
   breaks_shape number next = once _ (at_node number _ (λ x. at_node next _ (λ y. Taken _ (breaks_go number x (node_address y)))))
 
-  received_go : (number : ℕ) (forged : Bool) (d : Did Reception) → GoesOn w (received ciphers w number forged d).0
+  received_go : (number : ℕ) (forged : Bool) (d : NodeStep Reception) → GoesOn w (received ciphers w number forged d).0
   received_go number forged d = counts_go w _ _ _ _ _ (told_goes ciphers w (ran w) number d (ran_goes w))
 
   arrives_go : (number : ℕ) (x : Node) (octets : List ℕ) (cost : ℕ) → GoesOn w (arrives ciphers w number x octets cost).0
   unfolding arrives
   arrives_go number x octets cost = accepted_go _
     where
-      accepted_go : (d : Did (Result Accepted FrameRefusal)) → GoesOn w (accepted_by ciphers w number octets cost d).0
+      accepted_go : (d : NodeStep (Result Accepted FrameRefusal)) → GoesOn w (accepted_by ciphers w number octets cost d).0
       accepted_go d = by_answer d.answer refl
         where
           by_answer : (r : Result Accepted FrameRefusal) → d.answer ≡ r → GoesOn w (accepted_by ciphers w number octets cost d).0
@@ -255,7 +255,7 @@ module _ (ciphers : Ciphers) (w : World) where
   unfolding challenge
   challenge_shape number = once _ (at_meter number _ (λ x. at_node 0 _ (λ c. Taken _ (acted_goes 0 _))))
 
-  either_goes : (b : Bool) (p q : World × Deeds) → GoesOn w p.0 → GoesOn w q.0 → GoesOn w (if b then p else q).0
+  either_goes : (b : Bool) (p q : World × Trace) → GoesOn w p.0 → GoesOn w q.0 → GoesOn w (if b then p else q).0
   either_goes true p q g h = g
   either_goes false p q g h = h
 

@@ -22,7 +22,7 @@ use Rattle.node_rules.specs.declared.refusal.CoordinatorRefusal.TheVariants as o
 use Rattle.node_rules.specs.declared.heard.SentHow.{SentHow}
 use Rattle.node_rules.specs.declared.heard.SentHow.TheVariants as how
 use Rattle.node_rules.specs.declared.heard.Heard.{Heard}
-use Rattle.node_rules.specs.declared.heard.Heard.TheVariants as line
+use Rattle.node_rules.specs.declared.heard.Heard.TheVariants as station
 use Rattle.node_rules.specs.declared.heard.MeterHeard.{MeterHeard}
 use Rattle.node_rules.specs.declared.heard.MeterHeard.TheVariants as meter
 use Rattle.node_rules.specs.declared.heard.CoordinatorHeard.{CoordinatorHeard}
@@ -152,20 +152,20 @@ abbrev pub only : Answer → Reception
 only answer = record { answer = answer; up = None; keyed = None; took = None; done = None }
 
 -- a joining command is never left unread by a node, and no line of a script uses the commands 03, 04 and 05 yet
-abbrev pub line_reception : Heard → Reception
-line_reception (line.Up from note octets) = record (only said.Up) { up = Some (record { note = note; octets = octets }) }
-line_reception line.Held = only said.Held
-line_reception line.Relayed = only said.Relayed
-line_reception line.Answered = only said.Answered
-line_reception line.Learned = only said.Learned
-line_reception line.Broken = only said.Broken
-line_reception line.Reported = only said.Reported
-line_reception (line.Joining way body) = only said.BadUnit
-line_reception (line.Local from all code body) = only said.BadUnit
+abbrev pub station_reception : Heard → Reception
+station_reception (station.Up from note octets) = record (only said.Up) { up = Some (record { note = note; octets = octets }) }
+station_reception station.Held = only said.Held
+station_reception station.Relayed = only said.Relayed
+station_reception station.Answered = only said.Answered
+station_reception station.Learned = only said.Learned
+station_reception station.Broken = only said.Broken
+station_reception station.Reported = only said.Reported
+station_reception (station.Joining way body) = only said.BadUnit
+station_reception (station.Local from all code body) = only said.BadUnit
 
 -- what a meter made of a frame
 abbrev pub meter_reception : Result MeterHeard Dropped → Reception
-meter_reception (Ok (meter.Line h)) = line_reception h
+meter_reception (Ok (meter.Station h)) = station_reception h
 meter_reception (Ok meter.Carried) = only said.Carried
 meter_reception (Ok meter.Replied) = only said.Replied
 meter_reception (Ok (meter.Took agreed)) = record (only said.Took) { took = Some agreed }
@@ -177,7 +177,7 @@ meter_reception (Err reason) = only (drop_word reason)
 
 -- what the coordinator made of a frame
 abbrev pub coordinator_reception : Result CoordinatorHeard Dropped → Reception
-coordinator_reception (Ok (coordinator_heard.Line h)) = line_reception h
+coordinator_reception (Ok (coordinator_heard.Station h)) = station_reception h
 coordinator_reception (Ok coordinator_heard.Challenged) = only said.Challenged
 coordinator_reception (Ok (coordinator_heard.Keyed eui granted)) = record (only said.Keyed) { keyed = Some (record { eui = eui; granted = granted }) }
 coordinator_reception (Ok (coordinator_heard.Done eui agreed)) = record (only said.Done) { done = Some (record { eui = eui; agreed = agreed }) }

@@ -3,7 +3,7 @@ use Rattle.std.specs.Prelude.{◌≡◌, ◌+◌, ◌≤◌, true, List, [], ◌
 use Rattle.plc_base.specs.declared.tags.PairTag.{PairTag}
 use Rattle.node_rules.specs.Ciphers.{Ciphers}
 use Rattle.line_rules.specs.declared.event.Event.{Event}
-use Rattle.line_rules.specs.Worlds.{World, Flight, Deeds}
+use Rattle.line_rules.specs.Worlds.{World, Flight, Trace}
 use Rattle.line_rules.specs.Steps.{step}
 
 -- A flight as it was, lost or not; one that was lost stays so.
@@ -31,4 +31,4 @@ pub record GoesOn (w v : World) : Type 0 where
 
 -- every event that is taken leads one event on
 abbrev pub StepsGoOn : Type 0
-StepsGoOn = (ciphers : Ciphers) (w v : World) (event : Event) (d : Deeds) → step ciphers w event ≡ Ok (v, d) → GoesOn w v
+StepsGoOn = (ciphers : Ciphers) (w v : World) (event : Event) (d : Trace) → step ciphers w event ≡ Ok (v, d) → GoesOn w v

@@ -12,8 +12,8 @@ use Rattle.line_rules.specs.declared.event.Event.{Event}
 use Rattle.line_rules.specs.declared.event.Event.TheVariants as events
 use Rattle.node_rules.specs.Ciphers.{Ciphers}
 use Rattle.node_rules.specs.Memory.{Memory, Node, Role, Coordinator, Meter, node_address, node_route}
-use Rattle.node_rules.specs.Doings.{blocks_waiting}
-use Rattle.line_rules.specs.Worlds.{Flight, World, node_at, Sending, Issued, Pairing, Deeds}
+use Rattle.node_rules.specs.Drafts.{blocks_waiting}
+use Rattle.line_rules.specs.Worlds.{Flight, World, node_at, Sending, Issued, Pairing, Trace}
 use Rattle.line_rules.specs.declared.happenings.Handed.{Handed}
 use Rattle.line_rules.specs.Steps.{Step, step}
 
@@ -24,13 +24,13 @@ pub record Entry : Type 0 where
   -- the number of the event, from 1
   pub number : ℕ
   pub event : Event
-  pub deeds : Deeds
+  pub trace : Trace
   -- the world after it
   pub after : World
 
 -- an event that is taken is an entry, and the rest follows; one that is not taken ends the run
 abbrev pub entries_of : World → Event → Step → (World → List Entry) → List Entry
-entries_of w event (Ok r) rest = record { number = w.events + 1; event = event; deeds = r.1; after = r.0 } ∷ rest r.0
+entries_of w event (Ok r) rest = record { number = w.events + 1; event = event; trace = r.1; after = r.0 } ∷ rest r.0
 entries_of w event (Err fault) rest = []
 
 -- the run of events from a world on, up to the first that is not taken; it has at most 50,000 events
@@ -41,14 +41,14 @@ run ciphers w (event ∷ events) = if nat_lt w.events 50000 then entries_of w ev
 -- the entries are a run from a world on
 abbrev pub IsRun : Ciphers → World → List Entry → Type 0
 IsRun ciphers w [] = Unit {0}
-IsRun ciphers w (x ∷ xs) = (w.events < 50000) × (x.number ≡ w.events + 1) × (step ciphers w x.event ≡ Ok (x.after, x.deeds)) × IsRun ciphers x.after xs
+IsRun ciphers w (x ∷ xs) = (w.events < 50000) × (x.number ≡ w.events + 1) × (step ciphers w x.event ≡ Ok (x.after, x.trace)) × IsRun ciphers x.after xs
 
 -- # What a history tells
 
 -- what each entry tells, in order
-abbrev pub all_of : {A : Type 0} → (Deeds → List A) → List Entry → List A
+abbrev pub all_of : {A : Type 0} → (Trace → List A) → List Entry → List A
 all_of told [] = []
-all_of told (x ∷ xs) = told x.deeds ++ all_of told xs
+all_of told (x ∷ xs) = told x.trace ++ all_of told xs
 
 -- a list of what is there
 abbrev pub one_of : {A : Type 0} → Option A → List A
@@ -77,7 +77,7 @@ send_at sent number = if number == 0 then None else slice_get sent (number - 1)
 
 -- no event of a run is forged
 abbrev pub NoneForged : List Entry → Type 0
-NoneForged entries = All (λ (x : Entry). x.deeds.happened.forged ≡ false) entries
+NoneForged entries = All (λ (x : Entry). x.trace.happened.forged ≡ false) entries
 
 -- # What holds of a world
 
@@ -133,7 +133,7 @@ HoldsIssued given eui g = IsIssued given eui 0 g.key0 × IsIssued given eui 1 g.
 abbrev pub HasIssuedKeys : List Issued → Eui → Role → Option Memory → Type 0
 HasIssuedKeys given eui Coordinator memory = Unit {0}
 HasIssuedKeys given eui (Meter psk) None = Unit {0}
-HasIssuedKeys given eui (Meter psk) (Some m) = IfSome m.line.ring (λ g. HoldsIssued given eui g)
+HasIssuedKeys given eui (Meter psk) (Some m) = IfSome m.station.ring (λ g. HoldsIssued given eui g)
 
 -- each meter holds issued keys
 abbrev pub HasOnlyIssuedKeys : List Issued → World → Type 0
@@ -141,11 +141,11 @@ HasOnlyIssuedKeys given w = All (λ (x : Node). HasIssuedKeys given x.eui x.role
 
 -- no table passes its size
 pub record IsWithinSizes (m : Memory) : Type 0 where
-  pub peers : length m.line.marks ≤ 64
-  pub ranks : length m.line.routing.entries ≤ 64
-  pub floors : length m.line.routing.floors ≡ 16
-  pub reassemblies : (length m.line.reassemblies ≤ 8) × (blocks_held m.line.reassemblies ≤ 80)
-  pub waiting : (length m.line.waiting ≤ 8) × (blocks_waiting m.line ≤ 80)
+  pub peers : length m.station.marks ≤ 64
+  pub ranks : length m.station.routing.entries ≤ 64
+  pub floors : length m.station.routing.floors ≡ 16
+  pub reassemblies : (length m.station.reassemblies ≤ 8) × (blocks_held m.station.reassemblies ≤ 80)
+  pub waiting : (length m.station.waiting ≤ 8) × (blocks_waiting m.station ≤ 80)
   pub sessions : length m.sessions ≤ 8
   pub randoms : length m.randoms ≤ 8
   pub book : length m.book ≤ 999
@@ -170,16 +170,16 @@ IsNew up handed = All (λ (v : Handed). v.note ≢ up.note) handed
 
 -- An event is safe after what was sent, handed up and issued before it.
 pub record IsSafeAt (before : List Entry) (x : Entry) : Type 0 where
-  pub up : IfSome x.deeds.happened.up (λ up. WasSent up (sends before) × IsNew up (ups before))
+  pub up : IfSome x.trace.happened.up (λ up. WasSent up (sends before) × IsNew up (ups before))
   pub loops : HasNoLoop x.after
   pub keys : HasOnlyIssuedKeys (issued (before ++ x ∷ [])) x.after
   pub sizes : IsSized x.after
-  pub flights : x.deeds.happened.flights ≤ 24
+  pub flights : x.trace.happened.flights ≤ 24
 
 -- each event of a history up to the first forged one is safe
 abbrev pub IsSafeAfter : List Entry → List Entry → Type 0
 IsSafeAfter before [] = Unit {0}
-IsSafeAfter before (x ∷ xs) = x.deeds.happened.forged ≡ false → IsSafeAt before x × IsSafeAfter (before ++ x ∷ []) xs
+IsSafeAfter before (x ∷ xs) = x.trace.happened.forged ≡ false → IsSafeAt before x × IsSafeAfter (before ++ x ∷ []) xs
 
 -- Every datagram that a run hands up was sent to that node with the same octets, and none is handed up twice; after each event valid
 -- next hops form no loop, a joined meter holds only keys that were issued to it, and no table passes its size. It holds of each front of
@@ -219,13 +219,13 @@ CountersRise entries = All (λ (x : Entry). AllPairs CounterRises x.after.flight
 -- In every run, up to its first forged event, no two flights that were sealed under one key have one nonce.
 abbrev pub NoncesDiffer : List Entry → Type 0
 NoncesDiffer [] = Unit {0}
-NoncesDiffer (x ∷ xs) = x.deeds.happened.forged ≡ false → AllPairs HasAnotherNonce x.after.flights × NoncesDiffer xs
+NoncesDiffer (x ∷ xs) = x.trace.happened.forged ≡ false → AllPairs HasAnotherNonce x.after.flights × NoncesDiffer xs
 
 -- # Every run, forged or not
 
 -- no table passes its size, and no step sends more than 24 frames
 abbrev pub IsAlwaysSized : List Entry → Type 0
-IsAlwaysSized entries = All (λ (x : Entry). IsSized x.after × (x.deeds.happened.flights ≤ 24)) entries
+IsAlwaysSized entries = All (λ (x : Entry). IsSized x.after × (x.trace.happened.flights ≤ 24)) entries
 
 -- a restart finds a store that has a reading
 abbrev pub is_restart : Event → Bool
@@ -234,7 +234,7 @@ is_restart _ = false
 
 -- every restart is answered Restarted
 abbrev pub RestartsAreAnswered : List Entry → Type 0
-RestartsAreAnswered entries = All (λ (x : Entry). is_restart x.event ≡ true → x.deeds.happened.answer ≡ said.Restarted) entries
+RestartsAreAnswered entries = All (λ (x : Entry). is_restart x.event ≡ true → x.trace.happened.answer ≡ said.Restarted) entries
 
 -- # Agreement
 
@@ -247,7 +247,7 @@ pub record WasTaken (done : Pairing) (before : List Pairing) : Type 0 where
 abbrev pub AgreesAfter : List Entry → List Entry → Type 0
 AgreesAfter before [] = Unit {0}
 AgreesAfter before (x ∷ xs) =
-    x.deeds.happened.forged ≡ false → IfSome x.deeds.done (λ done. WasTaken done (takings before)) × AgreesAfter (before ++ x ∷ []) xs
+    x.trace.happened.forged ≡ false → IfSome x.trace.done (λ done. WasTaken done (takings before)) × AgreesAfter (before ++ x ∷ []) xs
 
 -- the same from the beginning of a run
 abbrev pub Agrees : List Entry → Type 0
@@ -258,7 +258,7 @@ Agrees entries = AgreesAfter [] entries
 -- the key stands in a ring
 abbrev pub HasKey : Option Memory → Key → Type 0
 HasKey None key = ⊥
-HasKey (Some m) key = InRing m.line.ring
+HasKey (Some m) key = InRing m.station.ring
   where
     InRing : Option Granted → Type 0
     InRing None = ⊥
@@ -289,7 +289,7 @@ is_allow_of number _ = false
 -- The entry in which a meter is kicked.
 pub record IsKicked (number : ℕ) (x : Entry) : Type 0 where
   pub event : is_kick_of number x.event ≡ true
-  pub answer : x.deeds.happened.answer ≡ said.Kicked
+  pub answer : x.trace.happened.answer ≡ said.Kicked
 
 -- no entry allows a meter
 abbrev pub NeverAllowed : ℕ → List Entry → Type 0

@@ -31,25 +31,25 @@ use Rattle.node_rules.specs.declared.refusal.RandomFault.TheVariants as randoms
 use Rattle.node_rules.specs.declared.refusal.SendRefusal.TheVariants as sends
 use Rattle.node_rules.specs.Ciphers.{Ciphers}
 use Rattle.node_rules.specs.Frames.{Sent, spelled, arrived}
-use Rattle.node_rules.specs.Memory.{Line, Memory, Node, Role, Coordinator, Meter, node_address}
+use Rattle.node_rules.specs.Memory.{StationMemory, Memory, Node, Role, Coordinator, Meter, node_address}
 use Rattle.node_rules.specs.Plans.{Plan}
-use Rattle.node_rules.specs.NodeSteps.{Did, acts, stays, of_line, answering, changing}
+use Rattle.node_rules.specs.NodeSteps.{NodeStep, acts, stays, of_station, answering, changing}
 use Rattle.node_rules.specs.Accepting.{accept, same_eui}
 use Rattle.node_rules.specs.Calls as calls
-use Rattle.node_rules.specs.Holding.{with_line, give_random}
+use Rattle.node_rules.specs.MemoryDrafts.{with_station, give_random}
 use Rattle.node_rules.specs.Meters as meters
 use Rattle.node_rules.specs.Coordinators as coordinator_rules
-use Rattle.node_rules.specs.Opening.{memory_of, remembering, blank_line, first_grant}
+use Rattle.node_rules.specs.StoreReading.{memory_of, remembering, blank_station, first_grant}
 use Rattle.line_rules.specs.Answers.{Reception, Up, SentGrant, CompletedJoining, frame_word, sent_word, random_word, join_word, leave_word, ordered_word, meter_reception, coordinator_reception}
 use Rattle.node_rules.specs.Showing.{shown_of}
-use Rattle.line_rules.specs.Worlds.{Flight, World, node_at, flight_at, note_of, is_forged_frame, is_forged_tag, Issued, Pairing, Deeds}
+use Rattle.line_rules.specs.Worlds.{Flight, World, node_at, flight_at, note_of, is_forged_frame, is_forged_tag, Issued, Pairing, Trace}
 use Rattle.line_rules.specs.declared.happenings.Handed.{Handed}
 use Rattle.line_rules.specs.declared.happenings.Admission.{Admission}
 use Rattle.line_rules.specs.declared.happenings.Happenings.{Happenings}
 
 -- what an event gives: the world after it and what it was, or why it was not taken
 abbrev pub Step : Type 0
-Step = Result (World × Deeds) StepFault
+Step = Result (World × Trace) StepFault
 
 -- # What it does to the world
 
@@ -66,11 +66,11 @@ abbrev pub flight_by : ℕ → OutFrame → Flight
 flight_by from f = record { from = from; octets = f.octets; key = f.key; note = f.note; lost = false }
 
 -- the frames of a node as flights, in order
-abbrev pub flights_of : {A : Type 0} → Ciphers → ℕ → Did A → List Flight
+abbrev pub flights_of : {A : Type 0} → Ciphers → ℕ → NodeStep A → List Flight
 flights_of ciphers number d = map (λ frame. flight_by number (spelled ciphers frame)) d.frames
 
 -- the node is the one that is left, its frames fly, and its pair tags are made
-unfoldable pub told : {A : Type 0} → Ciphers → World → ℕ → Did A → World
+unfoldable pub told : {A : Type 0} → Ciphers → World → ℕ → NodeStep A → World
 told ciphers w number d = record w {
   nodes = slice_set w.nodes number d.node;
   flights = w.flights ++ flights_of ciphers number d;
@@ -94,15 +94,15 @@ happened w answer = record {
 }
 
 -- what the report says, and nothing beside it for the history
-abbrev pub deeds : Happenings → Deeds
-deeds h = record { happened = h; sent = None; issued = []; taken = None; done = None; made = []; opened = [] }
+abbrev pub trace_of : Happenings → Trace
+trace_of h = record { happened = h; sent = None; issued = []; taken = None; done = None; made = []; opened = [] }
 
 -- what a node did is told, in the words of its answer
-abbrev pub spoken : World → Did Answer → Deeds
-spoken w d = record (deeds (record (happened w d.answer) { flights = length d.frames })) { made = d.made; opened = d.opened }
+abbrev pub spoken : World → NodeStep Answer → Trace
+spoken w d = record (trace_of (record (happened w d.answer) { flights = length d.frames })) { made = d.made; opened = d.opened }
 
 -- what a node did is told to the world and to the report
-abbrev pub acted : Ciphers → World → ℕ → Did Answer → World × Deeds
+abbrev pub acted : Ciphers → World → ℕ → NodeStep Answer → World × Trace
 acted ciphers w number d = (told ciphers (ran w) number d, spoken w d)
 
 -- # Which events are taken
@@ -139,15 +139,15 @@ at_coordinator w step = on_node w 0 step
 
 -- a node with an empty store
 abbrev pub blank_node : Role → Eui → Node
-blank_node role eui = record { role = role; eui = eui; store = record { records = maps.empty; cut = None }; memory = Some (remembering blank_line []) }
+blank_node role eui = record { role = role; eui = eui; store = record { records = maps.empty; cut = None }; memory = Some (remembering blank_station []) }
 
 -- the coordinator, which begins with its first ring
 abbrev pub coordinator_node : Eui → Key → Node
 coordinator_node eui key = (acts (blank_node Coordinator eui) (Ok tt) (λ m. coordinator_rules.begin m (first_grant key))).node
 
 -- a node more
-abbrev pub made_node : World → Node → World × Deeds
-made_node w x = (record (set_up w) { nodes = w.nodes ++ x ∷ [] }, deeds (happened w said.Made))
+abbrev pub made_node : World → Node → World × Trace
+made_node w x = (record (set_up w) { nodes = w.nodes ++ x ∷ [] }, trace_of (happened w said.Made))
 
 -- whether a node has this EUI
 abbrev pub is_known : World → Eui → Bool
@@ -183,14 +183,14 @@ psk_of x = psk_by x.role
     psk_by (Meter psk) = Some psk
 
 -- the meter gets the grant that the coordinator has for it
-abbrev pub provisioned : Ciphers → World → ℕ → Node → Granted → World × Deeds
+abbrev pub provisioned : Ciphers → World → ℕ → Node → Granted → World × Trace
 provisioned ciphers w number x g = (
   told ciphers w number (acts x (Ok tt) (λ m. meters.provision m g)),
-  record (deeds (happened w said.Joined)) { issued = issued_by x.eui g },
+  record (trace_of (happened w said.Joined)) { issued = issued_by x.eui g },
 )
 
 -- the meter installs what the coordinator granted
-abbrev pub depot_by : Ciphers → World → ℕ → Node → Did (Result Granted CoordinatorRefusal) → Step
+abbrev pub depot_by : Ciphers → World → ℕ → Node → NodeStep (Result Granted CoordinatorRefusal) → Step
 depot_by ciphers w number x d = by_answer d.answer
   where
     by_answer : Result Granted CoordinatorRefusal → Step
@@ -211,15 +211,15 @@ depot ciphers w number = in_setup w (on_node w number (λ x. at_coordinator w (�
 
 -- what a node keeps of an address, and how many ranks it keeps
 abbrev pub keeps_rank : Node → ℕ → Bool
-keeps_rank x dest = option_map_or (λ (m : Memory). is_some (routing.rank_of m.line.routing dest)) x.memory false
+keeps_rank x dest = option_map_or (λ (m : Memory). is_some (routing.rank_of m.station.routing dest)) x.memory false
 
 -- whether a node keeps 64 ranks
 abbrev pub ranks_full : Node → Bool
-ranks_full x = option_map_or (λ (m : Memory). nat_lt 63 (length m.line.routing.entries)) x.memory false
+ranks_full x = option_map_or (λ (m : Memory). nat_lt 63 (length m.station.routing.entries)) x.memory false
 
 -- a node takes a neighbour as a route of one hop
-abbrev pub offered_near : Node → ℕ → ℕ → ℕ → Did (Unit {0})
-offered_near x to cost now = answering (λ _. tt) (acts x (Ok tt) (λ m. of_line m (calls.preset_near m.line to cost now)))
+abbrev pub offered_near : Node → ℕ → ℕ → ℕ → NodeStep (Unit {0})
+offered_near x to cost now = answering (λ _. tt) (acts x (Ok tt) (λ m. of_station m (calls.preset_near m.station to cost now)))
 
 -- of two nodes that have addresses, keep no rank of each other and have room for one
 abbrev pub near_by : Ciphers → World → (a b cost : ℕ) → Node → Node → Option ℕ → Option ℕ → Step
@@ -227,7 +227,7 @@ near_by ciphers w a b cost x y None q = Err faults.Setup
 near_by ciphers w a b cost x y (Some p) None = Err faults.Setup
 near_by ciphers w a b cost x y (Some p) (Some q) =
     if (a == b) || (keeps_rank x q || (ranks_full x || ranks_full y)) then Err faults.Setup
-    else Ok (told ciphers (told ciphers (set_up w) a (offered_near x q cost w.clock)) b (offered_near y p cost w.clock), deeds (happened w said.Set))
+    else Ok (told ciphers (told ciphers (set_up w) a (offered_near x q cost w.clock)) b (offered_near y p cost w.clock), trace_of (happened w said.Set))
 
 -- two nodes are neighbours over a link of this cost
 unfoldable pub near : Ciphers → World → (a b cost : ℕ) → Step
@@ -237,9 +237,9 @@ near ciphers w a b cost =
 -- # counter, number
 
 -- a value of a node is set
-abbrev pub preset : Ciphers → World → ℕ → (Line → calls.Presetting) → Step
+abbrev pub preset : Ciphers → World → ℕ → (StationMemory → calls.Presetting) → Step
 preset ciphers w number plan =
-    in_setup w (on_node w number (λ x. Ok (told ciphers (set_up w) number (acts x (Ok tt) (λ m. of_line m (plan m.line))), deeds (happened w said.Set))))
+    in_setup w (on_node w number (λ x. Ok (told ciphers (set_up w) number (acts x (Ok tt) (λ m. of_station m (plan m.station))), trace_of (happened w said.Set))))
 
 -- # allow, rand, join, leave
 
@@ -253,10 +253,10 @@ admission_by number (Ok address) = Some (record { node = number; address = addre
 admission_by number (Err reason) = None
 
 -- the coordinator has allowed a meter
-abbrev pub allowed : Ciphers → World → ℕ → Did (Result ℕ CoordinatorRefusal) → World × Deeds
+abbrev pub allowed : Ciphers → World → ℕ → NodeStep (Result ℕ CoordinatorRefusal) → World × Trace
 allowed ciphers w number d = (
   told ciphers (ran w) 0 d,
-  deeds (record (happened w (allowed_word d.answer)) { grant = admission_by number d.answer }),
+  trace_of (record (happened w (allowed_word d.answer)) { grant = admission_by number d.answer }),
 )
 
 -- the coordinator allows a meter
@@ -275,9 +275,9 @@ abbrev pub identity : Ciphers → Node → Key → meters.Identity
 identity ciphers x psk = record { eui = x.eui; psk = psk; ciphers = ciphers }
 
 -- of a meter, at an agent that has an address
-abbrev pub joins_by : Ciphers → World → ℕ → Node → Option ℕ → Option Key → World × Deeds
-joins_by ciphers w number x None psk = (ran w, deeds (happened w said.NoAddress))
-joins_by ciphers w number x (Some agent) None = (ran w, deeds (happened w said.NoAddress))
+abbrev pub joins_by : Ciphers → World → ℕ → Node → Option ℕ → Option Key → World × Trace
+joins_by ciphers w number x None psk = (ran w, trace_of (happened w said.NoAddress))
+joins_by ciphers w number x (Some agent) None = (ran w, trace_of (happened w said.NoAddress))
 joins_by ciphers w number x (Some agent) (Some psk) =
     acted ciphers w number (answering join_word (acts x (Err joins.Halted) (λ m. meters.join (identity ciphers x psk) m agent w.clock)))
 
@@ -301,10 +301,10 @@ is_taken _ = false
 
 -- the tag that the next datagram of a node takes
 abbrev pub tag_of : Node → ℕ
-tag_of x = option_map_or (λ m. m.line.next_tag) x.memory 0
+tag_of x = option_map_or (λ m. m.station.next_tag) x.memory 0
 
 -- a datagram that was taken counts as sent
-abbrev pub sent_if : World → ℕ → ℕ → List ℕ → ℕ → Bool → World × Deeds → World × Deeds
+abbrev pub sent_if : World → ℕ → ℕ → List ℕ → ℕ → Bool → World × Trace → World × Trace
 sent_if w from to datagram tag false r = r
 sent_if w from to datagram tag true r = (
   record r.0 { sends = r.0.sends + 1 },
@@ -312,15 +312,15 @@ sent_if w from to datagram tag true r = (
 )
 
 -- what a node did about a datagram
-abbrev pub sending : Ciphers → World → (from to : ℕ) → List ℕ → ℕ → Did Answer → World × Deeds
+abbrev pub sending : Ciphers → World → (from to : ℕ) → List ℕ → ℕ → NodeStep Answer → World × Trace
 sending ciphers w from to datagram tag d = sent_if w from to datagram tag (is_taken d.answer) (acted ciphers w from d)
 
 -- to a target that has an address
-abbrev pub sends_by : Ciphers → World → (from to : ℕ) → List ℕ → Node → Option ℕ → World × Deeds
-sends_by ciphers w from to datagram x None = (ran w, deeds (happened w said.NoAddress))
+abbrev pub sends_by : Ciphers → World → (from to : ℕ) → List ℕ → Node → Option ℕ → World × Trace
+sends_by ciphers w from to datagram x None = (ran w, trace_of (happened w said.NoAddress))
 sends_by ciphers w from to datagram x (Some address) =
     sending ciphers w from to datagram (tag_of x)
-    (answering sent_word (acts x (Err sends.Halted) (λ m. of_line m (calls.send m.line address datagram (w.sends + 1) w.clock))))
+    (answering sent_word (acts x (Err sends.Halted) (λ m. of_station m (calls.send m.station address datagram (w.sends + 1) w.clock))))
 
 -- a datagram is to go from one node to another
 unfoldable pub send : Ciphers → World → (from to : ℕ) → List ℕ → Step
@@ -328,9 +328,9 @@ send ciphers w from to datagram =
     once_begun w (on_node w from (λ x. on_node w to (λ y. Ok (sends_by ciphers w from to datagram x (node_address y)))))
 
 -- the link to a node that has an address breaks
-abbrev pub breaks_by : Ciphers → World → ℕ → Node → Option ℕ → World × Deeds
-breaks_by ciphers w number x None = (ran w, deeds (happened w said.NoAddress))
-breaks_by ciphers w number x (Some next) = acted ciphers w number (acts x said.Halted (λ m. changing said.Broken (with_line (calls.broke next m.line) m)))
+abbrev pub breaks_by : Ciphers → World → ℕ → Node → Option ℕ → World × Trace
+breaks_by ciphers w number x None = (ran w, trace_of (happened w said.NoAddress))
+breaks_by ciphers w number x (Some next) = acted ciphers w number (acts x said.Halted (λ m. changing said.Broken (with_station (calls.broke next m.station) m)))
 
 -- a node is told that its link to another one broke
 unfoldable pub breaks : Ciphers → World → ℕ → ℕ → Step
@@ -340,10 +340,10 @@ breaks ciphers w number next =
 -- # deliver, inject
 
 -- what a node makes of a frame that it accepted, under a note, by its role
-abbrev pub hears : Ciphers → Node → Accepted → (cost note now : ℕ) → Did Reception
+abbrev pub hears : Ciphers → Node → Accepted → (cost note now : ℕ) → NodeStep Reception
 hears ciphers x got cost note now = hears_by x.role
   where
-    hears_by : Role → Did Reception
+    hears_by : Role → NodeStep Reception
     hears_by Coordinator = answering coordinator_reception (acts x (Err drops.Store) (λ m. coordinator_rules.hear_coordinator (record { eui = x.eui; ciphers = ciphers }) m got cost note now))
     hears_by (Meter psk) = answering meter_reception (acts x (Err drops.Store) (λ m. meters.hear_meter (identity ciphers x psk) m got cost note now))
 
@@ -380,8 +380,8 @@ abbrev pub issued_of : Option SentGrant → List Issued
 issued_of keyed = option_map_or (λ (k : SentGrant). issued_by k.eui k.granted) keyed []
 
 -- what a frame led to, for the report and for the history
-abbrev pub reception_deeds : World → ℕ → Bool → Did Reception → Deeds
-reception_deeds w number forged d = record {
+abbrev pub reception_trace : World → ℕ → Bool → NodeStep Reception → Trace
+reception_trace w number forged d = record {
   happened = record (happened w d.answer.answer) {
     forged = forged;
     up = handed_by number d.answer.up;
@@ -398,7 +398,7 @@ reception_deeds w number forged d = record {
 }
 
 -- what a frame led to, in the world
-abbrev pub received : Ciphers → World → ℕ → Bool → Did Reception → World × Deeds
+abbrev pub received : Ciphers → World → ℕ → Bool → NodeStep Reception → World × Trace
 received ciphers w number forged d =
     let told_world = told ciphers (ran w) number d in (
       record told_world {
@@ -406,28 +406,28 @@ received ciphers w number forged d =
         forged = number_if forged w.forged;
         done = number_if (is_some d.answer.done) w.done;
       },
-      reception_deeds w number forged d,
+      reception_trace w number forged d,
     )
 
 -- a frame that was accepted is heard under its note; it is forged where it was sent by nobody, or a pair tag that was found right was
 -- made by nobody
-abbrev pub heard : Ciphers → World → ℕ → Node → List ℕ → Accepted → ℕ → World × Deeds
+abbrev pub heard : Ciphers → World → ℕ → Node → List ℕ → Accepted → ℕ → World × Trace
 heard ciphers w number x octets got cost =
     let d = hears ciphers x got cost (note_by w octets got.path) w.clock in
     received ciphers w number (forged_by w octets got.path || list_any (is_forged_tag w.made) d.opened) d
 
 -- a frame that was accepted is heard, another one is refused
-abbrev pub accepted_by : Ciphers → World → ℕ → List ℕ → ℕ → Did (Result Accepted FrameRefusal) → World × Deeds
+abbrev pub accepted_by : Ciphers → World → ℕ → List ℕ → ℕ → NodeStep (Result Accepted FrameRefusal) → World × Trace
 accepted_by ciphers w number octets cost d = by_answer d.answer
   where
-    by_answer : Result Accepted FrameRefusal → World × Deeds
+    by_answer : Result Accepted FrameRefusal → World × Trace
     by_answer (Ok got) = heard ciphers w number d.node octets got cost
-    by_answer (Err reason) = (told ciphers (ran w) number d, deeds (happened w (frame_word reason)))
+    by_answer (Err reason) = (told ciphers (ran w) number d, trace_of (happened w (frame_word reason)))
 
 -- octets come to a node over a link of a cost
-unfoldable pub arrives : Ciphers → World → ℕ → Node → List ℕ → ℕ → World × Deeds
+unfoldable pub arrives : Ciphers → World → ℕ → Node → List ℕ → ℕ → World × Trace
 arrives ciphers w number x octets cost =
-    accepted_by ciphers w number octets cost (acts x (Err frames.Halted) (λ m. of_line m (accept m.line x.eui (arrived ciphers octets))))
+    accepted_by ciphers w number octets cost (acts x (Err frames.Halted) (λ m. of_station m (accept m.station x.eui (arrived ciphers octets))))
 
 -- a flight that was lost comes no more
 abbrev pub on_flight : World → ℕ → (Flight → Step) → Step
@@ -445,7 +445,7 @@ inject ciphers w number cost octets = once_begun w (on_node w number (λ x. Ok (
 -- a flight is lost
 unfoldable pub lose : World → ℕ → Step
 lose w number =
-    once_begun w (on_flight w number (λ f. Ok (record (ran w) { flights = slice_set w.flights (number - 1) (record f { lost = true }) }, deeds (happened w said.Lost))))
+    once_begun w (on_flight w number (λ f. Ok (record (ran w) { flights = slice_set w.flights (number - 1) (record f { lost = true }) }, trace_of (happened w said.Lost))))
 
 -- # tick, restart, cut, show
 
@@ -462,7 +462,7 @@ unfoldable pub tick : World → ℕ → Step
 tick w seconds =
     once_begun w (Ok (
       record (ran w) { clock = w.clock + seconds; nodes = map (ticked (w.clock + seconds)) w.nodes },
-      deeds (happened w said.Ticked),
+      trace_of (happened w said.Ticked),
     ))
 
 -- the memory that a store gives, and none where it has no reading
@@ -476,7 +476,7 @@ restart_word (Ok m) = said.Restarted
 restart_word (Err bad) = said.BadStore
 
 -- a node has what its store gives, and a loss of power that is still to come stays so
-abbrev pub restarts : Node → Did Answer
+abbrev pub restarts : Node → NodeStep Answer
 restarts x = stays (record x { memory = memory_by (memory_of x.role x.store.records) }) (restart_word (memory_of x.role x.store.records))
 
 -- a node restarts
@@ -491,12 +491,12 @@ cut ciphers w number nth keeps_new =
 
 -- a node shows what it holds
 unfoldable pub show : World → ℕ → Step
-show w number = once_begun w (on_node w number (λ x. Ok (ran w, deeds (record (happened w said.Shown) { shown = Some (shown_of x) }))))
+show w number = once_begun w (on_node w number (λ x. Ok (ran w, trace_of (record (happened w said.Shown) { shown = Some (shown_of x) }))))
 
 -- # rekey, challenge, activate, kick
 
 -- the coordinator carries out an order
-abbrev pub by_coordinator : {A : Type 0} → Ciphers → World → Node → Answer → (Memory → Plan Memory (Result A CoordinatorRefusal)) → World × Deeds
+abbrev pub by_coordinator : {A : Type 0} → Ciphers → World → Node → Answer → (Memory → Plan Memory (Result A CoordinatorRefusal)) → World × Trace
 by_coordinator ciphers w c answer order = acted ciphers w 0 (answering (ordered_word answer) (acts c (Err orders.Halted) order))
 
 -- the coordinator draws a key for an index
@@ -509,7 +509,7 @@ challenge ciphers w number =
     once_begun w (on_meter w number (λ x. at_coordinator w (λ c. Ok (by_coordinator ciphers w c said.Challenged (λ m. coordinator_rules.challenge c.eui m x.eui w.clock)))))
 
 -- the coordinator seals with another key itself, or tells a meter to
-abbrev pub activate_at : Ciphers → World → ℕ → ℕ → Node → Node → World × Deeds
+abbrev pub activate_at : Ciphers → World → ℕ → ℕ → Node → Node → World × Trace
 activate_at ciphers w number index x c =
     if number == 0 then by_coordinator ciphers w c said.Activated (λ m. coordinator_rules.activate_self m index)
     else by_coordinator ciphers w c said.Ordered (λ m. coordinator_rules.activate m x.eui index w.clock)

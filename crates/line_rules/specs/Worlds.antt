@@ -114,7 +114,7 @@ pub record Pairing : Type 0 where
   pub agreed : Agreed
 
 -- What an event was, for who reads the history of a run: what the report says of it, and what it does not.
-pub record Deeds : Type 0 where
+pub record Trace : Type 0 where
   pub happened : Happenings
   pub sent : Option Sending
   pub issued : List Issued

@@ -7,7 +7,7 @@ use plc_base::{OctetRef, Short};
 #[derive(Drop)]
 pub struct Handed<'a> {
     /// The node.
-    pub node: u32,
+    pub node: u16,
     /// The number of the send, from 1, or 0 where no node sent the frame that brought it.
     pub note: u32,
     /// The datagram: 1 to 1,280 octets.
@@ -18,7 +18,7 @@ pub struct Handed<'a> {
 #[derive(Clone, Copy, Debug, PartialEq, Eq)]
 pub struct Admission {
     /// The meter's node.
-    pub node: u32,
+    pub node: u16,
     /// Its short address.
     pub address: Short,
 }
@@ -35,9 +35,9 @@ pub struct Happenings<'a> {
     /// The meter that was allowed, if one was.
     pub grant: Option<Admission>,
     /// The node of the meter that took its grant, if one did.
-    pub took: Option<u32>,
+    pub took: Option<u16>,
     /// The node of the meter whose joining is done, if one is.
-    pub done: Option<u32>,
+    pub done: Option<u16>,
     /// What was shown of a node, if one was.
     pub shown: Option<ShownRef<'a>>,
     /// One more than the number of flights before the event.

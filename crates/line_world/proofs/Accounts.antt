@@ -2,11 +2,11 @@
 use Rattle.std.proofs.Common.{◌≡◌, ◌+◌, ap, length, ◌≤◌, ◌||◌, ◌&&◌, not, Bool, true, false, List, [], ◌++◌, if◌then◌else◌, None, Ok, Err, refl, arith}
 use Rattle.std.proofs.lemmas.List.{append-nil}
 use Rattle.std.specs.Prelude.{◌↔◌}
-use Rattle.line_world.specs.declared.event.Answer.{Answer}
-use Rattle.line_world.specs.declared.event.Event.{Event}
-use Rattle.line_world.specs.declared.event.Handed.{Handed}
-use Rattle.line_world.specs.declared.event.Happenings.{Happenings}
-use Rattle.line_world.specs.declared.event.StepFault.{StepFault}
+use Rattle.line_rules.specs.declared.event.Answer.{Answer}
+use Rattle.line_rules.specs.declared.event.Event.{Event}
+use Rattle.line_rules.specs.declared.happenings.Handed.{Handed}
+use Rattle.line_rules.specs.declared.happenings.Happenings.{Happenings}
+use Rattle.line_rules.specs.declared.event.StepFault.{StepFault}
 use Rattle.line_world.specs.Worlds.{World, Step, happened}
 use Rattle.line_world.specs.Runs.{Sending, Issue, IsSafeAt, sends_at, issues_at, ups_by, IsForged, hearer_of, IsDelivered, Adds}
 use Rattle.line_world.proofs.Histories.{Keeps}

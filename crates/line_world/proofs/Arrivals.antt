@@ -8,7 +8,7 @@ use Rattle.mac_frames.specs.declared.head.MacHead.TheVariants.{Sealed}
 use Rattle.mac_frames.specs.Reading.{head_in, body_in}
 use Rattle.mac_frames.specs.Sealing.{payload_in}
 use Rattle.frame_counters.specs.PeerMarks.{IsCovered, kept_after}
-use Rattle.line_world.specs.declared.event.Handed.{Handed}
+use Rattle.line_rules.specs.declared.happenings.Handed.{Handed}
 use Rattle.line_world.specs.declared.hearing.WholeUnit.{WholeUnit}
 use Rattle.line_world.specs.declared.opening.Opened.{Opened}
 use Rattle.line_world.specs.declared.world.Flight.{Flight}

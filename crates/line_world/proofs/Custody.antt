@@ -7,7 +7,7 @@ use Rattle.std.specs.Prelude.{slice_get}
 use Rattle.mac_frames.specs.declared.head.MacHead.TheVariants.{Sealed}
 use Rattle.mac_frames.specs.Reading.{head_in}
 use Rattle.frame_counters.specs.PeerMarks.{IsCovered}
-use Rattle.line_world.specs.declared.event.Handed.{Handed}
+use Rattle.line_rules.specs.declared.happenings.Handed.{Handed}
 use Rattle.line_world.specs.declared.world.Flight.{Flight}
 use Rattle.line_world.specs.Nodes.{Node}
 use Rattle.line_world.specs.Worlds.{World, start, set_up}

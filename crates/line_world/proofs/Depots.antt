@@ -14,10 +14,10 @@ use Rattle.group_keys.specs.declared.fault.BookFault.{BookFault}
 use Rattle.group_keys.specs.declared.fault.BookFault.TheVariants as book_faults
 use Rattle.group_keys.specs.declared.key_book.BookEntry.{BookEntry}
 use Rattle.group_keys.proofs.Books.{changing_kept}
-use Rattle.line_world.specs.declared.event.Answer.TheVariants.{Joined}
-use Rattle.line_world.specs.declared.event.Event.TheVariants.{Depot}
-use Rattle.line_world.specs.declared.event.Happenings.{Happenings}
-use Rattle.line_world.specs.declared.event.StepFault.TheVariants as faults
+use Rattle.line_rules.specs.declared.event.Answer.TheVariants.{Joined}
+use Rattle.line_rules.specs.declared.event.Event.TheVariants.{Depot}
+use Rattle.line_rules.specs.declared.happenings.Happenings.{Happenings}
+use Rattle.line_rules.specs.declared.event.StepFault.TheVariants as faults
 use Rattle.line_world.specs.Nodes.{Node, address_of}
 use Rattle.line_world.specs.Worlds.{World, node_at, takes_setup}
 use Rattle.line_world.specs.Setup.{granted, allowed, issued, grant_of, joined, joining_at, joining_under, joining_by, joining, depoted}

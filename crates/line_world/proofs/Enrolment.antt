@@ -4,8 +4,8 @@ use Rattle.std.specs.Prelude.{◌==◌, ◌||◌, is_some, IfSome}
 use Rattle.plc_base.specs.Grant.{Granted}
 use Rattle.plc_base.proofs.SlotTables.{slice_get-set_other}
 use Rattle.group_keys.specs.KeyBook.{has_room, place_for}
-use Rattle.line_world.specs.declared.event.Happenings.{Happenings}
-use Rattle.line_world.specs.declared.event.StepFault.TheVariants as faults
+use Rattle.line_rules.specs.declared.happenings.Happenings.{Happenings}
+use Rattle.line_rules.specs.declared.event.StepFault.TheVariants as faults
 use Rattle.line_world.specs.Nodes.{Node}
 use Rattle.line_world.specs.Worlds.{World, node_at, takes_setup}
 use Rattle.line_world.specs.Enrolling.{enrolled, installed}

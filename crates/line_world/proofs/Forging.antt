@@ -8,9 +8,9 @@ use Rattle.mac_frames.specs.Faults.{frame_fault}
 use Rattle.mac_frames.specs.Reading.{head_in, body_in}
 use Rattle.frame_counters.specs.PeerMarks.{mark_of}
 use Rattle.group_keys.specs.KeyRing.{key_in_ring}
-use Rattle.line_world.specs.declared.event.Answer.{Answer}
-use Rattle.line_world.specs.declared.event.Answer.TheVariants.{Malformed, NotForMe, NoKey, BadTag, Replayed, PeersFull}
-use Rattle.line_world.specs.declared.event.Event.{Event}
+use Rattle.line_rules.specs.declared.event.Answer.{Answer}
+use Rattle.line_rules.specs.declared.event.Answer.TheVariants.{Malformed, NotForMe, NoKey, BadTag, Replayed, PeersFull}
+use Rattle.line_rules.specs.declared.event.Event.{Event}
 use Rattle.line_world.specs.declared.opening.Opened.{Opened}
 use Rattle.line_world.specs.declared.world.Flight.{Flight}
 use Rattle.line_world.specs.Nodes.{Node}

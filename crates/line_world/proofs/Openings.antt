@@ -12,8 +12,8 @@ use Rattle.mac_frames.specs.Sealing.{payload_in}
 use Rattle.frame_counters.specs.declared.fault.PeerFault.TheVariants as peer_faults
 use Rattle.frame_counters.specs.PeerMarks.{Table, mark_of, peer_at, place_of, room_for}
 use Rattle.group_keys.specs.KeyRing.{Ring, key_in_ring}
-use Rattle.line_world.specs.declared.event.Answer.{Answer}
-use Rattle.line_world.specs.declared.event.Answer.TheVariants.{Malformed, NotForMe, BadTag, Replayed, PeersFull}
+use Rattle.line_rules.specs.declared.event.Answer.{Answer}
+use Rattle.line_rules.specs.declared.event.Answer.TheVariants.{Malformed, NotForMe, BadTag, Replayed, PeersFull}
 use Rattle.line_world.specs.declared.opening.Opened.{Opened}
 use Rattle.line_world.specs.Nodes.{Node, address_of, is_own}
 use Rattle.line_world.specs.Opening.{is_for, has_tag, mark_fault, unless, opening_under, opening_by, opening_head, opening}

@@ -7,13 +7,13 @@ use Rattle.plc_base.specs.Grant.{Granted}
 use Rattle.frame_counters.specs.PeerMarks.{IsCovered, at_rest, kept_after}
 use Rattle.frame_counters.specs.SendCounter.{is_spent, reserved}
 use Rattle.group_keys.specs.KeyRing.{Ring}
-use Rattle.line_world.specs.declared.event.Answer.{Answer}
-use Rattle.line_world.specs.declared.event.Answer.TheVariants.{Up, Lost, Restarted, NoAddress, NotJoined, BadSize, ToSelf, NoRoute, CounterSpent, BadUnit}
-use Rattle.line_world.specs.declared.event.Event.{Event}
-use Rattle.line_world.specs.declared.event.Event.TheVariants.{Send, Deliver, Inject, Lose, Restart}
-use Rattle.line_world.specs.declared.event.Handed.{Handed}
-use Rattle.line_world.specs.declared.event.Happenings.{Happenings}
-use Rattle.line_world.specs.declared.event.StepFault.TheVariants as faults
+use Rattle.line_rules.specs.declared.event.Answer.{Answer}
+use Rattle.line_rules.specs.declared.event.Answer.TheVariants.{Up, Lost, Restarted, NoAddress, NotJoined, BadSize, ToSelf, NoRoute, CounterSpent, BadUnit}
+use Rattle.line_rules.specs.declared.event.Event.{Event}
+use Rattle.line_rules.specs.declared.event.Event.TheVariants.{Send, Deliver, Inject, Lose, Restart}
+use Rattle.line_rules.specs.declared.happenings.Handed.{Handed}
+use Rattle.line_rules.specs.declared.happenings.Happenings.{Happenings}
+use Rattle.line_rules.specs.declared.event.StepFault.TheVariants as faults
 use Rattle.line_world.specs.declared.hearing.WholeUnit.{WholeUnit}
 use Rattle.line_world.specs.declared.opening.Opened.{Opened}
 use Rattle.line_world.specs.declared.world.Flight.{Flight}

@@ -1,11 +1,11 @@
 -- Every run: what holds of each event holds of the whole.
 use Rattle.std.proofs.Common.{◌≡◌, ℕ, Bool, true, false, List, [], ◌∷◌, ◌++◌, nat_lt, if◌then◌else◌, Option, None, Some, Ok, Err, refl, sym, ap}
 use Rattle.std.proofs.lemmas.Bool.{ltb-true}
-use Rattle.line_world.specs.declared.event.Event.{Event}
-use Rattle.line_world.specs.declared.event.Event.TheVariants.{Coordinator, Meter, Depot, Near, Counter, Send, Deliver, Inject, Lose, Restart}
-use Rattle.line_world.specs.declared.event.Handed.{Handed}
-use Rattle.line_world.specs.declared.event.Happenings.{Happenings}
-use Rattle.line_world.specs.declared.event.StepFault.TheVariants as faults
+use Rattle.line_rules.specs.declared.event.Event.{Event}
+use Rattle.line_rules.specs.declared.event.Event.TheVariants.{Coordinator, Meter, Depot, Near, Counter, Send, Deliver, Inject, Lose, Restart}
+use Rattle.line_rules.specs.declared.happenings.Handed.{Handed}
+use Rattle.line_rules.specs.declared.happenings.Happenings.{Happenings}
+use Rattle.line_rules.specs.declared.event.StepFault.TheVariants as faults
 use Rattle.line_world.specs.Nodes.{Node}
 use Rattle.line_world.specs.Worlds.{World, Step, start, node_at, has_begun}
 use Rattle.line_world.specs.Sending.{renewed, restarting_by, restarting}
@@ -20,6 +20,10 @@ use Rattle.line_world.proofs.Setups.{coordinated_good, metered_good, neared_good
 use Rattle.line_world.proofs.Depots.{depoted_good}
 use Rattle.line_world.proofs.Running.{sending_good, delivering_good, injecting_good, losing_good, restarting_good}
 
+-- an event of a kind that is not on the line is not taken
+not_taken : (q : World × Happenings) → (let s : Step = Err faults.Setup in s ≡ taken_as q) → ⊥
+not_taken q is = cc
+
 step_good : (w : World) (sent : List Sending) (issues : List Issue) → Keeps w sent issues → (event : Event) (q : World × Happenings) → step w event ≡ taken_as q → Good w sent issues event q
 step_good w sent issues k (Coordinator eui key) q is = coordinated_good w sent issues k eui key q is
 step_good w sent issues k (Meter eui psk) q is = metered_good w sent issues k eui psk q is
@@ -31,6 +35,7 @@ step_good w sent issues k (Deliver flight node cost) q is = delivering_good w se
 step_good w sent issues k (Inject node cost octets) q is = injecting_good w sent issues k node cost octets q is
 step_good w sent issues k (Lose flight) q is = losing_good w sent issues k flight q is
 step_good w sent issues k (Restart node) q is = restarting_good w sent issues k node q is
+step_good w sent issues k _ q is = absurd (not_taken q is)
 
 -- ---- safe runs
 

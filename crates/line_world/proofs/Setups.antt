@@ -11,11 +11,11 @@ use Rattle.plc_base.specs.declared.key.Key.{Key}
 use Rattle.frame_counters.specs.PeerMarks.{IsCovered}
 use Rattle.frame_counters.specs.SendCounter.{counting_at}
 use Rattle.group_keys.specs.KeyBook as book
-use Rattle.line_world.specs.declared.event.Answer.TheVariants.{Made, Set}
-use Rattle.line_world.specs.declared.event.Event.{Event}
-use Rattle.line_world.specs.declared.event.Event.TheVariants.{Coordinator, Meter, Near, Counter}
-use Rattle.line_world.specs.declared.event.Happenings.{Happenings}
-use Rattle.line_world.specs.declared.event.StepFault.TheVariants as faults
+use Rattle.line_rules.specs.declared.event.Answer.TheVariants.{Made, Set}
+use Rattle.line_rules.specs.declared.event.Event.{Event}
+use Rattle.line_rules.specs.declared.event.Event.TheVariants.{Coordinator, Meter, Near, Counter}
+use Rattle.line_rules.specs.declared.happenings.Happenings.{Happenings}
+use Rattle.line_rules.specs.declared.event.StepFault.TheVariants as faults
 use Rattle.line_world.specs.Nodes.{Node, new_node, address_of, has_neighbour}
 use Rattle.line_world.specs.Worlds.{World, node_at, happened, has_begun, takes_setup}
 use Rattle.line_world.specs.Setup.{first_grant, granted, made, is_known, coordinated, metered, with_neighbour, set_near, nearing_by, nearing, neared, counted, counting_by, counting}

@@ -12,8 +12,8 @@ use Rattle.mac_frames.specs.Sealing.{HasTag, nonce_of, payload_in, sealed_tag}
 use Rattle.frame_counters.specs.PeerMarks.{Table, place_of, peer_at, mark_of, room_for}
 use Rattle.frame_counters.specs.declared.fault.PeerFault.{PeerFault}
 use Rattle.frame_counters.specs.declared.fault.PeerFault.TheVariants as faults
-use Rattle.line_world.specs.declared.event.Answer.{Answer}
-use Rattle.line_world.specs.declared.event.Answer.TheVariants.{Replayed, PeersFull}
+use Rattle.line_rules.specs.declared.event.Answer.{Answer}
+use Rattle.line_rules.specs.declared.event.Answer.TheVariants.{Replayed, PeersFull}
 use Rattle.line_world.specs.Opening.{has_tag, mark_fault}
 
 pub tag_true : (key : Key) (head : MacHead) (front body : List ℕ) → front ≡ header head → HasTag key.0 head front body → has_tag key head body ≡ true

@@ -4,8 +4,8 @@ use Rattle.plc_base.specs.Grant.{Granted}
 use Rattle.plc_base.specs.declared.address.Eui.{Eui}
 use Rattle.plc_base.specs.declared.key.Key.{Key}
 use Rattle.group_keys.specs.KeyBook.{Book, allow_change, issue_change, changing_after}
-use Rattle.line_world.specs.declared.event.Happenings.{Happenings}
-use Rattle.line_world.specs.declared.event.Answer.TheVariants.{Joined}
+use Rattle.line_rules.specs.declared.happenings.Happenings.{Happenings}
+use Rattle.line_rules.specs.declared.event.Answer.TheVariants.{Joined}
 use Rattle.line_world.specs.Nodes.{Node}
 use Rattle.line_world.specs.Setup.{granted}
 use Rattle.line_world.specs.Worlds.{World, happened, set_up}

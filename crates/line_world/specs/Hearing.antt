@@ -1,10 +1,10 @@
 -- What `deliver` and `inject` do: octets come to a node.
 use Rattle.std.specs.Prelude.{ℕ, ◌+◌, ◌==◌, Bool, List, if◌then◌else◌, Option, None, Some, Ok, Err, Result, slice_set}
 use Rattle.frame_counters.specs.PeerMarks.{kept_after}
-use Rattle.line_world.specs.declared.event.Answer.{Answer}
-use Rattle.line_world.specs.declared.event.Answer.TheVariants.{Up, NoRoute, BadUnit}
-use Rattle.line_world.specs.declared.event.Happenings.{Happenings}
-use Rattle.line_world.specs.declared.event.StepFault.TheVariants as faults
+use Rattle.line_rules.specs.declared.event.Answer.{Answer}
+use Rattle.line_rules.specs.declared.event.Answer.TheVariants.{Up, NoRoute, BadUnit}
+use Rattle.line_rules.specs.declared.happenings.Happenings.{Happenings}
+use Rattle.line_rules.specs.declared.event.StepFault.TheVariants as faults
 use Rattle.line_world.specs.declared.world.Flight.{Flight}
 use Rattle.line_world.specs.declared.hearing.WholeUnit.{WholeUnit}
 use Rattle.line_world.specs.declared.opening.Opened.{Opened}

@@ -11,8 +11,8 @@ use Rattle.mac_frames.specs.Reading.{head_in, body_in}
 use Rattle.mac_frames.specs.Sealing.{nonce_of, payload_in, sealed_tag}
 use Rattle.frame_counters.specs.PeerMarks.{mark_of}
 use Rattle.group_keys.specs.KeyRing.{key_in_ring}
-use Rattle.line_world.specs.declared.event.Answer.{Answer}
-use Rattle.line_world.specs.declared.event.Answer.TheVariants.{Malformed, NotForMe, NoKey, BadTag, Replayed, PeersFull, BadUnit}
+use Rattle.line_rules.specs.declared.event.Answer.{Answer}
+use Rattle.line_rules.specs.declared.event.Answer.TheVariants.{Malformed, NotForMe, NoKey, BadTag, Replayed, PeersFull, BadUnit}
 use Rattle.line_world.specs.declared.opening.Opened.{Opened}
 use Rattle.line_world.specs.Nodes.{Node, is_own}
 

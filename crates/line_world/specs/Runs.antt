@@ -7,12 +7,12 @@ use Rattle.mac_frames.specs.declared.head.MacHead.TheVariants as heads
 use Rattle.mac_frames.specs.Grammar.{Frame, IsSealed}
 use Rattle.mac_frames.specs.Sealing.{nonce_of}
 use Rattle.group_keys.specs.KeyRing.{Ring, key_in_ring}
-use Rattle.line_world.specs.declared.event.Answer.{Answer}
-use Rattle.line_world.specs.declared.event.Answer.TheVariants.{Sent, Restarted, Up, NotForMe, NoKey, BadTag, Replayed, PeersFull}
-use Rattle.line_world.specs.declared.event.Event.{Event}
-use Rattle.line_world.specs.declared.event.Event.TheVariants.{Depot, Send, Deliver, Inject, Restart}
-use Rattle.line_world.specs.declared.event.Handed.{Handed}
-use Rattle.line_world.specs.declared.event.Happenings.{Happenings}
+use Rattle.line_rules.specs.declared.event.Answer.{Answer}
+use Rattle.line_rules.specs.declared.event.Answer.TheVariants.{Sent, Restarted, Up, NotForMe, NoKey, BadTag, Replayed, PeersFull}
+use Rattle.line_rules.specs.declared.event.Event.{Event}
+use Rattle.line_rules.specs.declared.event.Event.TheVariants.{Depot, Send, Deliver, Inject, Restart}
+use Rattle.line_rules.specs.declared.happenings.Handed.{Handed}
+use Rattle.line_rules.specs.declared.happenings.Happenings.{Happenings}
 use Rattle.line_world.specs.declared.opening.Opened.{Opened}
 use Rattle.line_world.specs.declared.world.Flight.{Flight}
 use Rattle.line_world.specs.Nodes.{Node, address_of}
@@ -287,8 +287,8 @@ HaveNewNonces (x ∷ xs) = NoncesDiffer x.after.flights × HaveNewNonces xs
 
 -- a restart finds a store that has a reading
 abbrev pub RestartsAt : Event → Answer → Type 0
-RestartsAt (Restart node) answer = answer ≡ Restarted
-RestartsAt _ answer = Unit {0}
+RestartsAt (Restart node) word = word ≡ Restarted
+RestartsAt _ word = Unit {0}
 
 abbrev pub IsRestarting : List Entry → Type 0
 IsRestarting [] = Unit {0}

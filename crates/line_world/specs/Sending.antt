@@ -11,9 +11,9 @@ use Rattle.mesh_header.specs.declared.unit.Unit.TheVariants.{Whole}
 use Rattle.mesh_header.specs.Grammar.{spelling}
 use Rattle.frame_counters.specs.SendCounter.{is_spent, reserved}
 use Rattle.group_keys.specs.KeyRing.{Ring}
-use Rattle.line_world.specs.declared.event.Happenings.{Happenings}
-use Rattle.line_world.specs.declared.event.Answer.TheVariants.{Sent, Lost, Restarted, NoAddress, NotJoined, BadSize, ToSelf, NoRoute, CounterSpent}
-use Rattle.line_world.specs.declared.event.StepFault.TheVariants as faults
+use Rattle.line_rules.specs.declared.happenings.Happenings.{Happenings}
+use Rattle.line_rules.specs.declared.event.Answer.TheVariants.{Sent, Lost, Restarted, NoAddress, NotJoined, BadSize, ToSelf, NoRoute, CounterSpent}
+use Rattle.line_rules.specs.declared.event.StepFault.TheVariants as faults
 use Rattle.line_world.specs.declared.world.Flight.{Flight}
 use Rattle.line_world.specs.Nodes.{Node, address_of, has_neighbour, restarted}
 use Rattle.line_world.specs.Flights.{not_lost}
@@ -60,7 +60,7 @@ went w from x ring to datagram = (
     nodes = slice_set w.nodes from (record x { counter = reserved x.counter 1 });
     flights = w.flights ++ flight_of from ring x.counter.next (w.sends + 1) to datagram ∷ [];
   },
-  record { answer = Sent; forged = false; up = None; first_flight = length w.flights + 1; flights = 1 },
+  record { answer = Sent; forged = false; up = None; grant = None; took = None; done = None; shown = None; first_flight = length w.flights + 1; flights = 1 },
 )
 
 -- a datagram that goes out whole has 1 to 375 octets

@@ -8,9 +8,9 @@ use Rattle.frame_counters.specs.SendCounter.{counting_at}
 use Rattle.group_keys.specs.KeyRing.{Ring}
 use Rattle.group_keys.specs.KeyBook.{Book, eui_number, allow_change, issue_change, changing_after, changing_result}
 use Rattle.group_keys.specs.declared.fault.BookFault.{BookFault}
-use Rattle.line_world.specs.declared.event.Happenings.{Happenings}
-use Rattle.line_world.specs.declared.event.Answer.TheVariants.{Made, Joined, Set}
-use Rattle.line_world.specs.declared.event.StepFault.TheVariants as faults
+use Rattle.line_rules.specs.declared.happenings.Happenings.{Happenings}
+use Rattle.line_rules.specs.declared.event.Answer.TheVariants.{Made, Joined, Set}
+use Rattle.line_rules.specs.declared.event.StepFault.TheVariants as faults
 use Rattle.line_world.specs.Nodes.{Node, new_node, address_of, has_neighbour}
 use Rattle.line_world.specs.Worlds.{World, Step, node_at, happened, set_up, has_begun, takes_setup}
 

@@ -1,10 +1,10 @@
 -- What one event does to the world.
 use Rattle.std.specs.Prelude.{◌≡◌, Bool, true, false, Ok, Err, Result, IfErr}
-use Rattle.line_world.specs.declared.event.Event.{Event}
-use Rattle.line_world.specs.declared.event.Event.TheVariants.{Coordinator, Meter, Depot, Near, Counter, Send, Deliver, Inject, Lose, Restart}
-use Rattle.line_world.specs.declared.event.Happenings.{Happenings}
-use Rattle.line_world.specs.declared.event.StepFault.{StepFault}
-use Rattle.line_world.specs.declared.event.StepFault.TheVariants as faults
+use Rattle.line_rules.specs.declared.event.Event.{Event}
+use Rattle.line_rules.specs.declared.event.Event.TheVariants.{Coordinator, Meter, Depot, Near, Counter, Send, Deliver, Inject, Lose, Restart}
+use Rattle.line_rules.specs.declared.happenings.Happenings.{Happenings}
+use Rattle.line_rules.specs.declared.event.StepFault.{StepFault}
+use Rattle.line_rules.specs.declared.event.StepFault.TheVariants as faults
 use Rattle.line_world.specs.Worlds.{World, Step}
 use Rattle.line_world.specs.Setup.{coordinated, metered, depoted, neared, counting}
 use Rattle.line_world.specs.Sending.{sending, losing, restarting}
@@ -21,6 +21,8 @@ step w (Deliver flight node cost) = delivering w flight node
 step w (Inject node cost octets) = injecting w node octets
 step w (Lose flight) = losing w flight
 step w (Restart node) = restarting w node
+-- the other kinds are not on this line yet: no line of a script has a reading as one of them
+step w _ = Err faults.Setup
 
 -- What a call answered is what the step says, or memory ran out. After a fault nothing has changed.
 abbrev pub Gives : World → Result Happenings StepFault → World → Step → Type 0

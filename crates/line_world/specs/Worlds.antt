@@ -1,8 +1,8 @@
 -- What the world holds, and what an event leaves of it.
 use Rattle.std.specs.Prelude.{ℕ, ◌+◌, ◌≤◌, Bool, true, false, not, ◌&&◌, nat_lt, List, [], length, Option, None, Result, slice_get}
-use Rattle.line_world.specs.declared.event.Answer.{Answer}
-use Rattle.line_world.specs.declared.event.Happenings.{Happenings}
-use Rattle.line_world.specs.declared.event.StepFault.{StepFault}
+use Rattle.line_rules.specs.declared.event.Answer.{Answer}
+use Rattle.line_rules.specs.declared.happenings.Happenings.{Happenings}
+use Rattle.line_rules.specs.declared.event.StepFault.{StepFault}
 use Rattle.line_world.specs.declared.world.Flight.{Flight}
 use Rattle.line_world.specs.Nodes.{Node}
 use Rattle.line_world.specs.Flights.{flight_in}
@@ -42,7 +42,7 @@ Step = Result (World × Happenings) StepFault
 
 -- nothing but an answer
 abbrev pub happened : World → Answer → Happenings
-happened w answer = record { answer = answer; forged = false; up = None; first_flight = length w.flights + 1; flights = 0 }
+happened w answer = record { answer = answer; forged = false; up = None; grant = None; took = None; done = None; shown = None; first_flight = length w.flights + 1; flights = 0 }
 
 -- an event of a setup kind was taken
 abbrev pub set_up : World → World

@@ -6,7 +6,7 @@ ghost use Rattle.line_world.specs.Units.{whole_in};
 
 use crate::opening::{ALL, Opened};
 use crate::world::World;
-use crate::{Answer, Handed, Happenings, StepFault};
+use line_rules::{Answer, Handed, Happenings, StepFault};
 use mesh_header::{Mesh, Unit, read_unit};
 use plc_base::{FrameBuf, OctetRef};
 
@@ -106,6 +106,10 @@ impl World {
                         note,
                         octets: OctetRef::new(unit.octets.octets()),
                     }),
+                    grant: None,
+                    took: None,
+                    done: None,
+                    shown: None,
                     first_flight,
                     flights: 0,
                 }

@@ -2,7 +2,7 @@
 //!
 //! The functions do nothing: each states a law over the definitions as its contract.
 ghost use Rattle.std.specs.Prelude.{List};
-ghost use Rattle.line_world.specs.declared.event.Event.{Event};
+ghost use Rattle.line_rules.specs.declared.event.Event.{Event};
 ghost use Rattle.line_world.specs.Worlds.{start};
 ghost use Rattle.line_world.specs.Runs.{Entry, IsRun, IsSafe, IsForgedRight, CountsRight, IsCounted, HaveAddresses, HaveNewNonces, IsRestarting, IsReadable, run};
 

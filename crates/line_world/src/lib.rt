@@ -2,7 +2,6 @@
 #![tactic(auto)]
 
 mod chains;
-mod event;
 mod flights;
 mod hearing;
 mod laws;
@@ -14,7 +13,6 @@ mod setup;
 mod tests;
 mod world;
 
-pub use event::{Answer, Event, Handed, Happenings, StepFault};
 pub use hearing::WholeUnit;
 pub use laws::{
     addresses_differ, counters_only_rise, counts_are_right, every_run_is_safe,

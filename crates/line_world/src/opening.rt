@@ -7,10 +7,10 @@ ghost use Rattle.frame_counters.specs.PeerMarks.{room_for, mark_of};
 ghost use Rattle.line_world.specs.Nodes.{is_own};
 ghost use Rattle.line_world.specs.Opening.{is_for, has_tag, mark_fault, opening, opening_head};
 
-use crate::Answer;
 use crate::node::Node;
 use aes_modes::Aes;
 use frame_counters::PeerFault;
+use line_rules::Answer;
 use mac_frames::{MacHead, RawFrame, open_frame, read_frame};
 use plc_base::{FrameBuf, Key, OctetRef, PAN, Short};
 

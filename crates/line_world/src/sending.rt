@@ -2,9 +2,10 @@
 ghost use Rattle.std.specs.Prelude.{◌≡◌, false, ◌<◌, ◌≤◌, length, IfSome, IsTrue, Ok};
 ghost use Rattle.line_world.specs.Sending.{frame_of, sealing_key, unit_of, goes_whole};
 
+use crate::Flight;
 use crate::world::World;
-use crate::{Answer, Flight, Happenings, StepFault};
 use aes_modes::Aes;
+use line_rules::{Answer, Happenings, StepFault};
 use mac_frames::{MacHead, seal_frame};
 use mesh_header::{Mesh, Unit, write_unit};
 use plc_base::{FrameBuf, Grant, Key, OctetRef, PAN, Short};
@@ -113,6 +114,10 @@ impl World {
             answer: Answer::Sent,
             forged: false,
             up: None,
+            grant: None,
+            took: None,
+            done: None,
+            shown: None,
             first_flight,
             flights: 1,
         })

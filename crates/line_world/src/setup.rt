@@ -5,8 +5,8 @@ ghost use Rattle.group_keys.specs.KeyBook.{has_room, place_for};
 
 use crate::node::Node;
 use crate::world::{MAX_NODES, World};
-use crate::{Answer, Happenings, StepFault};
 use byteorder::{BigEndian, ByteOrder};
+use line_rules::{Answer, Happenings, StepFault};
 use plc_base::{Eui, Grant, Key, LinkCost, Short};
 
 impl World {
@@ -31,6 +31,10 @@ impl World {
             answer,
             forged,
             up: None,
+            grant: None,
+            took: None,
+            done: None,
+            shown: None,
             first_flight: self.flights.len() as u32 + 1,
             flights: 0,
         }

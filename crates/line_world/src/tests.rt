@@ -1,6 +1,7 @@
 //! What short lines come to, event by event.
-use crate::{Answer, Counts, Event, Happenings, StepFault, World};
+use crate::{Counts, World};
 use aes_modes::Aes;
+use line_rules::{Answer, Event, Happenings, StepFault};
 use mac_frames::{MacHead, seal_frame};
 use plc_base::{Eui, FrameBuf, Key, LinkCost, OctetRef, PAN, Short};
 use std::alloc::Global;

@@ -3,7 +3,7 @@ ghost use Rattle.std.specs.Prelude.{◌≡◌, ◌<◌, ◌≤◌, length};
 
 use crate::flights::Flights;
 use crate::node::Node;
-use crate::{Event, Happenings, StepFault};
+use line_rules::{Event, Happenings, StepFault};
 use plc_base::{FrameBuf, Key, OctetRef};
 use std::alloc::Global;
 use std::marker::Model;
@@ -147,6 +147,7 @@ impl World {
             Event::Inject { node, octets, .. } => self.inject(*node, octets.octets(), space),
             Event::Lose { flight } => self.lose(*flight),
             Event::Restart { node } => self.restart(*node),
+            _ => Err(StepFault::Setup),
         }
     }
 }

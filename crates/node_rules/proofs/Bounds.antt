@@ -5,9 +5,9 @@ use Rattle.std.proofs.lemmas.List.{length-append}
 use Rattle.plc_base.specs.declared.key.Key.{Key}
 use Rattle.plc_base.specs.Grant.{Granted}
 use Rattle.group_keys.specs.KeyRing as ring
-use Rattle.node_rules.specs.Memory.{Line}
+use Rattle.node_rules.specs.Memory.{StationMemory}
 use Rattle.node_rules.specs.Plans.{Plan, resting}
-use Rattle.node_rules.specs.Doings.{Holder, Ends, Outgoing, letters, sealed_by, sealing_key}
+use Rattle.node_rules.specs.Drafts.{StationPlace, Ends, Outgoing, letters, sealed_by, sealing_key}
 use Rattle.node_rules.specs.Laws.{IsBounded, HearingIsBounded, AMetersHearingIsBounded, ACoordinatorsHearingIsBounded, ASendIsBounded, AJoinIsBounded, AnOrderIsBounded}
 use Rattle.node_rules.proofs.Sizes.{pending_bound}
 use Rattle.node_rules.proofs.Words.{IsDone, InTurn-append, in_turn, counter_turn}
@@ -34,7 +34,7 @@ sealed_few (Some g) first units = with_key g (sealing_key g) first units
 
 -- # Plans
 
-module _ {M H E : Type 0} (h : Holder M) (ends : Ends E) (m : M) (l : Line) where
+module _ {M H E : Type 0} (h : StationPlace M) (ends : Ends E) (m : M) (l : StationMemory) where
   pub bounded : (p : Plan M (Result H E)) → Shape h ends m (IsDone l) p → IsBounded l p
   unfolding resting
   bounded p (Rests answer) = record { frames = λ w. omega arith; writes = tt }
@@ -42,34 +42,34 @@ module _ {M H E : Type 0} (h : Holder M) (ends : Ends E) (m : M) (l : Line) wher
   bounded p (Ended d answer f) = record {
     frames = λ w.
         let few = f.few (pending_bound l w) in
-        let letters_few = sealed_few (h.line d.memory).ring (h.line d.memory).counter.next d.units in
-        let both = length-append d.plain (sealed_by (h.line d.memory).ring (h.line d.memory).counter.next d.units) in
+        let letters_few = sealed_few (h.station d.memory).ring (h.station d.memory).counter.next d.units in
+        let both = length-append d.plain (sealed_by (h.station d.memory).ring (h.station d.memory).counter.next d.units) in
         omega arith;
-    writes = in_turn 0 4 _ (InTurn-append 0 3 4 d.puts _ f.turns (counter_turn (h.line d.memory).counter (length d.units)));
+    writes = in_turn 0 4 _ (InTurn-append 0 3 4 d.puts _ f.turns (counter_turn (h.station d.memory).counter (length d.units)));
   }
 
 pub hears : HearingIsBounded
 hears l got cost note now = bounded _ _ l l _ (hear_shape l got cost note now)
 
 pub meters_hear : AMetersHearingIsBounded
-meters_hear x m got cost note now = bounded _ _ m m.line _ (meter_shape x m got cost note now)
+meters_hear x m got cost note now = bounded _ _ m m.station _ (meter_shape x m got cost note now)
 
 pub coordinators_hear : ACoordinatorsHearingIsBounded
-coordinators_hear own m got cost note now = bounded _ _ m m.line _ (coordinator_shape own m got cost note now)
+coordinators_hear own m got cost note now = bounded _ _ m m.station _ (coordinator_shape own m got cost note now)
 
 pub sends_bounded : ASendIsBounded
 sends_bounded l to octets note now = (bounded _ _ l l _ (send_shape l to octets note now), bounded _ _ l l _ (send_command_shape l to octets now))
 
 pub joins_bounded : AJoinIsBounded
-joins_bounded x m agent now = (bounded _ _ m m.line _ (joins_shape x m agent now), bounded _ _ m m.line _ (leaves_shape x m))
+joins_bounded x m agent now = (bounded _ _ m m.station _ (joins_shape x m agent now), bounded _ _ m m.station _ (leaves_shape x m))
 
 pub orders_bounded : AnOrderIsBounded
 orders_bounded own m eui key index now = (
-  bounded _ _ m m.line _ (allow_shape (record { eui = own; ciphers = network }) m eui key),
-  bounded _ _ m m.line _ (depot_shape (record { eui = own; ciphers = network }) m eui key),
-  bounded _ _ m m.line _ (rekey_shape (record { eui = own; ciphers = network }) m index key),
-  bounded _ _ m m.line _ (activate_self_shape (record { eui = own; ciphers = network }) m index),
-  bounded _ _ m m.line _ (challenge_shape (record { eui = own; ciphers = network }) m eui now),
-  bounded _ _ m m.line _ (activate_shape (record { eui = own; ciphers = network }) m eui index now),
-  bounded _ _ m m.line _ (kick_shape (record { eui = own; ciphers = network }) m eui),
+  bounded _ _ m m.station _ (allow_shape (record { eui = own; ciphers = network }) m eui key),
+  bounded _ _ m m.station _ (depot_shape (record { eui = own; ciphers = network }) m eui key),
+  bounded _ _ m m.station _ (rekey_shape (record { eui = own; ciphers = network }) m index key),
+  bounded _ _ m m.station _ (activate_self_shape (record { eui = own; ciphers = network }) m index),
+  bounded _ _ m m.station _ (challenge_shape (record { eui = own; ciphers = network }) m eui now),
+  bounded _ _ m m.station _ (activate_shape (record { eui = own; ciphers = network }) m eui index now),
+  bounded _ _ m m.station _ (kick_shape (record { eui = own; ciphers = network }) m eui),
 )

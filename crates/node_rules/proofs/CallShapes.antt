@@ -21,10 +21,10 @@ use Rattle.node_rules.specs.declared.refusal.FrameRefusal.{FrameRefusal}
 use Rattle.node_rules.specs.declared.refusal.FrameRefusal.TheVariants.{NotForMe, Store}
 use Rattle.node_rules.specs.declared.refusal.SendRefusal.TheVariants as sends
 use Rattle.node_rules.specs.Frames.{Arrived}
-use Rattle.node_rules.specs.Memory.{Line, address_of, Datagram, Command}
+use Rattle.node_rules.specs.Memory.{StationMemory, address_of, Datagram, Command}
 use Rattle.node_rules.specs.Plans.{resting}
 use Rattle.node_rules.specs.Accepting.{is_own, Accepting, refuse, marking, admitted, open_sealed, with_key, is_for_me, accept_head, accept}
-use Rattle.node_rules.specs.Doings.{Doing, alone, begun, refused, sets_out, tagged, lack}
+use Rattle.node_rules.specs.Drafts.{Draft, alone, empty_draft, refused, sets_out, with_next_tag, lack}
 use Rattle.node_rules.specs.Calls.{Sending, sending_ends, send_from, send, command_from, send_command, tag_taken, send_fault, how, lacking}
 use Rattle.node_rules.specs.Laws.{RefusesCleanly, IsMark, MarksAtMost, OnlyMarks, AcceptingOnlyMarks}
 use Rattle.node_rules.proofs.Shapes.{checked_by, Shape, Rests, checked_shape, sealed_shape, option_shape}
@@ -39,11 +39,11 @@ IsAdmitted (Ok u) = Unit {0}
 IsAdmitted (Err fault) = ⊥
 
 -- a frame is accepted and its counter kept, or nothing changes
-pub data AcceptShape (l : Line) : Accepting → Type 0 where
+pub data AcceptShape (l : StationMemory) : Accepting → Type 0 where
   Stays : (answer : Result Accepted FrameRefusal) → AcceptShape l (resting l answer (Err Store))
   Marks : (from counter : ℕ) (accepted : Accepted) → IsAdmitted (marks.room_for l.marks from counter) → AcceptShape l (marking l from counter accepted)
 
-module _ (l : Line) where
+module _ (l : StationMemory) where
   admitted_shape : (from counter : ℕ) (accepted : Accepted) (room : Result (Unit {0}) PeerFault) → marks.room_for l.marks from counter ≡ room → AcceptShape l (admitted l from counter accepted room)
   admitted_shape from counter accepted (Ok u) e = Marks from counter accepted (subst IsAdmitted (sym e) tt)
   admitted_shape from counter accepted (Err fault) e = Stays _
@@ -105,19 +105,19 @@ module _ (l : Line) where
   SendShape p = Shape alone sending_ends l (IsDone l) p
 
   -- nothing goes out before the body, so what waits does not count
-  abbrev alone_line : Line
-  alone_line = record l { waiting = [] }
+  abbrev alone_station : StationMemory
+  alone_station = record l { waiting = [] }
 
-  sends_done : (d : Doing Line) → Fits alone_line 4 3 d → IsDone l d
+  sends_done : (d : Draft StationMemory) → Fits alone_station 4 3 d → IsDone l d
   sends_done d f = let n = f.count in record { few = λ h. omega arith; turns = f.turns }
 
   -- the tag is taken where the datagram is cut
-  tag_fits : (octets : List ℕ) → Fits alone_line 0 2 (tag_taken octets (begun l))
+  tag_fits : (octets : List ℕ) → Fits alone_station 0 2 (tag_taken octets (empty_draft l))
   tag_fits octets = by_size (nat_le (length octets) 375)
     where
-      by_size : (b : Bool) → Fits alone_line 0 2 (if b then begun l else tagged (begun l))
-      by_size true = begun_fits alone_line 2 l
-      by_size false = tagged_fits alone_line (begun l) (begun_fits alone_line 1 l)
+      by_size : (b : Bool) → Fits alone_station 0 2 (if b then empty_draft l else with_next_tag (empty_draft l))
+      by_size true = begun_fits alone_station 2 l
+      by_size false = tagged_fits alone_station (empty_draft l) (begun_fits alone_station 1 l)
 
   -- a send without a fault is of at most 1,280 octets
   short : (to : ℕ) (datagram : List ℕ) → send_fault l to datagram ≡ None → length datagram ≤ 1280
@@ -130,8 +130,8 @@ module _ (l : Line) where
 
   from_shape : (own to : ℕ) (datagram : List ℕ) (note now : ℕ) → SendShape (send_from l own to datagram note now)
   from_shape own to datagram note now = checked_by _ _ _ _ (send_fault l to datagram) _ (λ e.
-      sealed_shape alone sending_ends l (IsDone l) (sets_out own to note (Datagram datagram l.next_tag) now (tag_taken datagram (begun l))) (how l to)
-      (sends_done _ (sets_out_fits alone_line 4 own to note (Datagram datagram l.next_tag) now (tag_taken datagram (begun l)) (omega arith) (load_bound (Datagram datagram l.next_tag) (short to datagram e)).1 (tag_fits datagram))))
+      sealed_shape alone sending_ends l (IsDone l) (sets_out own to note (Datagram datagram l.next_tag) now (tag_taken datagram (empty_draft l))) (how l to)
+      (sends_done _ (sets_out_fits alone_station 4 own to note (Datagram datagram l.next_tag) now (tag_taken datagram (empty_draft l)) (omega arith) (load_bound (Datagram datagram l.next_tag) (short to datagram e)).1 (tag_fits datagram))))
 
   pub send_shape : (to : ℕ) (datagram : List ℕ) (note now : ℕ) → SendShape (send l to datagram note now)
   send_shape to datagram note now = option_shape _ _ _ _ (λ own. send_from l own to datagram note now) (address_of l) (refused sending_ends l sends.NotJoined)
@@ -139,7 +139,7 @@ module _ (l : Line) where
 
   pub send_command_shape : (to : ℕ) (octets : List ℕ) (now : ℕ) → SendShape (send_command l to octets now)
   send_command_shape to octets now = option_shape _ _ _ _ (λ own. command_from l own to octets now) (address_of l) (refused sending_ends l sends.NotJoined)
-      (λ own. checked_shape _ _ _ _ _ _ (sealed_shape alone sending_ends l (IsDone l) (sets_out own to 0 (Command octets) now (begun l)) (how l to) (sends_done _ (sets_out_fits alone_line 4 own to 0 (Command octets) now (begun l) (omega arith) (omega arith) (begun_fits alone_line 2 l)))))
+      (λ own. checked_shape _ _ _ _ _ _ (sealed_shape alone sending_ends l (IsDone l) (sets_out own to 0 (Command octets) now (empty_draft l)) (how l to) (sends_done _ (sets_out_fits alone_station 4 own to 0 (Command octets) now (empty_draft l) (omega arith) (omega arith) (begun_fits alone_station 2 l)))))
       (Rests _)
 
 pub only_marks : AcceptingOnlyMarks

@@ -22,18 +22,18 @@ use Rattle.node_rules.specs.declared.heard.Way.TheVariants.{Air, Near, Mesh}
 use Rattle.node_rules.specs.declared.refusal.Dropped.{Dropped}
 use Rattle.node_rules.specs.declared.refusal.Dropped.TheVariants as drops
 use Rattle.node_rules.specs.declared.refusal.CoordinatorRefusal.TheVariants as refusal
-use Rattle.node_rules.specs.Memory.{Line, Memory, CoordinatorSession, next_hop}
+use Rattle.node_rules.specs.Memory.{StationMemory, Memory, CoordinatorSession, next_hop}
 use Rattle.node_rules.specs.Plans.{Plan}
-use Rattle.node_rules.specs.Doings.{counters_left, Doing, begun, refused, sealing, checked, choose}
-use Rattle.node_rules.specs.Hearing as station
+use Rattle.node_rules.specs.Drafts.{counters_left, Draft, empty_draft, refused, sealing, checked, choose}
+use Rattle.node_rules.specs.Hearing as station_rules
 use Rattle.node_rules.specs.Hearing.{dropped}
 use Rattle.node_rules.specs.Joining.{message, server_for, rand_p_in}
-use Rattle.node_rules.specs.Holding.{remembered, is_commanded, in_memory, oldest, Unread, unread}
-use Rattle.node_rules.specs.Coordinators.{CoordinatorIdentity, Hearing, drop_it, ends, session_of, allowed_entry, grant_for, declines, challenges, open_session, asked, keys_for, take_second, accepts, take_fourth, take_packet, answered, hear_join, hear_join_in, heard_by, hear_coordinator, entered, changed, Ordering, orders, allow, depot_by, depot, rekey, activate_self, challenge_by, challenge_at, challenge, allowed_address, activate_by, activate, kick_by, kick, changes, kick_goes, without_session}
+use Rattle.node_rules.specs.MemoryDrafts.{with_memory_by, is_commanded, in_memory, oldest, Unread, unread}
+use Rattle.node_rules.specs.Coordinators.{CoordinatorIdentity, Hearing, drop_it, ends, session_of, allowed_entry, grant_for, declines, challenges, open_session, asked, keys_for, take_second, accepts, take_fourth, take_packet, answered, hear_join, hear_join_in, heard_by, hear_coordinator, with_book_entry, changed, Ordering, orders, allow, depot_by, depot, rekey, activate_self, challenge_by, challenge_at, challenge, allowed_address, activate_by, activate, kick_by, kick, changes, kick_goes, without_session}
 use Rattle.node_rules.proofs.Shapes.{Rests, rests_shape, checked_shape, choose_shape, sealed_shape, sealing_shape, option_shape}
 use Rattle.node_rules.proofs.Words.{IsDone, memory_leaves, Fits, begun_fits, commanded_done, remembered_fits, entered_fits, quiet_done}
-use Rattle.node_rules.proofs.HearingShapes.{LineShape, hear_shape}
-use Rattle.node_rules.proofs.HoldingShapes.{MemoryShape, within_shape}
+use Rattle.node_rules.proofs.HearingShapes.{StationShape, hear_shape}
+use Rattle.node_rules.proofs.MemoryDraftShapes.{MemoryShape, within_shape}
 
 ruleset words = (rests_shape, checked_shape, choose_shape, sealed_shape, sealing_shape, memory_leaves)
 
@@ -42,16 +42,16 @@ module _ (own : CoordinatorIdentity) (m : Memory) where
   IsRule p = MemoryShape dropped m p
 
   chosen : (test : Bool) (p q : Hearing) → IsRule p → IsRule q → IsRule (choose test p q)
-  chosen test p q s t = choose_shape in_memory dropped m (IsDone m.line) test p q s t
+  chosen test p q s t = choose_shape in_memory dropped m (IsDone m.station) test p q s t
 
   passed : (fault : Option Dropped) (p : Hearing) → IsRule p → IsRule (checked dropped m fault p)
-  passed fault p s = checked_shape in_memory dropped m (IsDone m.line) fault p s
+  passed fault p s = checked_shape in_memory dropped m (IsDone m.station) fault p s
 
-  ended : (d : Doing Memory) (answer : CoordinatorHeard) → IsDone m.line d → IsRule (ends m d answer)
-  ended d answer done = sealed_shape in_memory dropped m (IsDone m.line) d answer done
+  ended : (d : Draft Memory) (answer : CoordinatorHeard) → IsDone m.station d → IsRule (ends m d answer)
+  ended d answer done = sealed_shape in_memory dropped m (IsDone m.station) d answer done
 
   by_option : {X : Type 0} (f : X → Hearing) (o : Option X) (p : Hearing) → ((y : X) → IsRule (f y)) → IsRule p → IsRule (option_map_or f o p)
-  by_option f o p s t = option_shape in_memory dropped m (IsDone m.line) f o p s t
+  by_option f o p s t = option_shape in_memory dropped m (IsDone m.station) f o p s t
 
   -- # What is heard
 
@@ -109,13 +109,13 @@ module _ (own : CoordinatorIdentity) (m : Memory) where
   join_in_shape way None now = Rests _
   join_in_shape way (Some join) now = chosen _ _ _ (join_shape way join.eui join.body now) (Rests _)
 
-  heard_by_shape : (now : ℕ) (p : Plan Line (Result Heard Dropped)) (u : Option Unread) → LineShape m.line p → IsRule (heard_by own m now p u)
-  heard_by_shape now p None s = within_shape heard.Line m p s
+  heard_by_shape : (now : ℕ) (p : Plan StationMemory (Result Heard Dropped)) (u : Option Unread) → StationShape m.station p → IsRule (heard_by own m now p u)
+  heard_by_shape now p None s = within_shape heard.Station m p s
   heard_by_shape now p (Some u) s = join_in_shape u.way (join_in u.body) now
 
   pub coordinator_shape : (got : Accepted) (cost note now : ℕ) → MemoryShape dropped m (hear_coordinator own m got cost note now)
   coordinator_shape got cost note now =
-      let p = station.hear m.line got cost note now in heard_by_shape now p (unread p.answer) (hear_shape m.line got cost note now)
+      let p = station_rules.hear m.station got cost note now in heard_by_shape now p (unread p.answer) (hear_shape m.station got cost note now)
 
   -- # Orders
 
@@ -123,32 +123,32 @@ module _ (own : CoordinatorIdentity) (m : Memory) where
   IsOrder p = MemoryShape orders m p
 
   by_part : {A X : Type 0} (f : X → Ordering A) (o : Option X) (p : Ordering A) → ((y : X) → IsOrder (f y)) → IsOrder p → IsOrder (option_map_or f o p)
-  by_part f o p s t = option_shape in_memory orders m (IsDone m.line) f o p s t
+  by_part f o p s t = option_shape in_memory orders m (IsDone m.station) f o p s t
 
   by_choice : {A : Type 0} (test : Bool) (p q : Ordering A) → IsOrder p → IsOrder q → IsOrder (choose test p q)
-  by_choice test p q s t = choose_shape in_memory orders m (IsDone m.line) test p q s t
+  by_choice test p q s t = choose_shape in_memory orders m (IsDone m.station) test p q s t
 
-  changed_fits : (e : BookEntry) → Fits m.line 0 1 (changed m e)
+  changed_fits : (e : BookEntry) → Fits m.station 0 1 (changed m e)
   changed_fits e = by_change (changes m e)
     where
-      by_change : (b : Bool) → Fits m.line 0 1 (if b then remembered (without_session e.eui) (entered e (begun m)) else begun m)
-      by_change true = remembered_fits m.line _ _ (entered_fits m.line e _ (begun_fits m.line 1 m))
-      by_change false = begun_fits m.line 1 m
+      by_change : (b : Bool) → Fits m.station 0 1 (if b then with_memory_by (without_session e.eui) (with_book_entry e (empty_draft m)) else empty_draft m)
+      by_change true = remembered_fits m.station _ _ (entered_fits m.station e _ (begun_fits m.station 1 m))
+      by_change false = begun_fits m.station 1 m
 
-  kick_goes_done : (to : ℕ) (join : JoinMessage) (d : Doing Memory) → Fits m.line 0 1 d → IsDone m.line (kick_goes m to join d)
-  kick_goes_done to join d f = by_route (is_some (next_hop m.line to) && nat_lt 0 (counters_left m.line))
+  kick_goes_done : (to : ℕ) (join : JoinMessage) (d : Draft Memory) → Fits m.station 0 1 d → IsDone m.station (kick_goes m to join d)
+  kick_goes_done to join d f = by_route (is_some (next_hop m.station to) && nat_lt 0 (counters_left m.station))
     where
-      by_route : (b : Bool) → IsDone m.line (if b then is_commanded to join 0 d else d)
-      by_route true = commanded_done m.line to join 0 d f
-      by_route false = quiet_done m.line d f
+      by_route : (b : Bool) → IsDone m.station (if b then is_commanded to join 0 d else d)
+      by_route true = commanded_done m.station to join 0 d f
+      by_route false = quiet_done m.station d f
 
   pub allow_shape : (eui : Eui) (psk : Key) → MemoryShape orders m (allow m eui psk)
-  allow_shape eui psk = by_choice _ _ _ (sealing_shape in_memory orders m (IsDone m.line) (changed m (book.allowed_entry eui psk (book.entry_for m.book eui))) (book.place_for m.book eui + 1) (quiet_done m.line _ (changed_fits (book.allowed_entry eui psk (book.entry_for m.book eui))))) (Rests _)
+  allow_shape eui psk = by_choice _ _ _ (sealing_shape in_memory orders m (IsDone m.station) (changed m (book.allowed_entry eui psk (book.entry_for m.book eui))) (book.place_for m.book eui + 1) (quiet_done m.station _ (changed_fits (book.allowed_entry eui psk (book.entry_for m.book eui))))) (Rests _)
 
-  depot_by_shape : (eui : Eui) (psk : Key) (d : Doing Memory) → Fits m.line 0 1 d → MemoryShape orders m (depot_by m eui psk d)
-  depot_by_shape eui psk d f = by_part (λ granted. option_map_or (λ e. sealing in_memory orders (entered (book.issued_entry eui granted e) d) granted) (book.allowed_one d.memory.book eui) (refused orders m refusal.MetersFull)) (grant_for d.memory eui) (refused orders m refusal.MetersFull)
-      (λ granted. by_part (λ e. sealing in_memory orders (entered (book.issued_entry eui granted e) d) granted) (book.allowed_one d.memory.book eui) (refused orders m refusal.MetersFull)
-      (λ e. sealing_shape _ _ _ _ _ _ (quiet_done m.line _ (entered_fits m.line (book.issued_entry eui granted e) d f))) (Rests _)) (Rests _)
+  depot_by_shape : (eui : Eui) (psk : Key) (d : Draft Memory) → Fits m.station 0 1 d → MemoryShape orders m (depot_by m eui psk d)
+  depot_by_shape eui psk d f = by_part (λ granted. option_map_or (λ e. sealing in_memory orders (with_book_entry (book.issued_entry eui granted e) d) granted) (book.allowed_one d.memory.book eui) (refused orders m refusal.MetersFull)) (grant_for d.memory eui) (refused orders m refusal.MetersFull)
+      (λ granted. by_part (λ e. sealing in_memory orders (with_book_entry (book.issued_entry eui granted e) d) granted) (book.allowed_one d.memory.book eui) (refused orders m refusal.MetersFull)
+      (λ e. sealing_shape _ _ _ _ _ _ (quiet_done m.station _ (entered_fits m.station (book.issued_entry eui granted e) d f))) (Rests _)) (Rests _)
 
   pub depot_shape : (eui : Eui) (psk : Key) → MemoryShape orders m (depot m eui psk)
   depot_shape eui psk = by_choice _ _ _ (depot_by_shape eui psk (changed m (book.allowed_entry eui psk (book.entry_for m.book eui))) (changed_fits (book.allowed_entry eui psk (book.entry_for m.book eui)))) (Rests _)
@@ -177,9 +177,9 @@ module _ (own : CoordinatorIdentity) (m : Memory) where
       (λ e. by_part (activate_by m e index now) (book.address_of m.book eui) (refused orders m refusal.NotAllowed) (λ to. activate_by_shape e index now to) (Rests _)) (Rests _)
 
   kick_by_shape : (e : BookEntry) (to : ℕ) → MemoryShape orders m (kick_by m e to)
-  kick_by_shape e to = sealing_shape in_memory orders m (IsDone m.line)
-      (kick_goes m to (message e.eui body.Kick) (remembered (without_session e.eui) (entered (book.kicked_entry e.eui e) (begun m)))) tt
-      (kick_goes_done to _ _ (remembered_fits m.line _ _ (entered_fits m.line _ _ (begun_fits m.line 1 m))))
+  kick_by_shape e to = sealing_shape in_memory orders m (IsDone m.station)
+      (kick_goes m to (message e.eui body.Kick) (with_memory_by (without_session e.eui) (with_book_entry (book.kicked_entry e.eui e) (empty_draft m)))) tt
+      (kick_goes_done to _ _ (remembered_fits m.station _ _ (entered_fits m.station _ _ (begun_fits m.station 1 m))))
 
   pub kick_shape : (eui : Eui) → MemoryShape orders m (kick m eui)
   kick_shape eui = by_part (λ e. option_map_or (kick_by m e) (book.address_of m.book eui) (refused orders m refusal.NotAllowed)) (allowed_entry m eui) (refused orders m refusal.NotAllowed)

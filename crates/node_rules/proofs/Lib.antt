@@ -5,7 +5,7 @@ pub mod Words
 pub mod Shapes
 pub mod HearingShapes
 pub mod CallShapes
-pub mod HoldingShapes
+pub mod MemoryDraftShapes
 pub mod MeterShapes
 pub mod CoordinatorShapes
 pub mod Refusals

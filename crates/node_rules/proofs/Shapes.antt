@@ -4,15 +4,15 @@ use Rattle.std.specs.Prelude.{if◌then◌else◌}
 use Rattle.std.specs.Option.{option_map_or}
 use Rattle.node_rules.specs.Laws.{RefusesCleanly}
 use Rattle.node_rules.specs.Plans.{Plan, resting}
-use Rattle.node_rules.specs.Doings.{Doing, Holder, Ends, refused, sealing, sealed, checked, choose}
+use Rattle.node_rules.specs.Drafts.{Draft, StationPlace, Ends, refused, sealing, sealed, checked, choose}
 
 -- D holds of the doing
-pub data Shape {M H E : Type 0} (h : Holder M) (ends : Ends E) (m : M) (D : Doing M → Type 0) : Plan M (Result H E) → Type 0 where
+pub data Shape {M H E : Type 0} (h : StationPlace M) (ends : Ends E) (m : M) (D : Draft M → Type 0) : Plan M (Result H E) → Type 0 where
   Rests : (answer : Result H E) → Shape h ends m D (resting m answer (Err ends.store))
   Keeps : (n : M) (answer : H) → Shape h ends m D (resting n (Ok answer) (Err ends.store))
-  Ended : (d : Doing M) (answer : H) → D d → Shape h ends m D (sealing h ends d answer)
+  Ended : (d : Draft M) (answer : H) → D d → Shape h ends m D (sealing h ends d answer)
 
-module _ {M H E : Type 0} (h : Holder M) (ends : Ends E) (m : M) (D : Doing M → Type 0) where
+module _ {M H E : Type 0} (h : StationPlace M) (ends : Ends E) (m : M) (D : Draft M → Type 0) where
   pub rests_shape : (answer : Result H E) → Shape h ends m D (resting m answer (Err ends.store))
   rests_shape answer = Rests answer
 
@@ -31,15 +31,15 @@ module _ {M H E : Type 0} (h : Holder M) (ends : Ends E) (m : M) (D : Doing M �
   choose_shape true p q s t = s
   choose_shape false p q s t = t
 
-  sealed_when : (test : Bool) (d : Doing M) (answer : H) → D d → Shape {H = H} h ends m D (if test then refused ends m ends.spent else sealing h ends d answer)
+  sealed_when : (test : Bool) (d : Draft M) (answer : H) → D d → Shape {H = H} h ends m D (if test then refused ends m ends.spent else sealing h ends d answer)
   sealed_when true d answer done = Rests (Err ends.spent)
   sealed_when false d answer done = Ended d answer done
 
-  pub sealed_shape : (d : Doing M) (answer : H) → D d → Shape h ends m D (sealed h ends m d answer)
+  pub sealed_shape : (d : Draft M) (answer : H) → D d → Shape h ends m D (sealed h ends m d answer)
   unfolding sealed
   sealed_shape d answer done = sealed_when _ d answer done
 
-  pub sealing_shape : (d : Doing M) (answer : H) → D d → Shape h ends m D (sealing h ends d answer)
+  pub sealing_shape : (d : Draft M) (answer : H) → D d → Shape h ends m D (sealing h ends d answer)
   sealing_shape d answer done = Ended d answer done
 
   pub option_shape : {X : Type 0} (f : X → Plan M (Result H E)) (x : Option X) (p : Plan M (Result H E)) → ((y : X) → Shape h ends m D (f y)) → Shape h ends m D p → Shape h ends m D (option_map_or f x p)

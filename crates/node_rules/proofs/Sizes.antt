@@ -11,8 +11,8 @@ use Rattle.std.proofs.lemmas.List.Filters.{sum_by-filter_both}
 use Rattle.std.proofs.lemmas.List.Sums.{sum_by-cons}
 use Rattle.fragment_buffers.specs.Cutting.{cut, pieces_of, piece_of}
 use Rattle.mesh_header.specs.declared.unit.Unit.{Unit as MeshUnit}
-use Rattle.node_rules.specs.Memory.{Line, Body, Load, Datagram, Command, load_octets}
-use Rattle.node_rules.specs.Doings.{Outgoing, units_of, all_go, waits_for}
+use Rattle.node_rules.specs.Memory.{StationMemory, Body, Load, Datagram, Command, load_octets}
+use Rattle.node_rules.specs.Drafts.{Outgoing, units_of, all_go, waits_for}
 use Rattle.fragment_buffers.specs.Taking.{blocks}
 use Rattle.node_rules.specs.Laws.{IsShort, IsWithinSizes}
 
@@ -38,7 +38,7 @@ length-all_go hop note us = length-map us _
 abbrev pub pending_in : List Body → ℕ
 pending_in bodies = sum_by (λ b. units_in b.load) bodies
 
-abbrev pub pending : Line → ℕ
+abbrev pub pending : StationMemory → ℕ
 pending l = pending_in l.waiting
 
 -- the units of those that leave
@@ -75,7 +75,7 @@ bodies_bound (b ∷ rest) short =
     let more : 6 * pending_in rest ≤ sum_by (λ (b : Body). blocks (length (load_octets b.load))) rest + 6 * length rest = bodies_bound rest (λ k d lt. short (suc k) d (omega arith)) in
     rw (sum_by-cons (λ (b : Body). units_in b.load) b rest, sum_by-cons (λ (b : Body). blocks (length (load_octets b.load))) b rest) (omega arith)
 
-pub pending_bound : (l : Line) → IsWithinSizes l → pending l ≤ 21
+pub pending_bound : (l : StationMemory) → IsWithinSizes l → pending l ≤ 21
 pending_bound l w =
     let sum = bodies_bound l.waiting w.datagrams in
     let few = w.bodies in

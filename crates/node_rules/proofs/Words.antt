@@ -20,12 +20,12 @@ use Rattle.routing_set.specs.declared.rank.Rank.{Rank}
 use Rattle.routing_set.specs.RoutingSet as routing
 use Rattle.routing_set.specs.OwnNumber as own_number
 use Rattle.node_rules.specs.Frames.{Up, Down}
-use Rattle.node_rules.specs.Memory.{Line, Load, Command, Memory, address_of, next_hop}
-use Rattle.node_rules.specs.Doings.{Doing, begun, ranked, numbered, tagged, ringed, rerouted, goes, units_of, all_go, body_goes, is_awaited, waits, seeks, seeks_once, sets_out, leave}
-use Rattle.node_rules.specs.Holding.{with_line, on_line, line_part, remembered, tagged_with, goes_up, goes_down, is_commanded}
+use Rattle.node_rules.specs.Memory.{StationMemory, Load, Command, Memory, address_of, next_hop}
+use Rattle.node_rules.specs.Drafts.{Draft, empty_draft, with_rank, with_own_number, with_next_tag, with_ring, with_routing_by, goes, units_of, all_go, body_goes, is_awaited, waits, seeks, seeks_once, sets_out, leave}
+use Rattle.node_rules.specs.MemoryDrafts.{with_station, on_station, station_part, with_memory_by, with_pair_tags, goes_up, goes_down, is_commanded}
 use Rattle.node_rules.specs.Joining.{command_of}
 use Rattle.node_rules.specs.Calls.{idled}
-use Rattle.node_rules.specs.Coordinators.{entered}
+use Rattle.node_rules.specs.Coordinators.{with_book_entry}
 use Rattle.node_rules.specs.Laws.{turn_of, InTurnFrom}
 use Rattle.node_rules.proofs.Sizes.{units_in, length-units_of, length-all_go, pending, leaving_units}
 
@@ -101,17 +101,17 @@ entry_turn b e = by_holding (book.holds b e)
 -- # What a doing adds at most
 
 -- So many units and plain frames more than what waits, and writes up to a turn.
-pub record Fits {M : Type 0} (l : Line) (more last : ℕ) (d : Doing M) : Type 0 where
+pub record Fits {M : Type 0} (l : StationMemory) (more last : ℕ) (d : Draft M) : Type 0 where
   pub count : length d.units + length d.plain ≤ pending l + more
   pub turns : InTurn 0 last d.puts
 
 -- At most 24 units and plain frames, where what waits is at most 21 units, and writes before that of the counter.
-pub record IsDone {M : Type 0} (l : Line) (d : Doing M) : Type 0 where
+pub record IsDone {M : Type 0} (l : StationMemory) (d : Draft M) : Type 0 where
   pub few : pending l ≤ 21 → length d.units + length d.plain ≤ 24
   pub turns : InTurn 0 3 d.puts
 
 -- Nothing goes out yet, and what waits is what waited.
-pub record Fresh (l : Line) (last : ℕ) (d : Doing Line) : Type 0 where
+pub record Fresh (l : StationMemory) (last : ℕ) (d : Draft StationMemory) : Type 0 where
   pub units : d.units ≡ []
   pub plain : d.plain ≡ []
   pub waiting : d.memory.waiting ≡ l.waiting
@@ -120,23 +120,23 @@ pub record Fresh (l : Line) (last : ℕ) (d : Doing Line) : Type 0 where
 one_more : {A : Type 0} (xs : List A) (x : A) → length (xs ++ x ∷ []) ≡ length xs + 1
 one_more xs x = length-append xs (x ∷ [])
 
-module _ (l : Line) where
-  pub done : {M : Type 0} (more last : ℕ) (d : Doing M) → more ≤ 3 → last ≤ 3 → Fits l more last d → IsDone l d
+module _ (l : StationMemory) where
+  pub done : {M : Type 0} (more last : ℕ) (d : Draft M) → more ≤ 3 → last ≤ 3 → Fits l more last d → IsDone l d
   done more last d few early f = let n = f.count in record { few = λ h. omega arith; turns = later_turn 0 last 3 d.puts early f.turns }
 
-  pub looser : {M : Type 0} (more last many late : ℕ) (d : Doing M) → more ≤ many → last ≤ late → Fits l more last d → Fits l many late d
+  pub looser : {M : Type 0} (more last many late : ℕ) (d : Draft M) → more ≤ many → last ≤ late → Fits l more last d → Fits l many late d
   looser more last many late d few early f = let n = f.count in record { count = omega arith; turns = later_turn 0 last late d.puts early f.turns }
 
-  pub begun_fits : {M : Type 0} (last : ℕ) (m : M) → Fits l 0 last (begun m)
-  unfolding begun
+  pub begun_fits : {M : Type 0} (last : ℕ) (m : M) → Fits l 0 last (empty_draft m)
+  unfolding empty_draft
   begun_fits last m = record { count = omega arith; turns = omega arith }
 
-  begun_fresh : (last : ℕ) → Fresh l last (begun l)
-  unfolding begun
+  begun_fresh : (last : ℕ) → Fresh l last (empty_draft l)
+  unfolding empty_draft
   begun_fresh last = record { units = refl; plain = refl; waiting = refl; turns = omega arith }
 
-  ranked_fresh : (dest : ℕ) (rank : Rank) (by now : ℕ) (d : Doing Line) → Fresh l 0 d → Fresh l 1 (ranked dest rank by now d)
-  unfolding ranked
+  ranked_fresh : (dest : ℕ) (rank : Rank) (by now : ℕ) (d : Draft StationMemory) → Fresh l 0 d → Fresh l 1 (with_rank dest rank by now d)
+  unfolding with_rank
   ranked_fresh dest rank by now d f = record {
     units = f.units;
     plain = f.plain;
@@ -144,8 +144,8 @@ module _ (l : Line) where
     turns = InTurn-append 0 0 1 d.puts _ f.turns (offer_turn d.memory.routing dest rank by now);
   }
 
-  numbered_fresh : (d : Doing Line) → Fresh l 1 d → Fresh l 3 (numbered d)
-  unfolding numbered
+  numbered_fresh : (d : Draft StationMemory) → Fresh l 1 d → Fresh l 3 (with_own_number d)
+  unfolding with_own_number
   numbered_fresh d f = record {
     units = f.units;
     plain = f.plain;
@@ -153,49 +153,49 @@ module _ (l : Line) where
     turns = InTurn-append 0 2 3 d.puts _ (later_turn 0 1 2 d.puts (omega arith) f.turns) (number_turn d.memory.own_number);
   }
 
-  leave_fits : (last own dest hop : ℕ) (d : Doing Line) → Fresh l last d → Fits l 0 last (leave own dest hop d)
+  leave_fits : (last own dest hop : ℕ) (d : Draft StationMemory) → Fresh l last d → Fits l 0 last (leave own dest hop d)
   unfolding leave
   leave_fits last own dest hop d f =
       let left = leaving_units own dest hop l.waiting in
       record { count = rw (f.units, f.plain, f.waiting) (omega arith); turns = f.turns }
 
-  pub goes_fits : (more last to : ℕ) (unit : MeshUnit) (note : ℕ) (d : Doing Line) → Fits l more last d → Fits l (more + 1) last (goes to unit note d)
+  pub goes_fits : (more last to : ℕ) (unit : MeshUnit) (note : ℕ) (d : Draft StationMemory) → Fits l more last d → Fits l (more + 1) last (goes to unit note d)
   unfolding goes
   goes_fits more last to unit note d f =
       let n = f.count in
       let longer = one_more d.units (record { to = to; unit = unit; note = note }) in
       record { count = omega arith; turns = f.turns }
 
-  pub rerouted_fits : (more last : ℕ) (change : routing.Routing → routing.Routing) (d : Doing Line) → Fits l more last d → Fits l more last (rerouted change d)
-  unfolding rerouted
+  pub rerouted_fits : (more last : ℕ) (change : routing.Routing → routing.Routing) (d : Draft StationMemory) → Fits l more last d → Fits l more last (with_routing_by change d)
+  unfolding with_routing_by
   rerouted_fits more last change d f = record { count = f.count; turns = f.turns }
 
   -- # The doings of what is heard
 
-  pub learns_done : (own origin : ℕ) (rank : Rank) (by now : ℕ) → IsDone l (leave own origin by (ranked origin rank by now (begun l)))
+  pub learns_done : (own origin : ℕ) (rank : Rank) (by now : ℕ) → IsDone l (leave own origin by (with_rank origin rank by now (empty_draft l)))
   learns_done own origin rank by now = done 0 1 _ (omega arith) (omega arith) (leave_fits 1 own origin by _ (ranked_fresh origin rank by now _ (begun_fresh 0)))
 
-  pub sends_on_done : (own origin : ℕ) (rank : Rank) (by now to : ℕ) (unit : MeshUnit) (note : ℕ) → IsDone l (goes to unit note (leave own origin by (ranked origin rank by now (begun l))))
+  pub sends_on_done : (own origin : ℕ) (rank : Rank) (by now to : ℕ) (unit : MeshUnit) (note : ℕ) → IsDone l (goes to unit note (leave own origin by (with_rank origin rank by now (empty_draft l))))
   sends_on_done own origin rank by now to unit note = done (0 + 1) 1 _ (omega arith) (omega arith) (goes_fits 0 1 to unit note _ (leave_fits 1 own origin by _ (ranked_fresh origin rank by now _ (begun_fresh 0))))
 
-  pub answers_done : (own origin : ℕ) (rank : Rank) (by now to : ℕ) (unit : MeshUnit) (note : ℕ) → IsDone l (goes to unit note (leave own origin by (numbered (ranked origin rank by now (begun l)))))
+  pub answers_done : (own origin : ℕ) (rank : Rank) (by now to : ℕ) (unit : MeshUnit) (note : ℕ) → IsDone l (goes to unit note (leave own origin by (with_own_number (with_rank origin rank by now (empty_draft l)))))
   answers_done own origin rank by now to unit note = done (0 + 1) 3 _ (omega arith) (omega arith) (goes_fits 0 3 to unit note _ (leave_fits 3 own origin by _ (numbered_fresh _ (ranked_fresh origin rank by now _ (begun_fresh 0)))))
 
-  pub goes_done : (to : ℕ) (unit : MeshUnit) (note : ℕ) → IsDone l (goes to unit note (begun l))
+  pub goes_done : (to : ℕ) (unit : MeshUnit) (note : ℕ) → IsDone l (goes to unit note (empty_draft l))
   goes_done to unit note = done (0 + 1) 3 _ (omega arith) (omega arith) (goes_fits 0 3 to unit note _ (begun_fits 3 l))
 
-  pub error_done : (change : routing.Routing → routing.Routing) → IsDone l (rerouted change (begun l))
+  pub error_done : (change : routing.Routing → routing.Routing) → IsDone l (with_routing_by change (empty_draft l))
   error_done change = done 0 3 _ (omega arith) (omega arith) (rerouted_fits 0 3 change _ (begun_fits 3 l))
 
-  pub error_on_done : (to : ℕ) (unit : MeshUnit) (note : ℕ) (change : routing.Routing → routing.Routing) → IsDone l (goes to unit note (rerouted change (begun l)))
+  pub error_on_done : (to : ℕ) (unit : MeshUnit) (note : ℕ) (change : routing.Routing → routing.Routing) → IsDone l (goes to unit note (with_routing_by change (empty_draft l)))
   error_on_done to unit note change = done (0 + 1) 3 _ (omega arith) (omega arith) (goes_fits 0 3 to unit note _ (rerouted_fits 0 3 change _ (begun_fits 3 l)))
 
 pub ruleset leaves = (learns_done, sends_on_done, answers_done, goes_done, error_done, error_on_done)
 
 -- # Bodies that set out
 
-module _ (l : Line) where
-  body_fits : (more own hop to note : ℕ) (load : Load) (d : Doing Line) → units_in load ≤ more → Fits l 0 2 d → Fits l more 3 (body_goes own hop to note load d)
+module _ (l : StationMemory) where
+  body_fits : (more own hop to note : ℕ) (load : Load) (d : Draft StationMemory) → units_in load ≤ more → Fits l 0 2 d → Fits l more 3 (body_goes own hop to note load d)
   unfolding body_goes
   body_fits more own hop to note load d few f =
       let n = f.count in
@@ -204,15 +204,15 @@ module _ (l : Line) where
       let units = length-units_of own to load in
       record { count = omega arith; turns = later_turn 0 2 3 d.puts (omega arith) f.turns }
 
-  waits_fits : (more to note : ℕ) (load : Load) (now : ℕ) (d : Doing Line) → Fits l more 3 d → Fits l more 3 (waits to note load now d)
+  waits_fits : (more to note : ℕ) (load : Load) (now : ℕ) (d : Draft StationMemory) → Fits l more 3 d → Fits l more 3 (waits to note load now d)
   unfolding waits
   waits_fits more to note load now d f = record { count = f.count; turns = f.turns }
 
-  numbered_fits : (d : Doing Line) → Fits l 0 2 d → Fits l 0 3 (numbered d)
-  unfolding numbered
+  numbered_fits : (d : Draft StationMemory) → Fits l 0 2 d → Fits l 0 3 (with_own_number d)
+  unfolding with_own_number
   numbered_fits d f = record { count = f.count; turns = InTurn-append 0 2 3 d.puts _ f.turns (number_turn d.memory.own_number) }
 
-  seeks_fits : (more own dest : ℕ) (d : Doing Line) → 1 ≤ more → Fits l 0 2 d → Fits l more 3 (seeks_once own dest d)
+  seeks_fits : (more own dest : ℕ) (d : Draft StationMemory) → 1 ≤ more → Fits l 0 2 d → Fits l more 3 (seeks_once own dest d)
   unfolding seeks_once
   seeks_fits more own dest d few f = by_wait (is_awaited d.memory dest)
     where
@@ -220,75 +220,75 @@ module _ (l : Line) where
       by_wait true = looser l 0 2 more 3 d (omega arith) (omega arith) f
       by_wait false = looser l (0 + 1) 3 more 3 _ (omega arith) (omega arith) (goes_fits l 0 3 _ _ _ _ (numbered_fits d f))
 
-  pub sets_out_fits : (more own to note : ℕ) (load : Load) (now : ℕ) (d : Doing Line) → 1 ≤ more → units_in load ≤ more → Fits l 0 2 d → Fits l more 3 (sets_out own to note load now d)
+  pub sets_out_fits : (more own to note : ℕ) (load : Load) (now : ℕ) (d : Draft StationMemory) → 1 ≤ more → units_in load ≤ more → Fits l 0 2 d → Fits l more 3 (sets_out own to note load now d)
   sets_out_fits more own to note load now d one few f = by_hop (next_hop d.memory to) refl
     where
       by_hop : (hop : Option ℕ) → next_hop d.memory to ≡ hop → Fits l more 3 (sets_out own to note load now d)
       by_hop None e = rw e (waits_fits more to note load now _ (seeks_fits more own to d one f))
       by_hop (Some hop) e = rw e (body_fits more own hop to note load d few f)
 
-  pub tagged_fits : (d : Doing Line) → Fits l 0 1 d → Fits l 0 2 (tagged d)
-  unfolding tagged
+  pub tagged_fits : (d : Draft StationMemory) → Fits l 0 1 d → Fits l 0 2 (with_next_tag d)
+  unfolding with_next_tag
   tagged_fits d f = record { count = f.count; turns = InTurn-append 0 1 2 d.puts _ f.turns (omega arith, omega arith) }
 
   -- # Over all of the memory
 
-  ringed_fits : (r : ring.Ring) (d : Doing Line) → Fits l 0 1 d → Fits l 0 1 (ringed r d)
-  unfolding ringed
+  ringed_fits : (r : ring.Ring) (d : Draft StationMemory) → Fits l 0 1 d → Fits l 0 1 (with_ring r d)
+  unfolding with_ring
   ringed_fits r d f = record { count = f.count; turns = InTurn-append 0 1 1 d.puts _ f.turns (omega arith, omega arith) }
 
-  pub on_ring : (r : ring.Ring) (d : Doing Memory) → Fits l 0 1 d → Fits l 0 1 (on_line (ringed r) d)
-  unfolding on_line
-  on_ring r d f = let x = ringed_fits r (line_part d) (record { count = f.count; turns = f.turns }) in record { count = x.count; turns = x.turns }
+  pub on_ring : (r : ring.Ring) (d : Draft Memory) → Fits l 0 1 d → Fits l 0 1 (on_station (with_ring r) d)
+  unfolding on_station
+  on_ring r d f = let x = ringed_fits r (station_part d) (record { count = f.count; turns = f.turns }) in record { count = x.count; turns = x.turns }
 
-  pub idled_fits : (d : Doing Memory) → Fits l 0 1 d → Fits l 0 1 (on_line (λ x. ringed None (record x { memory = idled x.memory })) d)
-  unfolding on_line
+  pub idled_fits : (d : Draft Memory) → Fits l 0 1 d → Fits l 0 1 (on_station (λ x. with_ring None (record x { memory = idled x.memory })) d)
+  unfolding on_station
   idled_fits d f =
-      let x = ringed_fits None (record (line_part d) { memory = idled d.memory.line }) (record { count = f.count; turns = f.turns }) in
+      let x = ringed_fits None (record (station_part d) { memory = idled d.memory.station }) (record { count = f.count; turns = f.turns }) in
       record { count = x.count; turns = x.turns }
 
-  pub remembered_fits : (change : Memory → Memory) (d : Doing Memory) → Fits l 0 1 d → Fits l 0 1 (remembered change d)
-  unfolding remembered
+  pub remembered_fits : (change : Memory → Memory) (d : Draft Memory) → Fits l 0 1 d → Fits l 0 1 (with_memory_by change d)
+  unfolding with_memory_by
   remembered_fits change d f = record { count = f.count; turns = f.turns }
 
-  pub tags_fit : (made opened : List PairTag) (d : Doing Memory) → Fits l 0 1 d → Fits l 0 1 (tagged_with made opened d)
-  unfolding tagged_with
+  pub tags_fit : (made opened : List PairTag) (d : Draft Memory) → Fits l 0 1 d → Fits l 0 1 (with_pair_tags made opened d)
+  unfolding with_pair_tags
   tags_fit made opened d f = record { count = f.count; turns = f.turns }
 
-  pub entered_fits : (e : BookEntry) (d : Doing Memory) → Fits l 0 1 d → Fits l 0 1 (entered e d)
-  unfolding entered
+  pub entered_fits : (e : BookEntry) (d : Draft Memory) → Fits l 0 1 d → Fits l 0 1 (with_book_entry e d)
+  unfolding with_book_entry
   entered_fits e d f = record { count = f.count; turns = InTurn-append 0 1 1 d.puts _ f.turns (entry_turn d.memory.book e) }
 
-  pub up_done : (agent : ℕ) (own : Eui) (message : JoinMessage) (d : Doing Memory) → Fits l 0 1 d → IsDone l (goes_up agent own message d)
+  pub up_done : (agent : ℕ) (own : Eui) (message : JoinMessage) (d : Draft Memory) → Fits l 0 1 d → IsDone l (goes_up agent own message d)
   unfolding goes_up
   up_done agent own message d f =
       let n = f.count in
       let longer = one_more d.plain (Up agent own message) in
       record { few = λ h. omega arith; turns = later_turn 0 1 3 d.puts (omega arith) f.turns }
 
-  pub down_done : (own : ℕ) (message : JoinMessage) (d : Doing Memory) → Fits l 0 1 d → IsDone l (goes_down own message d)
+  pub down_done : (own : ℕ) (message : JoinMessage) (d : Draft Memory) → Fits l 0 1 d → IsDone l (goes_down own message d)
   unfolding goes_down
   down_done own message d f =
       let n = f.count in
       let longer = one_more d.plain (Down own message) in
       record { few = λ h. omega arith; turns = later_turn 0 1 3 d.puts (omega arith) f.turns }
 
-  pub commanded_done : (to : ℕ) (message : JoinMessage) (now : ℕ) (d : Doing Memory) → Fits l 0 1 d → IsDone l (is_commanded to message now d)
-  unfolding is_commanded on_line
-  commanded_done to message now d f = by_address (address_of d.memory.line)
+  pub commanded_done : (to : ℕ) (message : JoinMessage) (now : ℕ) (d : Draft Memory) → Fits l 0 1 d → IsDone l (is_commanded to message now d)
+  unfolding is_commanded on_station
+  commanded_done to message now d f = by_address (address_of d.memory.station)
     where
-      by_address : (own : Option ℕ) → IsDone l (option_map_or (λ own. on_line (sets_out own to 0 (Command (command_of message)) now) d) own d)
+      by_address : (own : Option ℕ) → IsDone l (option_map_or (λ own. on_station (sets_out own to 0 (Command (command_of message)) now) d) own d)
       by_address None = done l 0 1 d (omega arith) (omega arith) f
       by_address (Some own) =
-          let x = sets_out_fits 1 own to 0 (Command (command_of message)) now (line_part d) (omega arith) (omega arith) (record { count = f.count; turns = later_turn 0 1 2 d.puts (omega arith) f.turns }) in
+          let x = sets_out_fits 1 own to 0 (Command (command_of message)) now (station_part d) (omega arith) (omega arith) (record { count = f.count; turns = later_turn 0 1 2 d.puts (omega arith) f.turns }) in
           let n = x.count in
           record { few = λ h. omega arith; turns = x.turns }
 
-  pub quiet_done : (d : Doing Memory) → Fits l 0 1 d → IsDone l d
+  pub quiet_done : (d : Draft Memory) → Fits l 0 1 d → IsDone l d
   quiet_done d f = done l 0 1 d (omega arith) (omega arith) f
 
-pub of_line_done : (m : Memory) (d : Doing Line) → IsDone m.line d → IsDone m.line (record { puts = d.puts; memory = with_line d.memory m; units = d.units; plain = d.plain; made = d.made; opened = d.opened })
-of_line_done m d f = record { few = f.few; turns = f.turns }
+pub of_station_done : (m : Memory) (d : Draft StationMemory) → IsDone m.station d → IsDone m.station (record { puts = d.puts; memory = with_station d.memory m; units = d.units; plain = d.plain; made = d.made; opened = d.opened })
+of_station_done m d f = record { few = f.few; turns = f.turns }
 
 pub ruleset quiet = (begun_fits, on_ring, idled_fits, remembered_fits, tags_fit, entered_fits)
 

@@ -18,15 +18,15 @@ use Rattle.node_rules.specs.declared.heard.Accepted.{Accepted}
 use Rattle.node_rules.specs.declared.refusal.FrameRefusal.{FrameRefusal}
 use Rattle.node_rules.specs.declared.refusal.FrameRefusal.TheVariants.{Malformed, NotForMe, NoKey, BadTag, Replayed, PeersFull, Store}
 use Rattle.node_rules.specs.Frames.{Arrived, to_all}
-use Rattle.node_rules.specs.Memory.{Line, address_of}
+use Rattle.node_rules.specs.Memory.{StationMemory, address_of}
 use Rattle.node_rules.specs.Plans.{Plan, resting}
 
 -- what a node does about octets that came
 abbrev pub Accepting : Type 0
-Accepting = Plan Line (Result Accepted FrameRefusal)
+Accepting = Plan StationMemory (Result Accepted FrameRefusal)
 
 -- whether an address is the own one; a node without a ring has none
-abbrev pub is_own : Line → ℕ → Bool
+abbrev pub is_own : StationMemory → ℕ → Bool
 is_own l address = option_map_or (λ own. own == address) (address_of l) false
 
 -- whether two identities are the same: they are compared by their numbers, as the book does
@@ -35,13 +35,13 @@ same_eui a b = eui_number a == eui_number b
 
 -- whether a frame is for this node and from another one: a sealed one to the own address or to all, a plain one up to the own
 -- address or down to the own EUI
-abbrev pub is_for_me : Line → Eui → MacHead → Bool
+abbrev pub is_for_me : StationMemory → Eui → MacHead → Bool
 is_for_me l own (heads.Sealed ack seq pan to from counter index) = (pan == PAN) && ((is_own l to || (to == to_all)) && not (is_own l from))
 is_for_me l own (heads.Up ack version seq pan to from) = (pan == PAN) && (is_own l to && not (same_eui own from))
 is_for_me l own (heads.Down ack version seq pan to from) = (pan == PAN) && (same_eui own to && not (is_own l from))
 
 -- the octets are refused, and nothing changes
-abbrev pub refuse : Line → FrameRefusal → Accepting
+abbrev pub refuse : StationMemory → FrameRefusal → Accepting
 refuse l reason = resting l (Err reason) (Err Store)
 
 -- what the marks say of a counter
@@ -51,7 +51,7 @@ mark_refusal peers.PeersFull = PeersFull
 mark_refusal peers.Store = Store
 
 -- the counter of the sender is kept as its mark, which is stored first where it has to be
-unfoldable pub marking : Line → ℕ → ℕ → Accepted → Accepting
+unfoldable pub marking : StationMemory → ℕ → ℕ → Accepted → Accepting
 marking l from counter accepted = record {
   answer = Ok accepted;
   failed = Err Store;
@@ -63,32 +63,32 @@ marking l from counter accepted = record {
 }
 
 -- what the marks say decides
-abbrev pub admitted : Line → ℕ → ℕ → Accepted → Result (Unit {0}) PeerFault → Accepting
+abbrev pub admitted : StationMemory → ℕ → ℕ → Accepted → Result (Unit {0}) PeerFault → Accepting
 admitted l from counter accepted (Ok u) = marking l from counter accepted
 admitted l from counter accepted (Err fault) = refuse l (mark_refusal fault)
 
 -- the counter of a sealed frame whose tag is right, where it is above the mark
-abbrev pub admit : Line → ℕ → ℕ → Accepted → Accepting
+abbrev pub admit : StationMemory → ℕ → ℕ → Accepted → Accepting
 admit l from counter accepted = admitted l from counter accepted (marks.room_for l.marks from counter)
 
 -- a sealed frame, with the key at its index and then with what that key opens
-abbrev pub open_sealed : Line → (to from counter : ℕ) → Key → Option (List ℕ) → Accepting
+abbrev pub open_sealed : StationMemory → (to from counter : ℕ) → Key → Option (List ℕ) → Accepting
 open_sealed l to from counter key None = refuse l BadTag
 open_sealed l to from counter key (Some payload) =
     admit l from counter (record { path = paths.Sealed from (to == to_all) key; payload = payload })
 
 -- a sealed frame, with the key that the ring has at its index
-abbrev pub with_key : Line → Arrived → (to from counter : ℕ) → Option Key → Accepting
+abbrev pub with_key : StationMemory → Arrived → (to from counter : ℕ) → Option Key → Accepting
 with_key l a to from counter None = refuse l NoKey
 with_key l a to from counter (Some key) = open_sealed l to from counter key (a.opened key)
 
 -- a frame for this node, by its head
-abbrev pub accept_head : Line → Arrived → MacHead → Accepting
+abbrev pub accept_head : StationMemory → Arrived → MacHead → Accepting
 accept_head l a (heads.Sealed ack seq pan to from counter index) = with_key l a to from counter (ring.key_in_ring l.ring index)
 accept_head l a (heads.Up ack version seq pan to from) = resting l (Ok (record { path = paths.Up from; payload = a.body })) (Err Store)
 accept_head l a (heads.Down ack version seq pan to from) = resting l (Ok (record { path = paths.Down from; payload = a.body })) (Err Store)
 
 -- what a node that is not halted makes of octets that came
-abbrev pub accept : Line → Eui → Option Arrived → Accepting
+abbrev pub accept : StationMemory → Eui → Option Arrived → Accepting
 accept l own None = refuse l Malformed
 accept l own (Some a) = if is_for_me l own a.head then accept_head l a a.head else refuse l NotForMe

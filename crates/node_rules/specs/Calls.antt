@@ -20,16 +20,16 @@ use Rattle.node_rules.specs.declared.refusal.SendRefusal.{SendRefusal}
 use Rattle.node_rules.specs.declared.refusal.SendRefusal.TheVariants.{NotJoined, BadSize, ToSelf, WaitingFull, SeqSpent, CounterSpent, Store}
 use Rattle.node_rules.specs.declared.refusal.PresetFault.{PresetFault}
 use Rattle.node_rules.specs.declared.refusal.PresetFault.TheVariants as presets
-use Rattle.node_rules.specs.Memory.{Line, Body, Datagram, Command, address_of, next_hop}
+use Rattle.node_rules.specs.Memory.{StationMemory, Body, Datagram, Command, address_of, next_hop}
 use Rattle.node_rules.specs.Plans.{Plan, resting}
 use Rattle.node_rules.specs.Accepting.{is_own}
-use Rattle.node_rules.specs.Doings.{Doing, Ends, Lack, OfRoom, OfNumbers, alone, begun, ranked, ringed, tagged, sets_out, lack, is_awaited, counters_left, refused, sealing, sealed, checked, choose}
+use Rattle.node_rules.specs.Drafts.{Draft, Ends, Lack, OfRoom, OfNumbers, alone, empty_draft, with_rank, with_ring, with_next_tag, sets_out, lack, is_awaited, counters_left, refused, sealing, sealed, checked, choose}
 
 -- # Sending
 
 -- what a node does about a body that is to go to an address
 abbrev pub Sending : Type 0
-Sending = Plan Line (Result SentHow SendRefusal)
+Sending = Plan StationMemory (Result SentHow SendRefusal)
 
 -- how its words say that counters are spent, and that a store write failed
 abbrev pub sending_ends : Ends SendRefusal
@@ -41,58 +41,58 @@ lacking OfRoom = WaitingFull
 lacking OfNumbers = SeqSpent
 
 -- whether a body goes out or waits
-abbrev pub how : Line → ℕ → SentHow
+abbrev pub how : StationMemory → ℕ → SentHow
 how l to = if is_some (next_hop l to) then Sent else Waiting
 
 -- a datagram that is cut takes a tag, also where it waits
-abbrev pub tag_taken : List ℕ → Doing Line → Doing Line
-tag_taken octets d = if nat_le (length octets) 375 then d else tagged d
+abbrev pub tag_taken : List ℕ → Draft StationMemory → Draft StationMemory
+tag_taken octets d = if nat_le (length octets) 375 then d else with_next_tag d
 
 -- what is wrong with a datagram for an address, in the order of the refusals
-abbrev pub send_fault : Line → ℕ → List ℕ → Option SendRefusal
+abbrev pub send_fault : StationMemory → ℕ → List ℕ → Option SendRefusal
 send_fault l to datagram =
     Some BadSize when ((length datagram == 0) || nat_lt 1280 (length datagram))
     then Some ToSelf when is_own l to
     then option_map lacking (lack l to (length datagram))
 
 -- a datagram sets out from the own address
-abbrev pub send_from : Line → ℕ → ℕ → List ℕ → (note now : ℕ) → Sending
+abbrev pub send_from : StationMemory → ℕ → ℕ → List ℕ → (note now : ℕ) → Sending
 send_from l own to datagram note now =
     checked sending_ends l (send_fault l to datagram)
-    (sealed alone sending_ends l (sets_out own to note (Datagram datagram l.next_tag) now (tag_taken datagram (begun l))) (how l to))
+    (sealed alone sending_ends l (sets_out own to note (Datagram datagram l.next_tag) now (tag_taken datagram (empty_draft l))) (how l to))
 
 -- a datagram is sent
-abbrev pub send : Line → ℕ → List ℕ → (note now : ℕ) → Sending
+abbrev pub send : StationMemory → ℕ → List ℕ → (note now : ℕ) → Sending
 send l to datagram note now = option_map_or (λ own. send_from l own to datagram note now) (address_of l) (refused sending_ends l NotJoined)
 
 -- a command sets out from the own address
-abbrev pub command_from : Line → ℕ → ℕ → List ℕ → ℕ → Sending
+abbrev pub command_from : StationMemory → ℕ → ℕ → List ℕ → ℕ → Sending
 command_from l own to octets now =
     checked sending_ends l (option_map lacking (lack l to (length octets)))
-    (sealed alone sending_ends l (sets_out own to 0 (Command octets) now (begun l)) (how l to))
+    (sealed alone sending_ends l (sets_out own to 0 (Command octets) now (empty_draft l)) (how l to))
 
 -- a command is sent, whose code stands first; the own address is treated as any other
-abbrev pub send_command : Line → ℕ → List ℕ → ℕ → Sending
+abbrev pub send_command : StationMemory → ℕ → List ℕ → ℕ → Sending
 send_command l to octets now = option_map_or (λ own. command_from l own to octets now) (address_of l) (refused sending_ends l NotJoined)
 
 -- how many frames a command for an address needs: one by its route, and one to seek a route that nothing seeks yet
-abbrev pub command_frames : Line → ℕ → ℕ
+abbrev pub command_frames : StationMemory → ℕ → ℕ
 command_frames l to = if is_some (next_hop l to) then 1 else (if is_awaited l to then 0 else 1)
 
 -- what a command of so many octets lacks, its counters among it
-abbrev pub room_fault : Line → ℕ → ℕ → Option SendRefusal
+abbrev pub room_fault : StationMemory → ℕ → ℕ → Option SendRefusal
 room_fault l to octets =
     option_map lacking (lack l to octets)
     then Some CounterSpent when nat_lt (counters_left l) (command_frames l to)
 
 -- what a command of so many octets for an address would be refused for
-abbrev pub room : Line → ℕ → ℕ → Option SendRefusal
+abbrev pub room : StationMemory → ℕ → ℕ → Option SendRefusal
 room l to octets = option_map_or (λ _. room_fault l to octets) (address_of l) (Some NotJoined)
 
 -- # Routes and time
 
 -- the link to a neighbour broke: the routes by it end
-abbrev pub broke : ℕ → Line → Line
+abbrev pub broke : ℕ → StationMemory → StationMemory
 broke next l = record l { routing = routing.without_next l.routing next }
 
 -- whether so many seconds have not passed since a time
@@ -100,7 +100,7 @@ abbrev pub is_within : ℕ → ℕ → ℕ → Bool
 is_within seconds now since = nat_lt now (since + seconds)
 
 -- the routes end that were offered 21,600 seconds ago, the reassemblies that began 60 and the bodies that came 30 seconds ago
-abbrev pub tick : ℕ → Line → Line
+abbrev pub tick : ℕ → StationMemory → StationMemory
 tick now l = record l {
   routing = routing.expired l.routing now;
   reassemblies = pieces.unexpired l.reassemblies now;
@@ -111,60 +111,60 @@ tick now l = record l {
 
 -- what a node does about its ring
 abbrev pub Ringing : Type 0
-Ringing = Plan Line (Result (Unit {0}) RingFault)
+Ringing = Plan StationMemory (Result (Unit {0}) RingFault)
 
 -- a ring takes no counter, so one word serves for both
 abbrev pub ringing_ends : Ends RingFault
 ringing_ends = record { spent = ring_faults.Store; store = ring_faults.Store }
 
 -- a doing that sends nothing, carried to its end
-abbrev pub ring_ends : Doing Line → Ringing
+abbrev pub ring_ends : Draft StationMemory → Ringing
 ring_ends d = sealing alone ringing_ends d tt
 
 -- a grant is installed
-abbrev pub install : Line → Granted → Ringing
-install l granted = ring_ends (ringed (Some granted) (begun l))
+abbrev pub install : StationMemory → Granted → Ringing
+install l granted = ring_ends (with_ring (Some granted) (empty_draft l))
 
 -- a key comes to an index
-abbrev pub put_key : Line → ℕ → Key → Ringing
-put_key l index key = ring_ends (ringed (ring.with_key l.ring index key) (begun l))
+abbrev pub put_key : StationMemory → ℕ → Key → Ringing
+put_key l index key = ring_ends (with_ring (ring.with_key l.ring index key) (empty_draft l))
 
 -- a key seals from now on
-abbrev pub activate : Line → ℕ → Ringing
+abbrev pub activate : StationMemory → ℕ → Ringing
 activate l index =
-    choose (is_some (ring.key_in_ring l.ring index)) (ring_ends (ringed (ring.with_active l.ring index) (begun l))) (refused ringing_ends l ring_faults.NotHeld)
+    choose (is_some (ring.key_in_ring l.ring index)) (ring_ends (with_ring (ring.with_active l.ring index) (empty_draft l))) (refused ringing_ends l ring_faults.NotHeld)
 
 -- the routes, what is gathered and what waits end; ranks, marks and numbers stay
-abbrev pub idled : Line → Line
+abbrev pub idled : StationMemory → StationMemory
 idled l = record l { routing = routing.at_rest l.routing; reassemblies = []; waiting = [] }
 
 -- the ring is dropped
-abbrev pub leaving : Line → Doing Line
-leaving l = ringed None (begun (idled l))
+abbrev pub leaving : StationMemory → Draft StationMemory
+leaving l = with_ring None (empty_draft (idled l))
 
 -- the ring goes, and with it what hangs on the address
-abbrev pub leave : Line → Ringing
+abbrev pub leave : StationMemory → Ringing
 leave l = ring_ends (leaving l)
 
 -- # Settings of the workshop
 
 -- what a node does about a value that the setup gives it
 abbrev pub Presetting : Type 0
-Presetting = Plan Line (Result (Unit {0}) PresetFault)
+Presetting = Plan StationMemory (Result (Unit {0}) PresetFault)
 
 -- a value takes no counter, so one word serves for both
 abbrev pub presetting_ends : Ends PresetFault
 presetting_ends = record { spent = presets.Store; store = presets.Store }
 
 -- the next counter, which is stored as the limit
-abbrev pub preset_counter : Line → ℕ → Presetting
+abbrev pub preset_counter : StationMemory → ℕ → Presetting
 preset_counter l value = record (resting l (Ok tt) (Err presets.Store)) {
   puts = puts_of (counter.limit_write value);
   memory = record l { counter = counter.counting_at value };
 }
 
 -- the last own number, which is stored as the limit
-abbrev pub preset_number : Line → ℕ → Presetting
+abbrev pub preset_number : StationMemory → ℕ → Presetting
 preset_number l value = record (resting l (Ok tt) (Err presets.Store)) {
   puts = puts_of (own_number.limit_write value);
   memory = record l { own_number = own_number.numbering_at value };
@@ -175,12 +175,12 @@ abbrev pub near_rank : ℕ → Rank
 near_rank cost = record { number = 1; cost = cost }
 
 -- what is wrong with a neighbour that the setup gives
-abbrev pub preset_fault : Line → ℕ → ℕ → ℕ → Option PresetFault
+abbrev pub preset_fault : StationMemory → ℕ → ℕ → ℕ → Option PresetFault
 preset_fault l to cost now =
     Some presets.NotBetter when not (routing.is_better l.routing to (near_rank cost))
     then Some presets.RoutesFull when routing.is_full l.routing to now
 
 -- a neighbour is offered by itself
-abbrev pub preset_near : Line → ℕ → ℕ → ℕ → Presetting
+abbrev pub preset_near : StationMemory → ℕ → ℕ → ℕ → Presetting
 preset_near l to cost now =
-    checked presetting_ends l (preset_fault l to cost now) (sealing alone presetting_ends (ranked to (near_rank cost) to now (begun l)) tt)
+    checked presetting_ends l (preset_fault l to cost now) (sealing alone presetting_ends (with_rank to (near_rank cost) to now (empty_draft l)) tt)

@@ -31,15 +31,15 @@ use Rattle.node_rules.specs.declared.refusal.Dropped.TheVariants as drops
 use Rattle.node_rules.specs.declared.refusal.CoordinatorRefusal.{CoordinatorRefusal}
 use Rattle.node_rules.specs.declared.refusal.CoordinatorRefusal.TheVariants as refusal
 use Rattle.node_rules.specs.Ciphers.{Ciphers}
-use Rattle.node_rules.specs.Memory.{Line, Memory, CoordinatorSession, next_hop}
+use Rattle.node_rules.specs.Memory.{StationMemory, Memory, CoordinatorSession, next_hop}
 use Rattle.node_rules.specs.Plans.{Plan, resting, within}
 use Rattle.node_rules.specs.Accepting.{same_eui}
-use Rattle.node_rules.specs.Doings.{Doing, Ends, Lack, OfRoom, OfNumbers, begun, ringed, counters_left, refused, sealing, sealed, checked, choose}
+use Rattle.node_rules.specs.Drafts.{Draft, Ends, Lack, OfRoom, OfNumbers, empty_draft, with_ring, counters_left, refused, sealing, sealed, checked, choose}
 use Rattle.node_rules.specs.Hearing.{dropped, hear}
 use Rattle.node_rules.specs.Calls as calls
 use Rattle.node_rules.specs.Joining.{first_packet, server_for, rand_p_in, server_agrees, message, command_of}
-use Rattle.node_rules.specs.Holding.{with_line, in_memory, on_line, remembered, tagged_with, goes_down, is_commanded, command_lack, oldest, without_oldest, Unread, unread, packet_fault}
-use Rattle.node_rules.specs.Doings as doings
+use Rattle.node_rules.specs.MemoryDrafts.{with_station, in_memory, on_station, with_memory_by, with_pair_tags, goes_down, is_commanded, command_lack, oldest, without_oldest, Unread, unread, packet_fault}
+use Rattle.node_rules.specs.Drafts as drafts
 
 -- what the coordinator does about a frame that was accepted
 abbrev pub Hearing : Type 0
@@ -55,7 +55,7 @@ abbrev pub drop_it : Memory → Dropped → Hearing
 drop_it m reason = refused dropped m reason
 
 -- the doing is carried to its end
-abbrev pub ends : Memory → Doing Memory → CoordinatorHeard → Hearing
+abbrev pub ends : Memory → Draft Memory → CoordinatorHeard → Hearing
 ends m d answer = sealed in_memory dropped m d answer
 
 -- # Sessions
@@ -85,8 +85,8 @@ sessions_full m eui = if is_some (session_of m eui) then false else nat_lt 7 (le
 -- # The book
 
 -- the entry of a meter is another one: it is stored where it has changed
-unfoldable pub entered : BookEntry → Doing Memory → Doing Memory
-entered e d = record d {
+unfoldable pub with_book_entry : BookEntry → Draft Memory → Draft Memory
+with_book_entry e d = record d {
   puts = d.puts ++ puts_of (book.change_write d.memory.book e);
   memory = record d.memory { book = book.with_entry d.memory.book e };
 }
@@ -97,12 +97,12 @@ allowed_entry m eui = book.allowed_one m.book eui
 
 -- what the coordinator grants a meter: its address in the book, and the keys of the ring
 abbrev pub grant_for : Memory → Eui → Option Granted
-grant_for m eui = option_and_then (λ address. option_map (λ (g : Granted). record g { address = address }) m.line.ring) (book.address_of m.book eui)
+grant_for m eui = option_and_then (λ address. option_map (λ (g : Granted). record g { address = address }) m.station.ring) (book.address_of m.book eui)
 
 -- # What is said to a meter
 
 -- it goes the way of a session: in a plain frame, or in a command
-abbrev pub says : Way → JoinMessage → ℕ → Doing Memory → Doing Memory
+abbrev pub says : Way → JoinMessage → ℕ → Draft Memory → Draft Memory
 says (Air eui) join now d = goes_down 0 join d
 says (Near agent) join now d = d
 says (Mesh origin) join now d = is_commanded origin join now d
@@ -117,22 +117,22 @@ say_lack m (Mesh origin) join = command_lack m origin join
 
 -- a meter that is not allowed is declined
 abbrev pub declines : Memory → Way → JoinMessage → ℕ → Hearing
-declines m way join now = checked dropped m (say_lack m way join) (ends m (says way join now (begun m)) heard.Declined)
+declines m way join now = checked dropped m (say_lack m way join) (ends m (says way join now (empty_draft m)) heard.Declined)
 
 -- what stands in the way of a session
 abbrev pub session_fault : Memory → Eui → Option Dropped
 session_fault m eui = Some drops.SessionsFull when sessions_full m eui
 
 -- the oldest random value is taken, and a session of the meter begins
-abbrev pub opens : CoordinatorSession → Doing Memory → Doing Memory
-opens s d = remembered (λ n. with_session s (without_oldest n)) d
+abbrev pub opens : CoordinatorSession → Draft Memory → Draft Memory
+opens s d = with_memory_by (λ n. with_session s (without_oldest n)) d
 
 -- the first packet goes to the meter
 abbrev pub challenges : Memory → Way → Server → ℕ → Hearing
 challenges m way server now =
     let join = message server.eui (body.Challenge (first_packet server)) in
     checked dropped m (say_lack m way join)
-    (ends m (says way join now (opens (record { server = server; way = way; since = now }) (begun m))) heard.Challenged)
+    (ends m (says way join now (opens (record { server = server; way = way; since = now }) (empty_draft m))) heard.Challenged)
 
 -- a session is opened where there is room for it and a random value is left
 abbrev pub open_session : CoordinatorIdentity → Memory → Way → Eui → ℕ → Hearing
@@ -154,10 +154,10 @@ keys_for own m s e rand_p granted now =
     checked dropped m (say_lack m s.way join)
     (ends m
     (says s.way join now
-    (tagged_with (mac_s_tag s.server.eui s.server.id_s rand_p ∷ granting_tag s.server.eui 2 s.server.rand_s rand_p (granting_text granted) ∷ [])
+    (with_pair_tags (mac_s_tag s.server.eui s.server.id_s rand_p ∷ granting_tag s.server.eui 2 s.server.rand_s rand_p (granting_text granted) ∷ [])
     (mac_p_tag s.server.eui s.server.id_s s.server.rand_s rand_p ∷ [])
-    (entered (book.issued_entry s.server.eui granted e)
-    (remembered (with_session (record s { server = record s.server { rand_p = Some rand_p } })) (begun m)))))
+    (with_book_entry (book.issued_entry s.server.eui granted e)
+    (with_memory_by (with_session (record s { server = record s.server { rand_p = Some rand_p } })) (empty_draft m)))))
     (heard.Keyed s.server.eui granted))
 
 -- the second packet is refused by its first fault, and answered with the keys else
@@ -173,8 +173,8 @@ accepts m s rand_p now =
     checked dropped m (say_lack m s.way join)
     (ends m
     (says s.way join now
-    (tagged_with [] (success_tag s.server.eui 2 s.server.rand_s rand_p ∷ [])
-    (remembered (without_session s.server.eui) (begun m))))
+    (with_pair_tags [] (success_tag s.server.eui 2 s.server.rand_s rand_p ∷ [])
+    (with_memory_by (without_session s.server.eui) (empty_draft m))))
     (heard.Done s.server.eui (server_agrees s.server rand_p)))
 
 -- the fourth packet is refused by its first fault, and accepted else
@@ -213,26 +213,26 @@ hear_join_in own m way (Some join) now = choose (may_come way join.eui) (hear_jo
 -- # A frame that was accepted
 
 -- what the line made of a frame, as the coordinator says it
-abbrev pub on_station : Result Heard Dropped → Result CoordinatorHeard Dropped
-on_station (Ok h) = Ok (heard.Line h)
-on_station (Err reason) = Err reason
+abbrev pub heard_by_station : Result Heard Dropped → Result CoordinatorHeard Dropped
+heard_by_station (Ok h) = Ok (heard.Station h)
+heard_by_station (Err reason) = Err reason
 
 -- a joining command is for the coordinator, all else is what the line made of it
-abbrev pub heard_by : CoordinatorIdentity → Memory → ℕ → Plan Line (Result Heard Dropped) → Option Unread → Hearing
-heard_by own m now p None = within (λ l. with_line l m) on_station p
+abbrev pub heard_by : CoordinatorIdentity → Memory → ℕ → Plan StationMemory (Result Heard Dropped) → Option Unread → Hearing
+heard_by own m now p None = within (λ l. with_station l m) heard_by_station p
 heard_by own m now p (Some u) = hear_join_in own m u.way (join_in u.body) now
 
 -- what the coordinator makes of an accepted frame, which came over a link of this cost under this note
 abbrev pub hear_coordinator : CoordinatorIdentity → Memory → Accepted → (cost note now : ℕ) → Hearing
-hear_coordinator own m got cost note now = let p = hear m.line got cost note now in heard_by own m now p (unread p.answer)
+hear_coordinator own m got cost note now = let p = hear m.station got cost note now in heard_by own m now p (unread p.answer)
 
 -- # Beginning
 
 -- a coordinator without a ring installs this grant
 abbrev pub begin : Memory → Granted → Plan Memory (Result (Unit {0}) RingFault)
 begin m granted =
-    choose (is_some m.line.ring) (resting m (Ok tt) (Err Store))
-    (within (λ l. with_line l m) (λ r. r) (calls.install m.line granted))
+    choose (is_some m.station.ring) (resting m (Ok tt) (Err Store))
+    (within (λ l. with_station l m) (λ r. r) (calls.install m.station granted))
 
 -- # Orders of the operator
 
@@ -251,15 +251,15 @@ lacking OfNumbers = refusal.SeqSpent
 
 -- what a command to a meter of this address lacks
 abbrev pub order_lack : Memory → ℕ → JoinMessage → Option CoordinatorRefusal
-order_lack m to join = option_map lacking (doings.lack m.line to (length (command_of join)))
+order_lack m to join = option_map lacking (drafts.lack m.station to (length (command_of join)))
 
 -- whether an entry is another one than the book has
 abbrev pub changes : Memory → BookEntry → Bool
 changes m e = not (book.holds m.book e)
 
 -- the entry changes, and where it does the session of its meter ends
-abbrev pub changed : Memory → BookEntry → Doing Memory
-changed m e = if changes m e then remembered (without_session e.eui) (entered e (begun m)) else begun m
+abbrev pub changed : Memory → BookEntry → Draft Memory
+changed m e = if changes m e then with_memory_by (without_session e.eui) (with_book_entry e (empty_draft m)) else empty_draft m
 
 -- a meter is allowed, and has its address
 abbrev pub allow : Memory → Eui → Key → Ordering ℕ
@@ -269,9 +269,9 @@ allow m eui psk =
     (refused orders m refusal.MetersFull)
 
 -- a meter is joined in the workshop: it is allowed, and then the keys of its grant are noted as issued
-abbrev pub depot_by : Memory → Eui → Key → Doing Memory → Ordering Granted
+abbrev pub depot_by : Memory → Eui → Key → Draft Memory → Ordering Granted
 depot_by m eui psk d =
-    option_map_or (λ granted. option_map_or (λ e. sealing in_memory orders (entered (book.issued_entry eui granted e) d) granted) (book.allowed_one d.memory.book eui) (refused orders m refusal.MetersFull))
+    option_map_or (λ granted. option_map_or (λ e. sealing in_memory orders (with_book_entry (book.issued_entry eui granted e) d) granted) (book.allowed_one d.memory.book eui) (refused orders m refusal.MetersFull))
     (grant_for d.memory eui) (refused orders m refusal.MetersFull)
 
 -- there has to be room in the book
@@ -284,14 +284,14 @@ depot m eui psk =
 -- a key of the ring is drawn for an index
 abbrev pub rekey : Memory → ℕ → Key → Ordering (Unit {0})
 rekey m index key =
-    choose (option_map_or (λ (g : Granted). g.active == index) m.line.ring false) (refused orders m refusal.IndexActive)
-    (sealing in_memory orders (on_line (ringed (ring.with_key m.line.ring index key)) (begun m)) tt)
+    choose (option_map_or (λ (g : Granted). g.active == index) m.station.ring false) (refused orders m refusal.IndexActive)
+    (sealing in_memory orders (on_station (with_ring (ring.with_key m.station.ring index key)) (empty_draft m)) tt)
 
 -- another key of the ring seals from now on
 abbrev pub activate_self : Memory → ℕ → Ordering (Unit {0})
 activate_self m index =
-    choose (is_some (ring.key_in_ring m.line.ring index))
-    (sealing in_memory orders (on_line (ringed (ring.with_active m.line.ring index)) (begun m)) tt)
+    choose (is_some (ring.key_in_ring m.station.ring index))
+    (sealing in_memory orders (on_station (with_ring (ring.with_active m.station.ring index)) (empty_draft m)) tt)
     (refused orders m refusal.NotHeld)
 
 -- a session with a meter is opened over the mesh
@@ -299,7 +299,7 @@ abbrev pub challenge_by : Eui → Memory → ℕ → ℕ → Server → Ordering
 challenge_by own m to now server =
     let join = message server.eui (body.Challenge (first_packet server)) in
     checked orders m (order_lack m to join)
-    (sealed in_memory orders m (is_commanded to join now (opens (record { server = server; way = Mesh to; since = now }) (begun m))) tt)
+    (sealed in_memory orders m (is_commanded to join now (opens (record { server = server; way = Mesh to; since = now }) (empty_draft m))) tt)
 
 -- a session is opened where there is room for it and a random value is left
 abbrev pub challenge_at : Eui → Memory → Eui → ℕ → ℕ → Ordering (Unit {0})
@@ -323,11 +323,11 @@ same_as_issued (Some key) (Some issued) = book.same_key key issued
 
 -- whether the ring's key at an index is the one that was issued to a meter
 abbrev pub was_issued : Memory → BookEntry → ℕ → Bool
-was_issued m e index = same_as_issued (ring.key_in_ring m.line.ring index) (book.issued_at e index)
+was_issued m e index = same_as_issued (ring.key_in_ring m.station.ring index) (book.issued_at e index)
 
 -- a meter is told to seal with another key
 abbrev pub activate_at : Memory → ℕ → JoinMessage → ℕ → Ordering (Unit {0})
-activate_at m to join now = checked orders m (order_lack m to join) (sealed in_memory orders m (is_commanded to join now (begun m)) tt)
+activate_at m to join now = checked orders m (order_lack m to join) (sealed in_memory orders m (is_commanded to join now (empty_draft m)) tt)
 
 -- the key has to be issued to the meter
 abbrev pub activate_by : Memory → BookEntry → ℕ → ℕ → ℕ → Ordering (Unit {0})
@@ -342,14 +342,14 @@ activate m eui index now =
 
 -- a meter is shut out, its session ends, and it is told where there is a route and a counter for it; so the command never waits,
 -- and the time that it would wait from is no matter
-abbrev pub kick_goes : Memory → ℕ → JoinMessage → Doing Memory → Doing Memory
-kick_goes m to join d = if is_some (next_hop m.line to) && nat_lt 0 (counters_left m.line) then is_commanded to join 0 d else d
+abbrev pub kick_goes : Memory → ℕ → JoinMessage → Draft Memory → Draft Memory
+kick_goes m to join d = if is_some (next_hop m.station to) && nat_lt 0 (counters_left m.station) then is_commanded to join 0 d else d
 
 -- the entry is stored as kicked, the session ends, and the word goes out
 abbrev pub kick_by : Memory → BookEntry → ℕ → Ordering (Unit {0})
 kick_by m e to =
     sealing in_memory orders
-    (kick_goes m to (message e.eui body.Kick) (remembered (without_session e.eui) (entered (book.kicked_entry e.eui e) (begun m)))) tt
+    (kick_goes m to (message e.eui body.Kick) (with_memory_by (without_session e.eui) (with_book_entry (book.kicked_entry e.eui e) (empty_draft m)))) tt
 
 -- the meter has to be allowed
 abbrev pub kick : Memory → Eui → Ordering (Unit {0})
@@ -361,4 +361,4 @@ kick m eui =
 
 -- the clock goes on: what is too old ends
 abbrev pub tick : ℕ → Memory → Memory
-tick now m = record m { line = calls.tick now m.line; sessions = filter (λ (s : CoordinatorSession). calls.is_within 120 now s.since) m.sessions }
+tick now m = record m { station = calls.tick now m.station; sessions = filter (λ (s : CoordinatorSession). calls.is_within 120 now s.since) m.sessions }

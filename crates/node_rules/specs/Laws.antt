@@ -32,8 +32,8 @@ use Rattle.node_rules.specs.Hearing.{hear}
 use Rattle.node_rules.specs.Calls as calls
 use Rattle.node_rules.specs.Meters as meters
 use Rattle.node_rules.specs.Coordinators as coordinator_rules
-use Rattle.node_rules.specs.Doings.{blocks_waiting}
-use Rattle.node_rules.specs.Memory.{Line, Body, Load, Datagram, Command, Memory, Node, node_address, node_route}
+use Rattle.node_rules.specs.Drafts.{blocks_waiting}
+use Rattle.node_rules.specs.Memory.{StationMemory, Body, Load, Datagram, Command, Memory, Node, node_address, node_route}
 use Rattle.node_rules.specs.Plans.{Plan, Outcome, carry_out}
 use Rattle.node_rules.specs.NodeSteps.{acts, stays}
 
@@ -94,7 +94,7 @@ HaltedHasNoAddress = (x : Node) → x.memory ≡ None → (node_address x ≡ No
 
 -- nor has one without a ring
 abbrev pub RinglessHasNoAddress : Type 0
-RinglessHasNoAddress = (x : Node) (m : Memory) → x.memory ≡ Some m → m.line.ring ≡ None → (node_address x ≡ None) × ((dest : ℕ) → node_route x dest ≡ None)
+RinglessHasNoAddress = (x : Node) (m : Memory) → x.memory ≡ Some m → m.station.ring ≡ None → (node_address x ≡ None) × ((dest : ℕ) → node_route x dest ≡ None)
 
 -- a halted node answers each call with the word of halted nodes, and nothing changes, is sent, made or checked
 abbrev pub HaltedDoesNothing : Type 0 → Type 0
@@ -116,11 +116,11 @@ RefusesCleanly store m p = (p.failed ≡ Err store) × ((reason : _) → p.answe
 
 -- a frame that is not accepted changes nothing
 abbrev pub AFrameRefusedChangesNothing : Type 0
-AFrameRefusedChangesNothing = (l : Line) (own : Eui) (a : Option Arrived) → RefusesCleanly frames.Store l (accept l own a)
+AFrameRefusedChangesNothing = (l : StationMemory) (own : Eui) (a : Option Arrived) → RefusesCleanly frames.Store l (accept l own a)
 
 -- a frame that is dropped changes nothing: of a station, of a meter, and of the coordinator
 abbrev pub ADropChangesNothing : Type 0
-ADropChangesNothing = (l : Line) (got : Accepted) (cost note now : ℕ) → RefusesCleanly drops.Store l (hear l got cost note now)
+ADropChangesNothing = (l : StationMemory) (got : Accepted) (cost note now : ℕ) → RefusesCleanly drops.Store l (hear l got cost note now)
 
 -- the same of a frame that a meter drops
 abbrev pub AMetersDropChangesNothing : Type 0
@@ -135,7 +135,7 @@ ACoordinatorsDropChangesNothing =
 -- a send that is refused changes nothing
 abbrev pub ASendRefusedChangesNothing : Type 0
 ASendRefusedChangesNothing =
-    (l : Line) (to : ℕ) (octets : List ℕ) (note now : ℕ)
+    (l : StationMemory) (to : ℕ) (octets : List ℕ) (note now : ℕ)
     → RefusesCleanly sends.Store l (calls.send l to octets note now) × RefusesCleanly sends.Store l (calls.send_command l to octets now)
 
 -- joining and leaving that are refused change nothing
@@ -164,7 +164,7 @@ IsShort (Datagram octets tag) = length octets ≤ 1280
 IsShort (Command octets) = Unit {0}
 
 -- What waits is within its sizes: at most 8 bodies, of at most 80 blocks.
-pub record IsWithinSizes (l : Line) : Type 0 where
+pub record IsWithinSizes (l : StationMemory) : Type 0 where
   pub bodies : length l.waiting ≤ 8
   pub blocks : blocks_waiting l ≤ 80
   pub datagrams : All (λ (b : Body). IsShort b.load) l.waiting
@@ -191,45 +191,45 @@ WritesInTurn p = InTurnFrom 0 p.puts
 -- # What a plan does at most
 
 -- A plan whose writes are made in turn, and which sends at most 24 frames where what waits is within its sizes.
-pub record IsBounded {M A : Type 0} (l : Line) (p : Plan M A) : Type 0 where
+pub record IsBounded {M A : Type 0} (l : StationMemory) (p : Plan M A) : Type 0 where
   pub frames : IsWithinSizes l → SendsFew p
   pub writes : WritesInTurn p
 
 -- what a station, a meter and the coordinator make of a frame
 abbrev pub HearingIsBounded : Type 0
-HearingIsBounded = (l : Line) (got : Accepted) (cost note now : ℕ) → IsBounded l (hear l got cost note now)
+HearingIsBounded = (l : StationMemory) (got : Accepted) (cost note now : ℕ) → IsBounded l (hear l got cost note now)
 
 -- the same of a frame that a meter hears
 abbrev pub AMetersHearingIsBounded : Type 0
 AMetersHearingIsBounded =
-    (x : meters.Identity) (m : Memory) (got : Accepted) (cost note now : ℕ) → IsBounded m.line (meters.hear_meter x m got cost note now)
+    (x : meters.Identity) (m : Memory) (got : Accepted) (cost note now : ℕ) → IsBounded m.station (meters.hear_meter x m got cost note now)
 
 -- the same of a frame that the coordinator hears
 abbrev pub ACoordinatorsHearingIsBounded : Type 0
 ACoordinatorsHearingIsBounded =
-    (own : coordinator_rules.CoordinatorIdentity) (m : Memory) (got : Accepted) (cost note now : ℕ) → IsBounded m.line (coordinator_rules.hear_coordinator own m got cost note now)
+    (own : coordinator_rules.CoordinatorIdentity) (m : Memory) (got : Accepted) (cost note now : ℕ) → IsBounded m.station (coordinator_rules.hear_coordinator own m got cost note now)
 
 -- a send, of any datagram and of any command
 abbrev pub ASendIsBounded : Type 0
 ASendIsBounded =
-    (l : Line) (to : ℕ) (octets : List ℕ) (note now : ℕ)
+    (l : StationMemory) (to : ℕ) (octets : List ℕ) (note now : ℕ)
     → IsBounded l (calls.send l to octets note now) × IsBounded l (calls.send_command l to octets now)
 
 -- joining and leaving
 abbrev pub AJoinIsBounded : Type 0
-AJoinIsBounded = (x : meters.Identity) (m : Memory) (agent now : ℕ) → IsBounded m.line (meters.join x m agent now) × IsBounded m.line (meters.leave m)
+AJoinIsBounded = (x : meters.Identity) (m : Memory) (agent now : ℕ) → IsBounded m.station (meters.join x m agent now) × IsBounded m.station (meters.leave m)
 
 -- the orders of the operator
 abbrev pub AnOrderIsBounded : Type 0
 AnOrderIsBounded =
     (own : Eui) (m : Memory) (eui : Eui) (key : Key) (index now : ℕ)
-    → IsBounded m.line (coordinator_rules.allow m eui key)
-    × IsBounded m.line (coordinator_rules.depot m eui key)
-    × IsBounded m.line (coordinator_rules.rekey m index key)
-    × IsBounded m.line (coordinator_rules.activate_self m index)
-    × IsBounded m.line (coordinator_rules.challenge own m eui now)
-    × IsBounded m.line (coordinator_rules.activate m eui index now)
-    × IsBounded m.line (coordinator_rules.kick m eui)
+    → IsBounded m.station (coordinator_rules.allow m eui key)
+    × IsBounded m.station (coordinator_rules.depot m eui key)
+    × IsBounded m.station (coordinator_rules.rekey m index key)
+    × IsBounded m.station (coordinator_rules.activate_self m index)
+    × IsBounded m.station (coordinator_rules.challenge own m eui now)
+    × IsBounded m.station (coordinator_rules.activate m eui index now)
+    × IsBounded m.station (coordinator_rules.kick m eui)
 
 -- # Accepting
 
@@ -252,7 +252,7 @@ pub record OnlyMarks {M A : Type 0} (p : Plan M A) : Type 0 where
 
 -- accepting a frame stores at most the mark of its sender, at a table of at most 64 senders
 abbrev pub AcceptingOnlyMarks : Type 0
-AcceptingOnlyMarks = (l : Line) (own : Eui) (a : Option Arrived) → length l.marks ≤ 64 → OnlyMarks (accept l own a)
+AcceptingOnlyMarks = (l : StationMemory) (own : Eui) (a : Option Arrived) → length l.marks ≤ 64 → OnlyMarks (accept l own a)
 
 -- # Readings
 

@@ -39,7 +39,7 @@ pub record Body : Type 0 where
 -- # What a node on the line holds in memory
 
 -- What a node holds on the line.
-pub record Line : Type 0 where
+pub record StationMemory : Type 0 where
   -- the grant that it joined with, with its later changes
   pub ring : ring.Ring
   -- the counter of the next sealed frame
@@ -58,11 +58,11 @@ pub record Line : Type 0 where
   pub waiting : List Body
 
 -- the address of a node is its ring's
-abbrev pub address_of : Line → Option ℕ
+abbrev pub address_of : StationMemory → Option ℕ
 address_of l = option_map (λ g. g.address) l.ring
 
 -- the next hop of the valid route to an address
-unfoldable pub next_hop : Line → ℕ → Option ℕ
+unfoldable pub next_hop : StationMemory → ℕ → Option ℕ
 next_hop l dest = option_map (λ t. t.next) (routing.route_of l.routing dest)
 
 -- # Sessions of a joining
@@ -89,7 +89,7 @@ pub record CoordinatorSession : Type 0 where
 -- What a node that is not halted holds in memory. A meter has no session of the coordinator and no book, the coordinator no
 -- session of a meter.
 pub record Memory : Type 0 where
-  pub line : Line
+  pub station : StationMemory
   -- the random values that it was given, the oldest first
   pub randoms : List Rand
   pub session : Option MeterSession
@@ -115,12 +115,12 @@ pub record Node : Type 0 where
 
 -- a halted node has no address and no route, like one without a ring
 abbrev pub node_address : Node → Option ℕ
-node_address x = option_and_then (λ m. address_of m.line) x.memory
+node_address x = option_and_then (λ m. address_of m.station) x.memory
 
 -- the next hop to an address, which a node without a ring does not have
-abbrev pub line_route : Line → ℕ → Option ℕ
-line_route l dest = option_and_then (λ _. next_hop l dest) l.ring
+abbrev pub station_route : StationMemory → ℕ → Option ℕ
+station_route l dest = option_and_then (λ _. next_hop l dest) l.ring
 
 -- the same of a node, which has none while it is halted
 abbrev pub node_route : Node → ℕ → Option ℕ
-node_route x dest = option_and_then (λ m. line_route m.line dest) x.memory
+node_route x dest = option_and_then (λ m. station_route m.station dest) x.memory

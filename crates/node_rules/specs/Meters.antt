@@ -29,14 +29,14 @@ use Rattle.node_rules.specs.declared.refusal.JoinRefusal.TheVariants.{AlreadyJoi
 use Rattle.node_rules.specs.declared.refusal.LeaveRefusal.{LeaveRefusal}
 use Rattle.node_rules.specs.declared.refusal.LeaveRefusal.TheVariants as leaving
 use Rattle.node_rules.specs.Ciphers.{Ciphers}
-use Rattle.node_rules.specs.Memory.{Line, Memory, MeterSession, Course, ByAgent, ByCommand, address_of}
+use Rattle.node_rules.specs.Memory.{StationMemory, Memory, MeterSession, Course, ByAgent, ByCommand, address_of}
 use Rattle.node_rules.specs.Plans.{Plan, within}
 use Rattle.node_rules.specs.Accepting.{same_eui}
-use Rattle.node_rules.specs.Doings.{Doing, Ends, begun, ringed, refused, sealing, sealed, checked, choose}
+use Rattle.node_rules.specs.Drafts.{Draft, Ends, empty_draft, with_ring, refused, sealing, sealed, checked, choose}
 use Rattle.node_rules.specs.Hearing.{dropped, hear}
 use Rattle.node_rules.specs.Calls as calls
 use Rattle.node_rules.specs.Joining.{peer_for, identifier_of, is_first, peer_agrees, message}
-use Rattle.node_rules.specs.Holding.{with_line, in_memory, on_line, remembered, tagged_with, goes_up, goes_down, is_commanded, command_lack, oldest, without_oldest, Unread, unread, packet_fault}
+use Rattle.node_rules.specs.MemoryDrafts.{with_station, in_memory, on_station, with_memory_by, with_pair_tags, goes_up, goes_down, is_commanded, command_lack, oldest, without_oldest, Unread, unread, packet_fault}
 
 -- what a meter does about a frame that was accepted
 abbrev pub Hearing : Type 0
@@ -53,16 +53,16 @@ abbrev pub drop_it : Memory → Dropped → Hearing
 drop_it m reason = refused dropped m reason
 
 -- the doing is carried to its end
-abbrev pub ends : Memory → Doing Memory → MeterHeard → Hearing
+abbrev pub ends : Memory → Draft Memory → MeterHeard → Hearing
 ends m d answer = sealed in_memory dropped m d answer
 
 -- nothing is changed
 abbrev pub answers : Memory → MeterHeard → Hearing
-answers m answer = ends m (begun m) answer
+answers m answer = ends m (empty_draft m) answer
 
 -- whether the meter is joined
 abbrev pub is_joined : Memory → Bool
-is_joined m = is_some m.line.ring
+is_joined m = is_some m.station.ring
 
 -- # Sessions
 
@@ -85,7 +85,7 @@ with_session session m = record m { session = session }
 
 -- up: a plain JOIN of its sender goes to the coordinator in a command
 abbrev pub carries_up : Memory → JoinMessage → ℕ → Hearing
-carries_up m join now = checked dropped m (command_lack m 0 join) (ends m (is_commanded 0 join now (begun m)) heard.Carried)
+carries_up m join now = checked dropped m (command_lack m 0 join) (ends m (is_commanded 0 join now (empty_draft m)) heard.Carried)
 
 -- a JOIN in a plain frame is carried up to the coordinator, where it comes from its own meter
 abbrev pub carry_up : Memory → Eui → JoinMessage → JoinBody → ℕ → Hearing
@@ -94,7 +94,7 @@ carry_up m from join _ now = drop_it m BadUnit
 
 -- down: what the coordinator says to another node goes to it in a plain frame
 abbrev pub carries_down : Memory → JoinMessage → Hearing
-carries_down m join = option_map_or (λ own. ends m (goes_down own join (begun m)) heard.Carried) (address_of m.line) (drop_it m BadUnit)
+carries_down m join = option_map_or (λ own. ends m (goes_down own join (empty_draft m)) heard.Carried) (address_of m.station) (drop_it m BadUnit)
 
 -- a CHALLENGE, an ACCEPT and a DECLINE are carried down to their meter
 abbrev pub carry_down : Memory → JoinMessage → JoinBody → Hearing
@@ -106,7 +106,7 @@ carry_down m join _ = drop_it m BadUnit
 -- # Challenges
 
 -- what the meter says goes back the same way
-abbrev pub says : Course → Eui → JoinMessage → ℕ → Doing Memory → Doing Memory
+abbrev pub says : Course → Eui → JoinMessage → ℕ → Draft Memory → Draft Memory
 says (ByAgent agent) own join now d = goes_up agent own join d
 says ByCommand own join now d = is_commanded 0 join now d
 
@@ -136,8 +136,8 @@ replies m course peer join now =
     checked dropped m (say_lack course m join)
     (ends m
     (says course peer.eui join now
-    (tagged_with (mac_p_tag peer.eui peer.id_s peer.rand_s peer.rand_p ∷ []) []
-    (remembered (λ n. with_session (Some (record { course = course; peer = Some peer; since = now })) (without_oldest n)) (begun m))))
+    (with_pair_tags (mac_p_tag peer.eui peer.id_s peer.rand_s peer.rand_p ∷ []) []
+    (with_memory_by (λ n. with_session (Some (record { course = course; peer = Some peer; since = now })) (without_oldest n)) (empty_draft m))))
     heard.Replied)
 
 -- the second packet goes out, made with a random value
@@ -159,9 +159,9 @@ takes m course peer identifier granted join now =
     checked dropped m (say_lack course m join)
     (ends m
     (says course peer.eui join now
-    (tagged_with (success_tag peer.eui identifier peer.rand_s peer.rand_p ∷ [])
+    (with_pair_tags (success_tag peer.eui identifier peer.rand_s peer.rand_p ∷ [])
     (mac_s_tag peer.eui peer.id_s peer.rand_p ∷ granting_tag peer.eui identifier peer.rand_s peer.rand_p (granting_text granted) ∷ [])
-    (on_line (ringed (Some granted)) (remembered (with_session None) (begun m)))))
+    (on_station (with_ring (Some granted)) (with_memory_by (with_session None) (empty_draft m)))))
     (heard.Took (peer_agrees peer)))
 
 -- the third packet has to carry a grant
@@ -192,11 +192,11 @@ challenged x m course packet now = choose (is_first packet) (reply x m course pa
 abbrev pub declined : Memory → ℕ → Hearing
 declined m agent =
     choose (is_joined m) (drop_it m BadUnit)
-    (choose (has_session m (ByAgent agent)) (ends m (remembered (with_session None) (begun m)) heard.Declined) (drop_it m NoSession))
+    (choose (has_session m (ByAgent agent)) (ends m (with_memory_by (with_session None) (empty_draft m)) heard.Declined) (drop_it m NoSession))
 
 -- the ring is dropped; the routes, what is gathered, what waits and the session end
-abbrev pub leaves : Memory → Doing Memory
-leaves m = remembered (with_session None) (on_line (λ d. ringed None (record d { memory = calls.idled d.memory })) (begun m))
+abbrev pub leaves : Memory → Draft Memory
+leaves m = with_memory_by (with_session None) (on_station (λ d. with_ring None (record d { memory = calls.idled d.memory })) (empty_draft m))
 
 -- the meter leaves
 abbrev pub kicked : Memory → Hearing
@@ -205,8 +205,8 @@ kicked m = ends m (leaves m) heard.Left
 -- another key seals from now on
 abbrev pub activated : Memory → ℕ → Hearing
 activated m index =
-    choose (is_some (ring.key_in_ring m.line.ring index))
-    (ends m (on_line (ringed (ring.with_active m.line.ring index)) (begun m)) heard.Activated)
+    choose (is_some (ring.key_in_ring m.station.ring index))
+    (ends m (on_station (with_ring (ring.with_active m.station.ring index)) (empty_draft m)) heard.Activated)
     (drop_it m NotHeld)
 
 -- # A joining message
@@ -243,19 +243,19 @@ hear_join_in x m way (Some join) now = hear_join x m way join now
 -- # A frame that was accepted
 
 -- what the line made of a frame, as a meter says it
-abbrev pub on_station : Result Heard Dropped → Result MeterHeard Dropped
-on_station (Ok h) = Ok (heard.Line h)
-on_station (Err reason) = Err reason
+abbrev pub heard_by_station : Result Heard Dropped → Result MeterHeard Dropped
+heard_by_station (Ok h) = Ok (heard.Station h)
+heard_by_station (Err reason) = Err reason
 
 -- a joining command is for the meter, all else is what the line made of it
-abbrev pub heard_by : Identity → Memory → ℕ → Plan Line (Result Heard Dropped) → Option Unread → Hearing
-heard_by x m now p None = within (λ l. with_line l m) on_station p
+abbrev pub heard_by : Identity → Memory → ℕ → Plan StationMemory (Result Heard Dropped) → Option Unread → Hearing
+heard_by x m now p None = within (λ l. with_station l m) heard_by_station p
 heard_by x m now p (Some u) = hear_join_in x m u.way (join_in u.body) now
 
 -- what a meter makes of an accepted frame, which came over a link of this cost under this note
 abbrev pub hear_meter : Identity → Memory → Accepted → (cost note now : ℕ) → Hearing
 hear_meter x m got cost note now =
-    let p = hear m.line got cost note now in heard_by x m now p (unread p.answer)
+    let p = hear m.station got cost note now in heard_by x m now p (unread p.answer)
 
 -- # What a meter does by itself
 
@@ -269,7 +269,7 @@ join x m agent now =
     choose (is_joined m) (refused joining_ends m AlreadyJoined)
     (sealing in_memory joining_ends
     (goes_up agent x.eui (message x.eui (body.Join []))
-    (remembered (with_session (Some (record { course = ByAgent agent; peer = None; since = now }))) (begun m))) tt)
+    (with_memory_by (with_session (Some (record { course = ByAgent agent; peer = None; since = now }))) (empty_draft m))) tt)
 
 -- leaving takes no counter, so one word serves for both
 abbrev pub leaving_ends : Ends LeaveRefusal
@@ -281,7 +281,7 @@ leave m = choose (is_joined m) (sealing in_memory leaving_ends (leaves m) tt) (r
 
 -- the grant of the workshop is installed
 abbrev pub provision : Memory → Granted → Plan Memory (Result (Unit {0}) RingFault)
-provision m granted = within (λ l. with_line l m) (λ r. r) (calls.install m.line granted)
+provision m granted = within (λ l. with_station l m) (λ r. r) (calls.install m.station granted)
 
 -- a session that began 120 seconds ago ends
 abbrev pub session_within : ℕ → MeterSession → Option MeterSession
@@ -289,4 +289,4 @@ session_within now s = if calls.is_within 120 now s.since then Some s else None
 
 -- the clock goes on: what is too old ends
 abbrev pub tick : ℕ → Memory → Memory
-tick now m = record m { line = calls.tick now m.line; session = option_map_or (session_within now) m.session None }
+tick now m = record m { station = calls.tick now m.station; session = option_map_or (session_within now) m.session None }

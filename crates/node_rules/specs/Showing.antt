@@ -4,7 +4,7 @@ use Rattle.std.specs.Option.{option_map, option_map_or, option_and_then}
 use Rattle.plc_base.specs.Grant.{Granted}
 use Rattle.frame_counters.specs.declared.peer_marks.Peer.{Peer}
 use Rattle.routing_set.specs.declared.entry.RoutingEntry.{RoutingEntry}
-use Rattle.node_rules.specs.Memory.{Line, Node, address_of}
+use Rattle.node_rules.specs.Memory.{StationMemory, Node, address_of}
 use Rattle.node_rules.specs.declared.shown.Shown.{Shown}
 use Rattle.node_rules.specs.declared.shown.ShownRoute.{ShownRoute}
 use Rattle.node_rules.specs.declared.shown.ShownPeer.{ShownPeer}
@@ -47,8 +47,8 @@ nothing_shown = record {
 }
 
 -- what a node that is not halted shows
-abbrev pub shown_line : Line → Shown
-shown_line l = record {
+abbrev pub shown_station : StationMemory → Shown
+shown_station l = record {
   halted = false;
   address = address_of l;
   active = option_map (λ (g : Granted). g.active) l.ring;
@@ -63,4 +63,4 @@ shown_line l = record {
 
 -- a halted node shows that it is halted, and nothing else
 abbrev pub shown_of : Node → Shown
-shown_of x = option_map_or (λ m. shown_line m.line) x.memory nothing_shown
+shown_of x = option_map_or (λ m. shown_station m.station) x.memory nothing_shown

@@ -103,7 +103,7 @@ pub enum SentHow {
 #[derive(Debug, Drop)]
 pub enum MeterHeard {
     /// What its station made of it.
-    Line(Heard),
+    Station(Heard),
     /// A joining message goes on.
     Carried,
     /// A challenge is answered.
@@ -124,7 +124,7 @@ pub enum MeterHeard {
 #[derive(Debug, Drop)]
 pub enum CoordinatorHeard {
     /// What its station made of it.
-    Line(Heard),
+    Station(Heard),
     /// A session is opened, and the meter is challenged.
     Challenged,
     /// The meter has shown its key, and its grant goes out.

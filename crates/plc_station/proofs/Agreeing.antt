@@ -9,14 +9,14 @@ use Rattle.group_keys.specs.KeyRing as ring
 use Rattle.routing_set.specs.RoutingSet as routing
 use Rattle.routing_set.specs.OwnNumber as own_number
 use Rattle.routing_set.proofs.Beside.{kept_elsewhere as routing_elsewhere, stored_beside}
-use Rattle.node_rules.specs.Memory.{Line}
-use Rattle.node_rules.specs.Opening.{tag_in}
+use Rattle.node_rules.specs.Memory.{StationMemory}
+use Rattle.node_rules.specs.StoreReading.{tag_in}
 use Rattle.plc_station.specs.Bodies.{Held}
-use Rattle.plc_station.specs.Lines.{line_in}
+use Rattle.plc_station.specs.StationReading.{station_in}
 use Rattle.plc_station.specs.Parts.{AgreesWith}
 use Rattle.plc_station.specs.declared.parts.Parts.{Parts}
 
-pub agrees_counted : (l : Line) (x : counter.Counting) (old new : Records) → AgreesWith l old → counter.IsKept x new → SameOutside 2 2 old new → AgreesWith (record l { counter = x }) new
+pub agrees_counted : (l : StationMemory) (x : counter.Counting) (old new : Records) → AgreesWith l old → counter.IsKept x new → SameOutside 2 2 old new → AgreesWith (record l { counter = x }) new
 agrees_counted l x old new a kept same = record {
   ring = record { stored = ap ring_at (same 1 (inl (omega arith))) ∙ a.ring.stored };
   counter = kept;
@@ -26,7 +26,7 @@ agrees_counted l x old new a kept same = record {
   tag = ap tag_in (same 4 (inr (omega arith))) ∙ a.tag;
 }
 
-pub agrees_numbered : (l : Line) (x : own_number.Numbering) (old new : Records) → AgreesWith l old → own_number.IsKept x new → SameOutside 3 3 old new → AgreesWith (record l { own_number = x }) new
+pub agrees_numbered : (l : StationMemory) (x : own_number.Numbering) (old new : Records) → AgreesWith l old → own_number.IsKept x new → SameOutside 3 3 old new → AgreesWith (record l { own_number = x }) new
 agrees_numbered l x old new a kept same = record {
   ring = record { stored = ap ring_at (same 1 (inl (omega arith))) ∙ a.ring.stored };
   counter = record { limit = ap counter.limit_in (same 2 (inl (omega arith))) ∙ a.counter.limit; below = a.counter.below };
@@ -36,7 +36,7 @@ agrees_numbered l x old new a kept same = record {
   tag = ap tag_in (same 4 (inr (omega arith))) ∙ a.tag;
 }
 
-pub agrees_ranked : (l : Line) (x : routing.Routing) (old new : Records) → AgreesWith l old → routing.IsKept x new → routing.SameElsewhere old new → AgreesWith (record l { routing = x }) new
+pub agrees_ranked : (l : StationMemory) (x : routing.Routing) (old new : Records) → AgreesWith l old → routing.IsKept x new → routing.SameElsewhere old new → AgreesWith (record l { routing = x }) new
 agrees_ranked l x old new a kept same = record {
   ring = record { stored = ap ring_at (same 1 (omega arith) (inl (omega arith))) ∙ a.ring.stored };
   counter = record { limit = ap counter.limit_in (same 2 (omega arith) (inl (omega arith))) ∙ a.counter.limit; below = a.counter.below };
@@ -47,14 +47,14 @@ agrees_ranked l x old new a kept same = record {
 }
 
 -- bodies are not stored
-pub agrees_holding : (p : Parts) (h k : Held) (records : Records) → AgreesWith (line_in p h) records → AgreesWith (line_in p k) records
+pub agrees_holding : (p : Parts) (h k : Held) (records : Records) → AgreesWith (station_in p h) records → AgreesWith (station_in p k) records
 agrees_holding p h k records a = record { ring = a.ring; counter = a.counter; marks = a.marks; routing = a.routing; own_number = a.own_number; tag = a.tag }
 
 -- routes that end are not stored
-pub agrees_routed : (l : Line) (r : routing.Routing) (records : Records) → AgreesWith l records → ((k : Records) → routing.IsKept l.routing k → routing.IsKept r k) → AgreesWith (record l { routing = r }) records
+pub agrees_routed : (l : StationMemory) (r : routing.Routing) (records : Records) → AgreesWith l records → ((k : Records) → routing.IsKept l.routing k → routing.IsKept r k) → AgreesWith (record l { routing = r }) records
 agrees_routed l r records a keeps = record { ring = a.ring; counter = a.counter; marks = a.marks; routing = keeps records a.routing; own_number = a.own_number; tag = a.tag }
 
-pub agrees_ringed : (l : Line) (x : Ring) (old new : Records) → AgreesWith l old → ring.IsKept x new → SameOutside 1 1 old new → AgreesWith (record l { ring = x }) new
+pub agrees_ringed : (l : StationMemory) (x : Ring) (old new : Records) → AgreesWith l old → ring.IsKept x new → SameOutside 1 1 old new → AgreesWith (record l { ring = x }) new
 agrees_ringed l x old new a kept same = record {
   ring = kept;
   counter = record { limit = ap counter.limit_in (same 2 (inr (omega arith))) ∙ a.counter.limit; below = a.counter.below };

@@ -5,7 +5,7 @@ use Rattle.plc_base.specs.Keeper.{Store, Write, Stores}
 use Rattle.plc_base.specs.Writes.{Wrote}
 use Rattle.plc_base.specs.declared.address.Eui.{Eui}
 use Rattle.plc_base.proofs.WritesLemmas.{wrote_none, wrote_one}
-use Rattle.node_rules.specs.Memory.{Line}
+use Rattle.node_rules.specs.Memory.{StationMemory}
 use Rattle.node_rules.specs.Plans.{Plan, resting}
 use Rattle.plc_station.specs.State.{State, Carries, nothing, unless_halted}
 
@@ -34,18 +34,18 @@ resting_carried {M} s m answer failed e = record {
 }
 
 -- lines with the same parts are the same
-pub lines_are : (store : Store) (eui : Eui) (l m : Line) → l.ring ≡ m.ring → l.counter ≡ m.counter → l.marks ≡ m.marks → l.routing ≡ m.routing → l.own_number ≡ m.own_number
+pub lines_are : (store : Store) (eui : Eui) (l m : StationMemory) → l.ring ≡ m.ring → l.counter ≡ m.counter → l.marks ≡ m.marks → l.routing ≡ m.routing → l.own_number ≡ m.own_number
     → l.next_tag ≡ m.next_tag → l.reassemblies ≡ m.reassemblies → l.waiting ≡ m.waiting
-    → ◌≡◌ {A = State Line} (record { store = store; eui = eui; memory = Some l }) (record { store = store; eui = eui; memory = Some m })
+    → ◌≡◌ {A = State StationMemory} (record { store = store; eui = eui; memory = Some l }) (record { store = store; eui = eui; memory = Some m })
 lines_are store eui l m a b c d e f g h = λ i. record {
   store = store;
   eui = eui;
   memory = Some (record { ring = a i; counter = b i; marks = c i; routing = d i; own_number = e i; next_tag = f i; reassemblies = g i; waiting = h i });
 }
 
-pub line_is : (l m : Line) → l.ring ≡ m.ring → l.counter ≡ m.counter → l.marks ≡ m.marks → l.routing ≡ m.routing → l.own_number ≡ m.own_number
+pub station_is : (l m : StationMemory) → l.ring ≡ m.ring → l.counter ≡ m.counter → l.marks ≡ m.marks → l.routing ≡ m.routing → l.own_number ≡ m.own_number
     → l.next_tag ≡ m.next_tag → l.reassemblies ≡ m.reassemblies → l.waiting ≡ m.waiting → l ≡ m
-line_is l m a b c d e f g h = λ i. record { ring = a i; counter = b i; marks = c i; routing = d i; own_number = e i; next_tag = f i; reassemblies = g i; waiting = h i }
+station_is l m a b c d e f g h = λ i. record { ring = a i; counter = b i; marks = c i; routing = d i; own_number = e i; next_tag = f i; reassemblies = g i; waiting = h i }
 
 -- of a node that is known to run
 pub of_some : {M : Type 0} (halted : Bool) (m : M) (P : M → Type 0) → IsSome (unless_halted halted m) → IfSome (unless_halted halted m) P → P m

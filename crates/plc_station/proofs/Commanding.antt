@@ -5,15 +5,15 @@ use Rattle.plc_base.specs.declared.out_frame.Out.{Out}
 use Rattle.node_rules.specs.declared.heard.SentHow.TheVariants.{Sent, Waiting}
 use Rattle.node_rules.specs.declared.refusal.SendRefusal.TheVariants.{NotJoined, WaitingFull, SeqSpent, CounterSpent}
 use Rattle.node_rules.specs.declared.refusal.SendRefusal.{SendRefusal}
-use Rattle.node_rules.specs.Memory.{Line, Command, next_hop}
-use Rattle.node_rules.specs.Doings.{Doing, Ends, alone, begun, body_goes, waits, seeks, seeks_once, lack, no_room, numbers_spent, is_awaited, counters_left, refused, sealing, checked, goes, numbered}
+use Rattle.node_rules.specs.Memory.{StationMemory, Command, next_hop}
+use Rattle.node_rules.specs.Drafts.{Draft, Ends, alone, empty_draft, body_goes, waits, seeks, seeks_once, lack, no_room, numbers_spent, is_awaited, counters_left, refused, sealing, checked, goes, with_own_number}
 use Rattle.node_rules.specs.Calls.{sending_ends, command_from, send_command, room_fault, room}
 use Rattle.plc_station.specs.Rooms.{room_answer}
 use Rattle.plc_station.specs.State.{State, Carries}
 use Rattle.plc_station.proofs.Ways.{sealed_spent, sealed_fits, never_less}
 
 -- a step in the words of another call
-pub told_done : {H E F : Type 0} (ends : Ends E) (others : Ends F) (s t : State Line) (d : Doing Line) (u : Unit {0}) (answer : H) (out : Out) → Carries s (sealing {H = Unit {0}} alone ends d tt) (Ok u) out t
+pub told_done : {H E F : Type 0} (ends : Ends E) (others : Ends F) (s t : State StationMemory) (d : Draft StationMemory) (u : Unit {0}) (answer : H) (out : Out) → Carries s (sealing {H = Unit {0}} alone ends d tt) (Ok u) out t
     → Carries s (sealing alone others d answer) (Ok answer) out t
 told_done {H} {E} {F} ends others s t d u answer out c = record { done = c.done; wrote = c.wrote; answer_is = so c.done c.answer_is; out_is = c.out_is; new_is = c.new_is }
   where
@@ -21,7 +21,7 @@ told_done {H} {E} {F} ends others s t d u answer out c = record { done = c.done;
     so true e = refl
     so false e = cc
 
-pub told_failed : {H E F : Type 0} (ends : Ends E) (others : Ends F) (s t : State Line) (d : Doing Line) (reason : E) (answer : H) (out : Out) → Carries s (sealing {H = Unit {0}} alone ends d tt) (Err reason) out t
+pub told_failed : {H E F : Type 0} (ends : Ends E) (others : Ends F) (s t : State StationMemory) (d : Draft StationMemory) (reason : E) (answer : H) (out : Out) → Carries s (sealing {H = Unit {0}} alone ends d tt) (Err reason) out t
     → Carries s (sealing alone others d answer) (Err others.store) out t
 told_failed {H} {E} {F} ends others s t d reason answer out c = record { done = c.done; wrote = c.wrote; answer_is = so c.done c.answer_is; out_is = c.out_is; new_is = c.new_is }
   where
@@ -29,70 +29,70 @@ told_failed {H} {E} {F} ends others s t d reason answer out c = record { done = 
     so true e = cc
     so false e = refl
 
-pub goes_spent : (l : Line) (own to : ℕ) (octets : List ℕ) (now hop : ℕ) → Some hop ≡ next_hop l to → true ≡ nat_lt (counters_left l) 1 → refused sending_ends l CounterSpent ≡ command_from l own to octets now
-unfolding checked lack begun body_goes
-goes_spent l own to octets now hop by few = rw (← by) (sealed_spent sending_ends l (body_goes own hop to 0 (Command octets) (begun l)) Sent 1 refl few)
+pub goes_spent : (l : StationMemory) (own to : ℕ) (octets : List ℕ) (now hop : ℕ) → Some hop ≡ next_hop l to → true ≡ nat_lt (counters_left l) 1 → refused sending_ends l CounterSpent ≡ command_from l own to octets now
+unfolding checked lack empty_draft body_goes
+goes_spent l own to octets now hop by few = rw (← by) (sealed_spent sending_ends l (body_goes own hop to 0 (Command octets) (empty_draft l)) Sent 1 refl few)
 
-pub goes_by : (l : Line) (own to : ℕ) (octets : List ℕ) (now hop : ℕ) → Some hop ≡ next_hop l to → false ≡ nat_lt (counters_left l) 1
-    → sealing alone sending_ends (body_goes own hop to 0 (Command octets) (begun l)) Sent ≡ command_from l own to octets now
-unfolding checked lack begun body_goes
-goes_by l own to octets now hop by few = rw (← by) (sealed_fits sending_ends l (body_goes own hop to 0 (Command octets) (begun l)) Sent 1 refl few)
+pub goes_by : (l : StationMemory) (own to : ℕ) (octets : List ℕ) (now hop : ℕ) → Some hop ≡ next_hop l to → false ≡ nat_lt (counters_left l) 1
+    → sealing alone sending_ends (body_goes own hop to 0 (Command octets) (empty_draft l)) Sent ≡ command_from l own to octets now
+unfolding checked lack empty_draft body_goes
+goes_by l own to octets now hop by few = rw (← by) (sealed_fits sending_ends l (body_goes own hop to 0 (Command octets) (empty_draft l)) Sent 1 refl few)
 
-pub full : (l : Line) (own to : ℕ) (octets : List ℕ) (now : ℕ) → None ≡ next_hop l to → true ≡ no_room l (length octets) → refused sending_ends l WaitingFull ≡ command_from l own to octets now
+pub full : (l : StationMemory) (own to : ℕ) (octets : List ℕ) (now : ℕ) → None ≡ next_hop l to → true ≡ no_room l (length octets) → refused sending_ends l WaitingFull ≡ command_from l own to octets now
 unfolding checked lack
 full l own to octets now by room = rw (← by, ← room) refl
 
-pub quiet : (l : Line) (own to : ℕ) (octets : List ℕ) (now : ℕ) → None ≡ next_hop l to → false ≡ no_room l (length octets) → true ≡ is_awaited l to
-    → sealing alone sending_ends (waits to 0 (Command octets) now (begun l)) Waiting ≡ command_from l own to octets now
-unfolding checked lack seeks_once begun waits
-quiet l own to octets now by room awaited = rw (← by, ← room, ← awaited) (sealed_fits sending_ends l (waits to 0 (Command octets) now (begun l)) Waiting 0 refl (never_less (counters_left l)))
+pub quiet : (l : StationMemory) (own to : ℕ) (octets : List ℕ) (now : ℕ) → None ≡ next_hop l to → false ≡ no_room l (length octets) → true ≡ is_awaited l to
+    → sealing alone sending_ends (waits to 0 (Command octets) now (empty_draft l)) Waiting ≡ command_from l own to octets now
+unfolding checked lack seeks_once empty_draft waits
+quiet l own to octets now by room awaited = rw (← by, ← room, ← awaited) (sealed_fits sending_ends l (waits to 0 (Command octets) now (empty_draft l)) Waiting 0 refl (never_less (counters_left l)))
 
-pub seq_spent : (l : Line) (own to : ℕ) (octets : List ℕ) (now : ℕ) → None ≡ next_hop l to → false ≡ no_room l (length octets) → false ≡ is_awaited l to → true ≡ numbers_spent l
+pub seq_spent : (l : StationMemory) (own to : ℕ) (octets : List ℕ) (now : ℕ) → None ≡ next_hop l to → false ≡ no_room l (length octets) → false ≡ is_awaited l to → true ≡ numbers_spent l
     → refused sending_ends l SeqSpent ≡ command_from l own to octets now
 unfolding checked lack
 seq_spent l own to octets now by room awaited spent = rw (← by, ← room, ← awaited, ← spent) refl
 
-pub seeks_spent : (l : Line) (own to : ℕ) (octets : List ℕ) (now : ℕ) → None ≡ next_hop l to → false ≡ no_room l (length octets) → false ≡ is_awaited l to → false ≡ numbers_spent l → true ≡ nat_lt (counters_left l) 1
+pub seeks_spent : (l : StationMemory) (own to : ℕ) (octets : List ℕ) (now : ℕ) → None ≡ next_hop l to → false ≡ no_room l (length octets) → false ≡ is_awaited l to → false ≡ numbers_spent l → true ≡ nat_lt (counters_left l) 1
     → refused sending_ends l CounterSpent ≡ command_from l own to octets now
-unfolding checked lack seeks_once begun waits goes numbered
+unfolding checked lack seeks_once empty_draft waits goes with_own_number
 seeks_spent l own to octets now by room awaited spent few =
-    rw (← by, ← room, ← awaited, ← spent) (sealed_spent sending_ends l (waits to 0 (Command octets) now (seeks own to (begun l))) Waiting 1 refl few)
+    rw (← by, ← room, ← awaited, ← spent) (sealed_spent sending_ends l (waits to 0 (Command octets) now (seeks own to (empty_draft l))) Waiting 1 refl few)
 
-pub seeking : (l : Line) (own to : ℕ) (octets : List ℕ) (now : ℕ) → None ≡ next_hop l to → false ≡ no_room l (length octets) → false ≡ is_awaited l to → false ≡ numbers_spent l → false ≡ nat_lt (counters_left l) 1
-    → sealing alone sending_ends (waits to 0 (Command octets) now (seeks own to (begun l))) Waiting ≡ command_from l own to octets now
-unfolding checked lack seeks_once begun waits goes numbered
+pub seeking : (l : StationMemory) (own to : ℕ) (octets : List ℕ) (now : ℕ) → None ≡ next_hop l to → false ≡ no_room l (length octets) → false ≡ is_awaited l to → false ≡ numbers_spent l → false ≡ nat_lt (counters_left l) 1
+    → sealing alone sending_ends (waits to 0 (Command octets) now (seeks own to (empty_draft l))) Waiting ≡ command_from l own to octets now
+unfolding checked lack seeks_once empty_draft waits goes with_own_number
 seeking l own to octets now by room awaited spent few =
-    rw (← by, ← room, ← awaited, ← spent) (sealed_fits sending_ends l (waits to 0 (Command octets) now (seeks own to (begun l))) Waiting 1 refl few)
+    rw (← by, ← room, ← awaited, ← spent) (sealed_fits sending_ends l (waits to 0 (Command octets) now (seeks own to (empty_draft l))) Waiting 1 refl few)
 
-pub not_joined : (l : Line) (to : ℕ) (octets : List ℕ) (now : ℕ) → None ≡ l.ring → refused sending_ends l NotJoined ≡ send_command l to octets now
+pub not_joined : (l : StationMemory) (to : ℕ) (octets : List ℕ) (now : ℕ) → None ≡ l.ring → refused sending_ends l NotJoined ≡ send_command l to octets now
 not_joined l to octets now e = rw (← e) refl
 
 -- # Room
 
-pub room_goes_spent : (l : Line) (to octets hop : ℕ) → Some hop ≡ next_hop l to → true ≡ nat_lt (counters_left l) 1 → ◌≡◌ {A = Result (Unit {0}) SendRefusal} (Err CounterSpent) (room_answer (room_fault l to octets))
+pub room_goes_spent : (l : StationMemory) (to octets hop : ℕ) → Some hop ≡ next_hop l to → true ≡ nat_lt (counters_left l) 1 → ◌≡◌ {A = Result (Unit {0}) SendRefusal} (Err CounterSpent) (room_answer (room_fault l to octets))
 unfolding lack
 room_goes_spent l to octets hop by few = rw (← by, ← few) refl
 
-pub room_goes : (l : Line) (to octets hop : ℕ) → Some hop ≡ next_hop l to → false ≡ nat_lt (counters_left l) 1 → ◌≡◌ {A = Result (Unit {0}) SendRefusal} (Ok tt) (room_answer (room_fault l to octets))
+pub room_goes : (l : StationMemory) (to octets hop : ℕ) → Some hop ≡ next_hop l to → false ≡ nat_lt (counters_left l) 1 → ◌≡◌ {A = Result (Unit {0}) SendRefusal} (Ok tt) (room_answer (room_fault l to octets))
 unfolding lack
 room_goes l to octets hop by few = rw (← by, ← few) refl
 
-pub room_full : (l : Line) (to octets : ℕ) → None ≡ next_hop l to → true ≡ no_room l octets → ◌≡◌ {A = Result (Unit {0}) SendRefusal} (Err WaitingFull) (room_answer (room_fault l to octets))
+pub room_full : (l : StationMemory) (to octets : ℕ) → None ≡ next_hop l to → true ≡ no_room l octets → ◌≡◌ {A = Result (Unit {0}) SendRefusal} (Err WaitingFull) (room_answer (room_fault l to octets))
 unfolding lack
 room_full l to octets by room = rw (← by, ← room) refl
 
-pub room_quiet : (l : Line) (to octets : ℕ) → None ≡ next_hop l to → false ≡ no_room l octets → true ≡ is_awaited l to → ◌≡◌ {A = Result (Unit {0}) SendRefusal} (Ok tt) (room_answer (room_fault l to octets))
+pub room_quiet : (l : StationMemory) (to octets : ℕ) → None ≡ next_hop l to → false ≡ no_room l octets → true ≡ is_awaited l to → ◌≡◌ {A = Result (Unit {0}) SendRefusal} (Ok tt) (room_answer (room_fault l to octets))
 unfolding lack
 room_quiet l to octets by room awaited = rw (← by, ← room, ← awaited, ← never_less (counters_left l)) refl
 
-pub room_seq : (l : Line) (to octets : ℕ) → None ≡ next_hop l to → false ≡ no_room l octets → false ≡ is_awaited l to → true ≡ numbers_spent l → ◌≡◌ {A = Result (Unit {0}) SendRefusal} (Err SeqSpent) (room_answer (room_fault l to octets))
+pub room_seq : (l : StationMemory) (to octets : ℕ) → None ≡ next_hop l to → false ≡ no_room l octets → false ≡ is_awaited l to → true ≡ numbers_spent l → ◌≡◌ {A = Result (Unit {0}) SendRefusal} (Err SeqSpent) (room_answer (room_fault l to octets))
 unfolding lack
 room_seq l to octets by room awaited spent = rw (← by, ← room, ← awaited, ← spent) refl
 
-pub room_spent : (l : Line) (to octets : ℕ) → None ≡ next_hop l to → false ≡ no_room l octets → false ≡ is_awaited l to → false ≡ numbers_spent l → true ≡ nat_lt (counters_left l) 1 → ◌≡◌ {A = Result (Unit {0}) SendRefusal} (Err CounterSpent) (room_answer (room_fault l to octets))
+pub room_spent : (l : StationMemory) (to octets : ℕ) → None ≡ next_hop l to → false ≡ no_room l octets → false ≡ is_awaited l to → false ≡ numbers_spent l → true ≡ nat_lt (counters_left l) 1 → ◌≡◌ {A = Result (Unit {0}) SendRefusal} (Err CounterSpent) (room_answer (room_fault l to octets))
 unfolding lack
 room_spent l to octets by room awaited spent few = rw (← by, ← room, ← awaited, ← spent, ← few) refl
 
-pub room_seeks : (l : Line) (to octets : ℕ) → None ≡ next_hop l to → false ≡ no_room l octets → false ≡ is_awaited l to → false ≡ numbers_spent l → false ≡ nat_lt (counters_left l) 1 → ◌≡◌ {A = Result (Unit {0}) SendRefusal} (Ok tt) (room_answer (room_fault l to octets))
+pub room_seeks : (l : StationMemory) (to octets : ℕ) → None ≡ next_hop l to → false ≡ no_room l octets → false ≡ is_awaited l to → false ≡ numbers_spent l → false ≡ nat_lt (counters_left l) 1 → ◌≡◌ {A = Result (Unit {0}) SendRefusal} (Ok tt) (room_answer (room_fault l to octets))
 unfolding lack
 room_seeks l to octets by room awaited spent few = rw (← by, ← room, ← awaited, ← spent, ← few) refl

@@ -11,20 +11,20 @@ use Rattle.plc_base.specs.declared.key.Key.{Key}
 use Rattle.node_rules.specs.Ciphers.{network}
 use Rattle.node_rules.specs.Frames.{spelled}
 use Rattle.node_rules.specs.Memory.{Body}
-use Rattle.node_rules.specs.Doings.{Outgoing, letters, waits_for, sealing_key, sealed_by}
+use Rattle.node_rules.specs.Drafts.{Outgoing, letters, waits_for, sealing_key, sealed_by}
 use Rattle.std.specs.Option.{option_map_or}
 use Rattle.node_rules.proofs.Sizes.{units_in, length-all_go, length-units_of}
 use Rattle.std.specs.List.{All}
 use Rattle.std.proofs.lemmas.List.Elements.{All-nil, All-cons, All-head, All-tail}
 use Rattle.block_pool.specs.Pool.{PoolState, chain_octets}
 use Rattle.fragment_buffers.specs.Entries.{Entry, told}
-use Rattle.node_rules.specs.Memory.{Line}
-use Rattle.node_rules.specs.Opening.{blank_line}
+use Rattle.node_rules.specs.Memory.{StationMemory}
+use Rattle.node_rules.specs.StoreReading.{blank_station}
 use Rattle.node_rules.specs.Laws.{IsShort, IsWithinSizes}
 use Rattle.node_rules.proofs.Sizes.{leaving_units, pending_bound}
 use Rattle.plc_station.specs.Codes.{load_of}
 use Rattle.plc_station.specs.Bodies.{Held, Slot}
-use Rattle.plc_station.specs.Holding.{IsHeld, IsSound, body_in, bodies_in}
+use Rattle.plc_station.specs.BodiesInPool.{IsHeld, IsSound, body_in, bodies_in}
 use Rattle.plc_station.proofs.Sound.{blocks_same}
 use Rattle.plc_station.specs.Leaving.{body_at, units_by, leaving, frames_of}
 use Rattle.plc_station.specs.Sealing.{letter}
@@ -98,7 +98,7 @@ pub few-units : (own dest hop : ℕ) (p : PoolState) (es : List Entry) (ws : Lis
     → length (leaving own dest hop h.waiting) ≤ 21
 unfolding leaving
 few-units own dest hop p es ws h view s count =
-    let l : Line = record blank_line { waiting = bodies_in p ws } in
+    let l : StationMemory = record blank_station { waiting = bodies_in p ws } in
     let sizes : IsWithinSizes l = record { bodies = omega (arith, count, length-map ws (body_in p)); blocks = omega (arith, blocks_same p es ws s.waits, s.few); datagrams = short_loads p es ws s.waits } in
     omega (arith, ap (λ (k : Held). length (leaving own dest hop k.waiting)) view, leaving_units own dest hop (bodies_in p ws), pending_bound l sizes)
 

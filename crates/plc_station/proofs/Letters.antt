@@ -17,7 +17,7 @@ use Rattle.mesh_header.specs.declared.unit.Unit.{Unit as MeshUnit}
 use Rattle.mesh_header.specs.Grammar.{spelling}
 use Rattle.node_rules.specs.Ciphers.{network}
 use Rattle.node_rules.specs.Frames.{Sent, spelled, to_all}
-use Rattle.node_rules.specs.Doings.{Outgoing, letters, all_go, own_mesh, sealing_key, sealed_by}
+use Rattle.node_rules.specs.Drafts.{Outgoing, letters, all_go, own_mesh, sealing_key, sealed_by}
 use Rattle.plc_station.specs.Sealing.{letter, pieces_sent}
 use Rattle.std.proofs.lemmas.Bool.{cond-false, lt-leb}
 use Rattle.std.proofs.lemmas.List.FromFn.{length-map-range_with_len}

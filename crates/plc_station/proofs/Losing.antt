@@ -14,8 +14,8 @@ use Rattle.routing_set.proofs.Rising.{route-by}
 use Rattle.node_rules.specs.declared.heard.Heard.{Heard}
 use Rattle.node_rules.specs.declared.heard.Heard.TheVariants.{Broken}
 use Rattle.node_rules.specs.declared.refusal.Dropped.TheVariants.{CounterSpent}
-use Rattle.node_rules.specs.Memory.{Line, next_hop}
-use Rattle.node_rules.specs.Doings.{alone, begun, goes, tells, rerouted, counters_left, refused, sealing}
+use Rattle.node_rules.specs.Memory.{StationMemory, next_hop}
+use Rattle.node_rules.specs.Drafts.{alone, empty_draft, goes, tells, with_routing_by, counters_left, refused, sealing}
 use Rattle.node_rules.specs.Hearing.{dropped, loses, error_hop, hear_error}
 use Rattle.plc_station.proofs.Ways.{sealed_spent, sealed_fits, never_less}
 
@@ -82,19 +82,19 @@ some_left r lost by to hop e = ap (hop_after (to == lost) by) e ∙ hop_left_is 
 
 -- # The ways
 
-pub error_here : (l : Line) (own by lost to : ℕ) → true ≡ (to == own) → sealing alone dropped (loses lost by l) Broken ≡ hear_error l own by lost to
-unfolding rerouted begun
+pub error_here : (l : StationMemory) (own by lost to : ℕ) → true ≡ (to == own) → sealing alone dropped (loses lost by l) Broken ≡ hear_error l own by lost to
+unfolding with_routing_by empty_draft
 error_here l own by lost to e = rw (← e) (sealed_fits dropped l (loses lost by l) Broken 0 refl (never_less (counters_left l)))
 
-pub error_ends : (l : Line) (own by lost to : ℕ) → false ≡ (to == own) → None ≡ next_hop (loses lost by l).memory to → sealing alone dropped (loses lost by l) Broken ≡ hear_error l own by lost to
-unfolding rerouted begun
+pub error_ends : (l : StationMemory) (own by lost to : ℕ) → false ≡ (to == own) → None ≡ next_hop (loses lost by l).memory to → sealing alone dropped (loses lost by l) Broken ≡ hear_error l own by lost to
+unfolding with_routing_by empty_draft
 error_ends l own by lost to e none = rw (← e, ← none) (sealed_fits dropped l (loses lost by l) Broken 0 refl (never_less (counters_left l)))
 
-pub error_spent : (l : Line) (own by lost to hop : ℕ) → false ≡ (to == own) → Some hop ≡ next_hop (loses lost by l).memory to → true ≡ nat_lt (counters_left l) 1 → refused {H = Heard} dropped l CounterSpent ≡ hear_error l own by lost to
-unfolding rerouted begun goes
+pub error_spent : (l : StationMemory) (own by lost to hop : ℕ) → false ≡ (to == own) → Some hop ≡ next_hop (loses lost by l).memory to → true ≡ nat_lt (counters_left l) 1 → refused {H = Heard} dropped l CounterSpent ≡ hear_error l own by lost to
+unfolding with_routing_by empty_draft goes
 error_spent l own by lost to hop e some few = rw (← e, ← some) (sealed_spent dropped l (tells hop (Rerr lost to) (loses lost by l)) Broken 1 refl few)
 
-pub error_on : (l : Line) (own by lost to hop : ℕ) → false ≡ (to == own) → Some hop ≡ next_hop (loses lost by l).memory to → false ≡ nat_lt (counters_left l) 1
+pub error_on : (l : StationMemory) (own by lost to hop : ℕ) → false ≡ (to == own) → Some hop ≡ next_hop (loses lost by l).memory to → false ≡ nat_lt (counters_left l) 1
     → sealing alone dropped (tells hop (Rerr lost to) (loses lost by l)) Broken ≡ hear_error l own by lost to
-unfolding rerouted begun goes
+unfolding with_routing_by empty_draft goes
 error_on l own by lost to hop e some few = rw (← e, ← some) (sealed_fits dropped l (tells hop (Rerr lost to) (loses lost by l)) Broken 1 refl few)

@@ -5,27 +5,27 @@ use Rattle.group_keys.specs.declared.fault.RingFault.TheVariants.{NotHeld}
 use Rattle.group_keys.specs.KeyRing.{key_in_ring, with_active}
 use Rattle.routing_set.specs.RoutingSet as routing
 use Rattle.node_rules.specs.declared.refusal.PresetFault.TheVariants as presets
-use Rattle.node_rules.specs.Memory.{Line}
-use Rattle.node_rules.specs.Doings.{alone, begun, choose, checked, refused, ringed, ranked, sealing}
+use Rattle.node_rules.specs.Memory.{StationMemory}
+use Rattle.node_rules.specs.Drafts.{alone, empty_draft, choose, checked, refused, with_ring, with_rank, sealing}
 use Rattle.node_rules.specs.Calls.{ringing_ends, ring_ends, activate, presetting_ends, preset_near, near_rank}
 
-pub not_held : (l : Line) (index : ℕ) → None ≡ key_in_ring l.ring index → refused {H = Unit {0}} ringing_ends l NotHeld ≡ activate l index
+pub not_held : (l : StationMemory) (index : ℕ) → None ≡ key_in_ring l.ring index → refused {H = Unit {0}} ringing_ends l NotHeld ≡ activate l index
 unfolding choose
 not_held l index e = rw (← e) refl
 
-pub held : (l : Line) (index : ℕ) (key : Key) → Some key ≡ key_in_ring l.ring index → ring_ends (ringed (with_active l.ring index) (begun l)) ≡ activate l index
+pub held : (l : StationMemory) (index : ℕ) (key : Key) → Some key ≡ key_in_ring l.ring index → ring_ends (with_ring (with_active l.ring index) (empty_draft l)) ≡ activate l index
 unfolding choose
 held l index key e = rw (← e) refl
 
-pub near_worse : (l : Line) (to cost k now : ℕ) → k ≡ cost → false ≡ routing.is_better l.routing to (near_rank k) → refused {H = Unit {0}} presetting_ends l presets.NotBetter ≡ preset_near l to cost now
+pub near_worse : (l : StationMemory) (to cost k now : ℕ) → k ≡ cost → false ≡ routing.is_better l.routing to (near_rank k) → refused {H = Unit {0}} presetting_ends l presets.NotBetter ≡ preset_near l to cost now
 unfolding checked
 near_worse l to cost k now same e = rw (← same, ← e) refl
 
-pub near_full : (l : Line) (to cost k now : ℕ) → k ≡ cost → true ≡ routing.is_better l.routing to (near_rank k) → true ≡ routing.is_full l.routing to now → refused {H = Unit {0}} presetting_ends l presets.RoutesFull ≡ preset_near l to cost now
+pub near_full : (l : StationMemory) (to cost k now : ℕ) → k ≡ cost → true ≡ routing.is_better l.routing to (near_rank k) → true ≡ routing.is_full l.routing to now → refused {H = Unit {0}} presetting_ends l presets.RoutesFull ≡ preset_near l to cost now
 unfolding checked
 near_full l to cost k now same e full = rw (← same, ← e, ← full) refl
 
-pub near_kept : (l : Line) (to cost k now : ℕ) → k ≡ cost → true ≡ routing.is_better l.routing to (near_rank k) → false ≡ routing.is_full l.routing to now
-    → sealing alone presetting_ends (ranked to (near_rank k) to now (begun l)) tt ≡ preset_near l to cost now
+pub near_kept : (l : StationMemory) (to cost k now : ℕ) → k ≡ cost → true ≡ routing.is_better l.routing to (near_rank k) → false ≡ routing.is_full l.routing to now
+    → sealing alone presetting_ends (with_rank to (near_rank k) to now (empty_draft l)) tt ≡ preset_near l to cost now
 unfolding checked
 near_kept l to cost k now same e full = rw (← same, ← e, ← full) refl

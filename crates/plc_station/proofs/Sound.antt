@@ -18,7 +18,7 @@ use Rattle.fragment_buffers.proofs.Keeping.{kept_chain, told_same}
 use Rattle.node_rules.specs.Memory.{Body, load_octets}
 use Rattle.plc_station.specs.Codes.{load_of}
 use Rattle.plc_station.specs.Bodies.{Held, Slot, waiting_blocks, no_room_in, is_awaited_in}
-use Rattle.plc_station.specs.Holding.{IsHeld, IsSound, body_in, bodies_in, blocks_of}
+use Rattle.plc_station.specs.BodiesInPool.{IsHeld, IsSound, body_in, bodies_in, blocks_of}
 
 -- what a change makes of the chains that no reassembly has
 abbrev pub Others : (p q : PoolState) (es fs : List Entry) → Type 0

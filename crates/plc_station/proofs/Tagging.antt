@@ -2,13 +2,13 @@
 use Rattle.std.proofs.Common.{◌≡◌, ℕ, Bool, true, false, List, [], length, refl}
 use Rattle.std.specs.Prelude.{nat_le, if◌then◌else◌}
 use Rattle.plc_base.specs.Writes.{puts_of}
-use Rattle.node_rules.specs.Memory.{Line}
-use Rattle.node_rules.specs.Doings.{Doing, begun, tagged}
+use Rattle.node_rules.specs.Memory.{StationMemory}
+use Rattle.node_rules.specs.Drafts.{Draft, empty_draft, with_next_tag}
 use Rattle.node_rules.specs.Calls.{tag_taken}
 use Rattle.plc_station.specs.Sealing.{take_write, tag_left}
 
 -- the doing in which the tag is taken where it has to be
-abbrev pub with_tag : Line → List ℕ → Doing Line
+abbrev pub with_tag : StationMemory → List ℕ → Draft StationMemory
 with_tag l octets = record {
   puts = puts_of (take_write (length octets) l.next_tag);
   memory = record l { next_tag = tag_left (length octets) l.next_tag };
@@ -18,10 +18,10 @@ with_tag l octets = record {
   opened = [];
 }
 
-pub tagged_is : (l : Line) (octets : List ℕ) → with_tag l octets ≡ tag_taken octets (begun l)
-unfolding begun tagged
+pub tagged_is : (l : StationMemory) (octets : List ℕ) → with_tag l octets ≡ tag_taken octets (empty_draft l)
+unfolding empty_draft with_next_tag
 tagged_is l octets = by_size (nat_le (length octets) 375) refl
   where
-    by_size : (b : Bool) → nat_le (length octets) 375 ≡ b → with_tag l octets ≡ tag_taken octets (begun l)
+    by_size : (b : Bool) → nat_le (length octets) 375 ≡ b → with_tag l octets ≡ tag_taken octets (empty_draft l)
     by_size true e = rw e refl
     by_size false e = rw e refl

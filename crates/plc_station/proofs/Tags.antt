@@ -6,8 +6,8 @@ use Rattle.byteorder.specs.Endian.{big_bytes}
 use Rattle.byteorder.specs.Numbers.{big_number-reads_back}
 use Rattle.plc_base.specs.Keeper.{Records, Store, Stores}
 use Rattle.plc_base.proofs.StoreLemmas.{get-insert_same}
-use Rattle.node_rules.specs.Doings.{tag_slot}
-use Rattle.node_rules.specs.Opening.{tag_in}
+use Rattle.node_rules.specs.Drafts.{tag_slot}
+use Rattle.node_rules.specs.StoreReading.{tag_in}
 
 tag_in-insert : (records : Records) (tag : ℕ) → tag < 2 ^ 16 → tag_in (get (insert records tag_slot (big_bytes 2 tag)) tag_slot) ≡ Ok tag
 tag_in-insert records tag h = ap tag_in (get-insert_same records tag_slot tag_slot (big_bytes 2 tag) refl) ∙ ap Ok (big_number-reads_back 2 tag [] (omega arith))

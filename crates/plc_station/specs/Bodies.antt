@@ -5,7 +5,7 @@ use Rattle.std.specs.Coded.{Coded, code_by, coded×, coded_ℕ, coded_list, code
 use Rattle.fragment_buffers.specs.Reassembly.{Reassembly, reassembly_code}
 use Rattle.fragment_buffers.specs.Taking.{blocks}
 use Rattle.node_rules.specs.Memory.{Body, load_octets}
-use Rattle.node_rules.specs.Doings.{waits_for}
+use Rattle.node_rules.specs.Drafts.{waits_for}
 use Rattle.plc_station.specs.Codes.{body_code}
 
 -- The reassemblies and the bodies that wait, each in order.

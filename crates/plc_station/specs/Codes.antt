@@ -7,7 +7,7 @@ use Rattle.group_keys.specs.KeyRing as ring
 use Rattle.routing_set.specs.RoutingSet as routing
 use Rattle.routing_set.specs.OwnNumber as own_number
 use Rattle.fragment_buffers.specs.Reassembly as reassembly
-use Rattle.node_rules.specs.Memory.{Line, Body, Load, Datagram, Command}
+use Rattle.node_rules.specs.Memory.{StationMemory, Body, Load, Datagram, Command}
 
 -- a load is its octets, and its tag if it has one
 abbrev pub octets_of : Load → List ℕ
@@ -34,8 +34,8 @@ body_code =
     code_by (ℕ × (ℕ × (ℕ × Load))) (coded× coded_ℕ (coded× coded_ℕ (coded× coded_ℕ load_code))) (λ b. (b.to, (b.note, (b.since, b.load))))
     (λ p. record { to = p.0; note = p.1.0; since = p.1.1.0; load = p.1.1.1 }) (λ _. refl)
 
-abbrev pub line_code : Coded Line
-line_code =
+abbrev pub station_code : Coded StationMemory
+station_code =
     code_by (ring.Ring × (counter.Counting × (marks.Table × (routing.Routing × (own_number.Numbering × (ℕ × (List reassembly.Reassembly × List Body)))))))
     (coded× ring.ring_code (coded× counter.counting_code (coded× marks.table_code (coded× routing.routing_code (coded× own_number.numbering_code
     (coded× coded_ℕ (coded× (coded_list reassembly.reassembly_code) (coded_list body_code))))))))

@@ -7,7 +7,7 @@ use Rattle.plc_base.specs.declared.out_frame.OutFrame.{OutFrame}
 use Rattle.node_rules.specs.Ciphers.{network}
 use Rattle.node_rules.specs.Frames.{spelled}
 use Rattle.node_rules.specs.Memory.{Body, Command}
-use Rattle.node_rules.specs.Doings.{Outgoing, letters, all_go, units_of, waits_for}
+use Rattle.node_rules.specs.Drafts.{Outgoing, letters, all_go, units_of, waits_for}
 
 -- the body at a place
 abbrev pub body_at : List Body → ℕ → Body

@@ -1,11 +1,11 @@
 pub mod Codes
 pub mod Bodies
-pub mod Holding
+pub mod BodiesInPool
 pub mod State
 pub mod Parts
-pub mod Lines
+pub mod StationReading
+pub mod OpenFaults
 pub mod Sealing
-pub mod Opening
 pub mod Pieces
 pub mod Outcome
 pub mod Leaving

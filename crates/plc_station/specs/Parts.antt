@@ -8,16 +8,16 @@ use Rattle.frame_counters.specs.PeerMarks as marks
 use Rattle.group_keys.specs.KeyRing as ring
 use Rattle.routing_set.specs.RoutingSet as routing
 use Rattle.routing_set.specs.OwnNumber as own_number
-use Rattle.node_rules.specs.Memory.{Line}
-use Rattle.node_rules.specs.Opening.{tag_in}
-use Rattle.node_rules.specs.Doings.{tag_slot, tag_after}
+use Rattle.node_rules.specs.Memory.{StationMemory}
+use Rattle.node_rules.specs.StoreReading.{tag_in}
+use Rattle.node_rules.specs.Drafts.{tag_slot, tag_after}
 
 -- the put of the tag behind this one
 abbrev pub tag_write : ℕ → Write
 tag_write tag = record { slot = tag_slot; octets = big_bytes 2 (tag_after tag) }
 
 -- What a line holds as stored is what the records give, and no table has a record behind its first empty slot.
-pub record AgreesWith (l : Line) (records : Records) : Type 0 where
+pub record AgreesWith (l : StationMemory) (records : Records) : Type 0 where
   pub ring : ring.IsKept l.ring records
   pub counter : counter.IsKept l.counter records
   pub marks : marks.IsKept l.marks records

@@ -9,7 +9,7 @@ use Rattle.plc_base.specs.Grant.{Granted}
 use Rattle.plc_base.specs.Keeper.{Write}
 use Rattle.plc_base.specs.declared.key.Key.{Key}
 use Rattle.node_rules.specs.Frames.{Sent, Sealed, spelled}
-use Rattle.node_rules.specs.Doings.{Outgoing, tag_after, letters, all_go, own_mesh}
+use Rattle.node_rules.specs.Drafts.{Outgoing, tag_after, letters, all_go, own_mesh}
 use Rattle.plc_station.specs.Parts.{tag_write}
 
 -- a unit under a grant's active key, with a counter

@@ -8,9 +8,9 @@ use Rattle.plc_base.specs.declared.out_frame.Out.{Out}
 use Rattle.plc_base.specs.declared.tags.TagList.{TagList}
 use Rattle.node_rules.specs.Ciphers.{network}
 use Rattle.node_rules.specs.Frames.{spelled}
-use Rattle.node_rules.specs.Memory.{Line}
+use Rattle.node_rules.specs.Memory.{StationMemory}
 use Rattle.node_rules.specs.Plans.{Plan}
-use Rattle.plc_station.specs.Codes.{line_code}
+use Rattle.plc_station.specs.Codes.{station_code}
 use Rattle.plc_station.specs.Parts.{AgreesWith}
 
 -- What the keeper holds, the own identity, and what is in memory unless the node is halted.
@@ -27,15 +27,15 @@ state_code {M = M} memory_code =
     code_by (Store × (Eui × Option M)) (coded× store_code (coded× eui_code (coded_option memory_code))) (λ s. (s.store, (s.eui, s.memory)))
     (λ p. record { store = p.0; eui = p.1.0; memory = p.1.1 }) (λ _. refl)
 
-abbrev pub station_code : Coded (State Line)
-station_code = state_code line_code
+abbrev pub station_state_code : Coded (State StationMemory)
+station_state_code = state_code station_code
 
 -- the memory, unless the node is halted
 abbrev pub unless_halted : {M : Type 0} → Bool → M → Option M
 unless_halted halted m = if halted then None else Some m
 
 -- what a station holds as stored is what its keeper's records give, unless it is halted
-abbrev pub Agrees : State Line → Type 0
+abbrev pub Agrees : State StationMemory → Type 0
 Agrees s = IfSome s.memory (λ l. AgreesWith l s.store.records)
 
 -- nothing is sent, made or checked

@@ -11,7 +11,7 @@ ghost use Rattle.plc_station.specs.Codes.{load_of};
 ghost use Rattle.plc_station.specs.Leaving.{body_at, units_by, leaving, frames_of};
 ghost use Rattle.node_rules.specs.Calls.{is_within};
 ghost use Rattle.fragment_buffers.specs.Taking.{unexpired};
-ghost use Rattle.node_rules.specs.Doings.{waits_for};
+ghost use Rattle.node_rules.specs.Drafts.{waits_for};
 ghost use Rattle.plc_station.specs.Sealing.{with_frames};
 ghost use Rattle.plc_station.specs.Bodies.{waiting_blocks, no_room_in, is_awaited_in};
 
@@ -43,7 +43,7 @@ impl Model for Waiting {
 
     ghost coded = { slot_code };
 
-    ghost use Rattle.plc_station.specs.Holding.{slot_of, IsWaiting};
+    ghost use Rattle.plc_station.specs.BodiesInPool.{slot_of, IsWaiting};
 
     ghost view = { slot_of };
 
@@ -83,7 +83,7 @@ impl Model for Bodies {
 
     ghost coded = { held_code };
 
-    ghost use Rattle.plc_station.specs.Holding.{held_in, AreSound};
+    ghost use Rattle.plc_station.specs.BodiesInPool.{held_in, AreSound};
 
     ghost view = { held_in };
 

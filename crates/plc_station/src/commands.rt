@@ -4,7 +4,7 @@ ghost use Rattle.std.specs.Prelude.{drop};
 ghost use Rattle.mesh_header.specs.declared.unit.Unit.TheVariants as mesh;
 ghost use Rattle.mesh_header.specs.Grammar.{IsAllowed, spelled_length};
 ghost use Rattle.node_rules.specs.Memory.{Command};
-ghost use Rattle.node_rules.specs.Doings as doings;
+ghost use Rattle.node_rules.specs.Drafts as drafts;
 ghost use Rattle.node_rules.specs.Calls as calls;
 ghost use Rattle.node_rules.specs.declared.heard.SentHow.TheVariants as how;
 ghost use Rattle.plc_station.specs.State.{Carries, Agrees, nothing};
@@ -20,7 +20,7 @@ use plc_base::{FrameBuf, Grant, Keeper, Out, Short};
 fn command_unit(grant: &Grant, to: Short, octets: &[u8]) -> Unit
     requires some { 1 ≤ length octets.now }
     requires fits { length octets.now ≤ 374 }
-    ensures value { result ≡ mesh.Carried (doings.own_mesh grant.now.address to) (drop 1 octets.now) }
+    ensures value { result ≡ mesh.Carried (drafts.own_mesh grant.now.address to) (drop 1 octets.now) }
     ensures allowed { IsAllowed result }
     ensures short { spelled_length result ≤ 381 }
 {
@@ -47,8 +47,8 @@ impl<K: Keeper + Drop> Station<K> {
         requires fits { length octets.now ≤ 374 }
         requires left { IfSome self.old.memory (λ l. l.counter.next + 1 ≤ 4294967295) }
         requires empty { out.old ≡ nothing }
-        ensures carries { IfSome self.old.memory (λ l. Carries self.old (doings.sealing doings.alone calls.sending_ends
-            (doings.body_goes grant.now.address hop to 0 (Command octets.now) (doings.begun l)) how.Sent) result out.new self.new) }
+        ensures carries { IfSome self.old.memory (λ l. Carries self.old (drafts.sealing drafts.alone calls.sending_ends
+            (drafts.body_goes grant.now.address hop to 0 (Command octets.now) (drafts.empty_draft l)) how.Sent) result out.new self.new) }
         ensures agrees { Agrees self.new }
     {
         let unit = command_unit(grant, to, octets);
@@ -70,10 +70,10 @@ impl<K: Keeper + Drop> Station<K> {
         requires agrees { Agrees self.old }
         requires some { 1 ≤ length octets.now }
         requires fits { length octets.now ≤ 374 }
-        requires room { IfSome self.old.memory (λ l. doings.no_room l (length octets.now) ≡ false) }
+        requires room { IfSome self.old.memory (λ l. drafts.no_room l (length octets.now) ≡ false) }
         requires empty { out.now ≡ nothing }
-        ensures carries { IfSome self.old.memory (λ l. Carries self.old (doings.sealing doings.alone calls.sending_ends
-            (doings.waits to 0 (Command octets.now) now (doings.begun l)) how.Waiting) result out.now self.new) }
+        ensures carries { IfSome self.old.memory (λ l. Carries self.old (drafts.sealing drafts.alone calls.sending_ends
+            (drafts.waits to 0 (Command octets.now) now (drafts.empty_draft l)) how.Waiting) result out.now self.new) }
         ensures agrees { Agrees self.new }
     {
         let _left = self.parts.counter.left();
@@ -100,12 +100,12 @@ impl<K: Keeper + Drop> Station<K> {
         requires ring { IfSome self.old.memory (λ l. l.ring ≡ Some grant.now) }
         requires some { 1 ≤ length octets.now }
         requires fits { length octets.now ≤ 374 }
-        requires room { IfSome self.old.memory (λ l. doings.no_room l (length octets.now) ≡ false) }
+        requires room { IfSome self.old.memory (λ l. drafts.no_room l (length octets.now) ≡ false) }
         requires number { IfSome self.old.memory (λ l. l.own_number.last < 65535) }
         requires left { IfSome self.old.memory (λ l. l.counter.next + 1 ≤ 4294967295) }
         requires empty { out.old ≡ nothing }
-        ensures carries { IfSome self.old.memory (λ l. Carries self.old (doings.sealing doings.alone calls.sending_ends
-            (doings.waits to 0 (Command octets.now) now (doings.seeks grant.now.address to (doings.begun l))) how.Waiting) result out.new self.new) }
+        ensures carries { IfSome self.old.memory (λ l. Carries self.old (drafts.sealing drafts.alone calls.sending_ends
+            (drafts.waits to 0 (Command octets.now) now (drafts.seeks grant.now.address to (drafts.empty_draft l))) how.Waiting) result out.new self.new) }
         ensures agrees { Agrees self.new }
     {
         self.halted = true;

@@ -2,7 +2,7 @@
 ghost use Rattle.std.specs.Prelude.{◌≡◌, ◌+◌, ◌≤◌, IfSome, IsSome, Some};
 ghost use Rattle.loadng_messages.specs.declared.message.Message.TheVariants as message;
 ghost use Rattle.node_rules.specs.declared.heard.Heard.TheVariants as heard;
-ghost use Rattle.node_rules.specs.Doings as doings;
+ghost use Rattle.node_rules.specs.Drafts as drafts;
 ghost use Rattle.node_rules.specs.Hearing as hearing;
 ghost use Rattle.routing_set.specs.RoutingSet as routes;
 ghost use Rattle.plc_station.specs.State.{Carries, Agrees, nothing};
@@ -37,7 +37,7 @@ impl<K: Keeper + Drop> Station<K> {
         requires agrees { Agrees self.old }
         requires left { IfSome self.old.memory (λ l. l.counter.next ≤ 4294967295) }
         requires empty { out.now ≡ nothing }
-        ensures carries { IfSome self.old.memory (λ l. Carries self.old (doings.sealing doings.alone hearing.dropped (hearing.loses lost by l) heard.Broken) result out.now self.new) }
+        ensures carries { IfSome self.old.memory (λ l. Carries self.old (drafts.sealing drafts.alone hearing.dropped (hearing.loses lost by l) heard.Broken) result out.now self.new) }
         ensures agrees { Agrees self.new }
     {
         self.halted = true;
@@ -64,8 +64,8 @@ impl<K: Keeper + Drop> Station<K> {
         requires ring { IfSome self.old.memory (λ l. l.ring ≡ Some grant.now) }
         requires left { IfSome self.old.memory (λ l. l.counter.next + 1 ≤ 4294967295) }
         requires empty { out.old ≡ nothing }
-        ensures carries { IfSome self.old.memory (λ l. Carries self.old (doings.sealing doings.alone hearing.dropped
-            (doings.tells hop (message.Rerr lost to) (hearing.loses lost by l)) heard.Broken) result out.new self.new) }
+        ensures carries { IfSome self.old.memory (λ l. Carries self.old (drafts.sealing drafts.alone hearing.dropped
+            (drafts.tells hop (message.Rerr lost to) (hearing.loses lost by l)) heard.Broken) result out.new self.new) }
         ensures agrees { Agrees self.new }
     {
         self.halted = true;

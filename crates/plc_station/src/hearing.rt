@@ -7,7 +7,7 @@ ghost use Rattle.loadng_messages.specs.Grammar as messages;
 ghost use Rattle.loadng_messages.specs.declared.message.Message.TheVariants as message;
 ghost use Rattle.node_rules.specs.declared.refusal.Dropped.TheVariants as hearing_drops;
 ghost use Rattle.node_rules.specs.Memory.{next_hop};
-ghost use Rattle.node_rules.specs.Doings as doings;
+ghost use Rattle.node_rules.specs.Drafts as drafts;
 ghost use Rattle.node_rules.specs.Hearing as hearing;
 ghost use Rattle.routing_set.specs.RoutingSet as routing;
 ghost use Rattle.plc_station.specs.Leaving.{leaving};
@@ -111,7 +111,7 @@ impl<K: Keeper + Drop> Station<K> {
         requires fits { spelled_length unit.now ≤ 381 }
         requires left { IfSome self.old.memory (λ l. l.counter.next + 1 ≤ 4294967295) }
         requires empty { out.old ≡ nothing }
-        ensures carries { IfSome self.old.memory (λ l. Carries self.old (doings.sealing doings.alone hearing.dropped (doings.goes to unit.now note (doings.begun l)) tt) result out.new self.new) }
+        ensures carries { IfSome self.old.memory (λ l. Carries self.old (drafts.sealing drafts.alone hearing.dropped (drafts.goes to unit.now note (drafts.empty_draft l)) tt) result out.new self.new) }
         ensures agrees { Agrees self.new }
     {
         self.halted = true;
@@ -130,7 +130,7 @@ impl<K: Keeper + Drop> Station<K> {
         requires agrees { Agrees self.old }
         requires ring { IfSome self.old.memory (λ l. l.ring ≡ Some grant.now) }
         requires empty { out.old ≡ nothing }
-        ensures carries { IfSome self.old.memory (λ l. Carries self.old (doings.choose (mesh.now.origin == grant.now.address)
+        ensures carries { IfSome self.old.memory (λ l. Carries self.old (drafts.choose (mesh.now.origin == grant.now.address)
             (hearing.drop_it l hearing_drops.NoRoute) (hearing.report_by l mesh.now (next_hop l mesh.now.origin))) result out.new self.new) }
         ensures agrees { Agrees self.new }
     {
@@ -266,8 +266,8 @@ impl<K: Keeper + Drop> Station<K> {
         requires number { IfSome self.old.memory (λ l. l.own_number.last < 65535) }
         requires left { IfSome self.old.memory (λ l. l.counter.next + (length (leaving grant.now.address origin by l.waiting) + 1) ≤ 4294967295) }
         requires empty { out.old ≡ nothing }
-        ensures carries { IfSome self.old.memory (λ l. Carries self.old (doings.sealing doings.alone hearing.dropped
-            (doings.tells by (message.Rrep (l.own_number.last + 1) 0 grant.now.address origin) (hearing.offers_numbered grant.now.address origin rank by now l)) tt) result out.new self.new) }
+        ensures carries { IfSome self.old.memory (λ l. Carries self.old (drafts.sealing drafts.alone hearing.dropped
+            (drafts.tells by (message.Rrep (l.own_number.last + 1) 0 grant.now.address origin) (hearing.offers_numbered grant.now.address origin rank by now l)) tt) result out.new self.new) }
         ensures agrees { Agrees self.new }
     {
         self.halted = true;
@@ -319,8 +319,8 @@ impl<K: Keeper + Drop> Station<K> {
         requires valid { 1 ≤ rank.number }
         requires left { IfSome self.old.memory (λ l. l.counter.next + (length (leaving grant.now.address origin by l.waiting) + 1) ≤ 4294967295) }
         requires empty { out.old ≡ nothing }
-        ensures carries { IfSome self.old.memory (λ l. Carries self.old (doings.sealing doings.alone hearing.dropped
-            (doings.tells 0xFFFF (message.Rreq rank.number rank.cost origin dest) (hearing.offers grant.now.address origin rank by now l)) tt) result out.new self.new) }
+        ensures carries { IfSome self.old.memory (λ l. Carries self.old (drafts.sealing drafts.alone hearing.dropped
+            (drafts.tells 0xFFFF (message.Rreq rank.number rank.cost origin dest) (hearing.offers grant.now.address origin rank by now l)) tt) result out.new self.new) }
         ensures agrees { Agrees self.new }
     {
         self.halted = true;

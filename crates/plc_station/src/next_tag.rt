@@ -3,8 +3,8 @@ ghost use Rattle.std.specs.Prelude.{◌≡◌, ◌⊎◌, ◌<◌, ◌^◌, Ok, 
 ghost use Rattle.std.specs.FinMap.{get};
 ghost use Rattle.plc_base.specs.Keeper.{Stores, SameOutside};
 ghost use Rattle.byteorder.specs.Endian.{big_bytes};
-ghost use Rattle.node_rules.specs.Opening.{tag_in};
-ghost use Rattle.node_rules.specs.Doings.{tag_slot, tag_after};
+ghost use Rattle.node_rules.specs.StoreReading.{tag_in};
+ghost use Rattle.node_rules.specs.Drafts.{tag_slot, tag_after};
 ghost use Rattle.plc_station.specs.Parts.{tag_write};
 ghost use Rattle.plc_station.specs.Sealing.{take_write, tag_left};
 

@@ -3,9 +3,9 @@ ghost use Rattle.std.specs.Prelude.{◌≡◌, Ok, Err, MatchResult, IfOk};
 ghost use Rattle.plc_base.specs.SlotTables.{IsGapless};
 ghost use Rattle.frame_counters.specs.PeerMarks.{peers};
 ghost use Rattle.routing_set.specs.RoutingSet.{ranks};
-ghost use Rattle.node_rules.specs.Opening.{line_of};
+ghost use Rattle.node_rules.specs.StoreReading.{station_of};
 ghost use Rattle.plc_station.specs.Parts.{AgreesWith};
-ghost use Rattle.plc_station.specs.Lines.{line_in, no_bodies};
+ghost use Rattle.plc_station.specs.StationReading.{station_in, no_bodies};
 
 use crate::next_tag::NextTag;
 use frame_counters::{PeerMarks, SendCounter};
@@ -26,11 +26,11 @@ pub struct Parts {
 
 impl Parts {
     /// What the records of a keeper give. BadStore where one of them has no reading.
-    #[tactic(auto, unfolding(node_rules::specs::Opening::line_of))]
+    #[tactic(auto, unfolding(node_rules::specs::StoreReading::station_of))]
     pub(crate) fn open<K: Keeper>(keeper: &K) -> Result<Parts, BadStore>
-        ensures line { MatchResult result (λ p. line_of (K.store keeper.now).records ≡ Ok (line_in p no_bodies)) (λ bad. line_of (K.store keeper.now).records ≡ Err bad) }
+        ensures station { MatchResult result (λ p. station_of (K.store keeper.now).records ≡ Ok (station_in p no_bodies)) (λ bad. station_of (K.store keeper.now).records ≡ Err bad) }
         ensures agrees { IsGapless peers (K.store keeper.now).records → IsGapless ranks (K.store keeper.now).records
-            → IfOk result (λ p. AgreesWith (line_in p no_bodies) (K.store keeper.now).records) }
+            → IfOk result (λ p. AgreesWith (station_in p no_bodies) (K.store keeper.now).records) }
     {
         let ring = KeyRing::open(keeper)?;
         let counter = SendCounter::open(keeper)?;

@@ -1,6 +1,6 @@
 //! What the workshop sets at a station.
 ghost use Rattle.std.specs.Prelude.{◌≡◌, ◌≤◌, true, false, IfSome, IsSome};
-ghost use Rattle.node_rules.specs.Doings as doings;
+ghost use Rattle.node_rules.specs.Drafts as drafts;
 ghost use Rattle.node_rules.specs.Calls as calls;
 ghost use Rattle.routing_set.specs.RoutingSet as routing;
 ghost use Rattle.plc_station.specs.State.{Carries, Agrees, nothing};
@@ -49,7 +49,7 @@ impl<K: Keeper + Drop> Station<K> {
         requires better { IfSome self.old.memory (λ l. routing.is_better l.routing to (calls.near_rank cost) ≡ true) }
         requires room { IfSome self.old.memory (λ l. routing.is_full l.routing to now ≡ false) }
         ensures carries { IfSome self.old.memory (λ l. Carries self.old
-            (doings.sealing doings.alone calls.presetting_ends (doings.ranked to (calls.near_rank cost) to now (doings.begun l)) tt) result nothing self.new) }
+            (drafts.sealing drafts.alone calls.presetting_ends (drafts.with_rank to (calls.near_rank cost) to now (drafts.empty_draft l)) tt) result nothing self.new) }
         ensures agrees { Agrees self.new }
     {
         let _left = self.parts.counter.left();

@@ -2,7 +2,7 @@
 ghost use Rattle.std.specs.Prelude.{◌≡◌, ◌+◌, ◌<◌, ◌≤◌, true, false, IfSome, IsSome, Some, length};
 ghost use Rattle.loadng_messages.specs.declared.message.Message.TheVariants as message;
 ghost use Rattle.node_rules.specs.Memory.{next_hop};
-ghost use Rattle.node_rules.specs.Doings as doings;
+ghost use Rattle.node_rules.specs.Drafts as drafts;
 ghost use Rattle.node_rules.specs.Hearing as hearing;
 ghost use Rattle.routing_set.specs.RoutingSet as routing;
 ghost use Rattle.plc_station.specs.Leaving.{leaving};
@@ -35,7 +35,7 @@ impl<K: Keeper + Drop> Station<K> {
         requires valid { 1 ≤ rank.number }
         requires left { IfSome self.old.memory (λ l. l.counter.next + length (leaving grant.now.address origin by l.waiting) ≤ 4294967295) }
         requires empty { out.old ≡ nothing }
-        ensures carries { IfSome self.old.memory (λ l. Carries self.old (doings.sealing doings.alone hearing.dropped
+        ensures carries { IfSome self.old.memory (λ l. Carries self.old (drafts.sealing drafts.alone hearing.dropped
             (hearing.offers grant.now.address origin rank by now l) tt) result out.new self.new) }
         ensures agrees { Agrees self.new }
     {
@@ -79,8 +79,8 @@ impl<K: Keeper + Drop> Station<K> {
         requires valid { 1 ≤ rank.number }
         requires left { IfSome self.old.memory (λ l. l.counter.next + (length (leaving grant.now.address origin by l.waiting) + 1) ≤ 4294967295) }
         requires empty { out.old ≡ nothing }
-        ensures carries { IfSome self.old.memory (λ l. Carries self.old (doings.sealing doings.alone hearing.dropped
-            (doings.tells hop (message.Rrep rank.number rank.cost origin to) (hearing.offers grant.now.address origin rank by now l)) tt) result out.new self.new) }
+        ensures carries { IfSome self.old.memory (λ l. Carries self.old (drafts.sealing drafts.alone hearing.dropped
+            (drafts.tells hop (message.Rrep rank.number rank.cost origin to) (hearing.offers grant.now.address origin rank by now l)) tt) result out.new self.new) }
         ensures agrees { Agrees self.new }
     {
         self.halted = true;
@@ -127,7 +127,7 @@ impl<K: Keeper + Drop> Station<K> {
         requires valid { 1 ≤ number }
         requires empty { out.old ≡ nothing }
         ensures carries { IfSome self.old.memory (λ l. Carries self.old
-            (doings.checked hearing.dropped l (hearing.rank_fault l grant.now.address origin (record { number = number; cost = cost }) now)
+            (drafts.checked hearing.dropped l (hearing.rank_fault l grant.now.address origin (record { number = number; cost = cost }) now)
             (hearing.learns l grant.now.address by origin (record { number = number; cost = cost }) now)) result out.new self.new) }
         ensures agrees { Agrees self.new }
     {

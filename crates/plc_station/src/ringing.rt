@@ -1,7 +1,7 @@
 //! What a station does about its ring.
 ghost use Rattle.std.specs.Prelude.{◌≡◌, ◌≤◌, true, Some, None, IfSome, IsSome, is_some};
 ghost use Rattle.group_keys.specs.KeyRing as ring;
-ghost use Rattle.node_rules.specs.Doings as doings;
+ghost use Rattle.node_rules.specs.Drafts as drafts;
 ghost use Rattle.node_rules.specs.Calls as calls;
 ghost use Rattle.plc_station.specs.State.{Carries, Agrees, nothing};
 
@@ -56,7 +56,7 @@ impl<K: Keeper + Drop> Station<K> {
         requires agrees { Agrees self.old }
         requires index { index ≤ 1 }
         requires held { IfSome self.old.memory (λ l. is_some (ring.key_in_ring l.ring index) ≡ true) }
-        ensures carries { IfSome self.old.memory (λ l. Carries self.old (calls.ring_ends (doings.ringed (ring.with_active l.ring index) (doings.begun l))) result nothing self.new) }
+        ensures carries { IfSome self.old.memory (λ l. Carries self.old (calls.ring_ends (drafts.with_ring (ring.with_active l.ring index) (drafts.empty_draft l))) result nothing self.new) }
         ensures agrees { Agrees self.new }
     {
         let _left = self.parts.counter.left();

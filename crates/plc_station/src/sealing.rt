@@ -8,7 +8,7 @@ ghost use Rattle.fragment_buffers.specs.Cutting.{pieces_of, cut};
 ghost use Rattle.node_rules.specs.Ciphers.{network};
 ghost use Rattle.node_rules.specs.Frames.{spelled};
 ghost use Rattle.node_rules.specs.Memory.{Datagram};
-ghost use Rattle.node_rules.specs.Doings as doings;
+ghost use Rattle.node_rules.specs.Drafts as drafts;
 ghost use Rattle.plc_station.specs.State.{nothing};
 ghost use Rattle.node_rules.proofs.Sizes.{units_in};
 ghost use Rattle.plc_station.specs.Codes.{load_of};
@@ -23,7 +23,7 @@ use plc_base::{FrameBuf, Grant, Key, Out, OutFrame, PAN, Short};
 
 // The key that seals.
 pub(crate) fn sealing_key(grant: &Grant) -> Key
-    ensures key { doings.sealing_key grant.now ≡ Some result }
+    ensures key { drafts.sealing_key grant.now ≡ Some result }
     ensures index { grant.now.active ≤ 1 }
 {
     let Some(key) = grant.key(grant.active) else {
@@ -73,7 +73,7 @@ pub(crate) fn seal(
 
 // The mesh header of what the node sends itself.
 pub(crate) fn own_mesh(grant: &Grant, to: Short) -> Mesh
-    ensures { result ≡ doings.own_mesh grant.now.address to }
+    ensures { result ≡ drafts.own_mesh grant.now.address to }
 {
     Mesh {
         hops: 14,
@@ -96,8 +96,8 @@ fn seal_whole(
     requires fits { length datagram.now ≤ 375 }
     requires empty { out.old ≡ nothing }
     ensures { out.new ≡ record nothing {
-      frames = map (spelled network) (doings.sealed_by (Some grant.now) first
-          (doings.all_go hop note (mesh.Whole (doings.own_mesh grant.now.address to) datagram.now ∷ [])));
+      frames = map (spelled network) (drafts.sealed_by (Some grant.now) first
+          (drafts.all_go hop note (mesh.Whole (drafts.own_mesh grant.now.address to) datagram.now ∷ [])));
     } }
 {
     let key = sealing_key(grant);
@@ -133,8 +133,8 @@ fn seal_pieces(
     requires left { first + pieces_of (length datagram.now) ≤ 4294967295 }
     requires empty { out.old ≡ nothing }
     ensures { out.new ≡ record nothing {
-      frames = map (spelled network) (doings.sealed_by (Some grant.now) first
-          (doings.all_go hop note (map (λ piece. mesh.Part (doings.own_mesh grant.now.address to) piece) (cut datagram.now tag))));
+      frames = map (spelled network) (drafts.sealed_by (Some grant.now) first
+          (drafts.all_go hop note (map (λ piece. mesh.Part (drafts.own_mesh grant.now.address to) piece) (cut datagram.now tag))));
     } }
 {
     let key = sealing_key(grant);
@@ -174,8 +174,8 @@ pub(crate) fn seal_datagram(
     requires left { first + pieces_of (length datagram.now) ≤ 4294967295 }
     requires empty { out.old ≡ nothing }
     ensures { out.new ≡ record nothing {
-      frames = map (spelled network) (doings.sealed_by (Some grant.now) first
-          (doings.all_go hop note (doings.units_of grant.now.address to (Datagram datagram.now tag))));
+      frames = map (spelled network) (drafts.sealed_by (Some grant.now) first
+          (drafts.all_go hop note (drafts.units_of grant.now.address to (Datagram datagram.now tag))));
     } }
 {
     if datagram.len() <= 375 {
@@ -191,7 +191,7 @@ pub(crate) fn seal_message(grant: &Grant, counter: u32, to: u16, message: &Messa
     requires allowed { messages.IsAllowed message.now }
     requires room { length out.old.frames < 24 }
     ensures { out.new ≡ record out.old {
-      frames = out.old.frames ++ map (spelled network) (doings.sealed_by (Some grant.now) counter
+      frames = out.old.frames ++ map (spelled network) (drafts.sealed_by (Some grant.now) counter
           (record { to = to; unit = mesh.Local 1 (messages.spelling message.now); note = 0 } ∷ []));
     } }
 {
@@ -207,7 +207,7 @@ pub(crate) fn seal_request(grant: &Grant, counter: u32, number: u16, dest: Short
     requires number { 1 ≤ number }
     requires empty { out.old ≡ nothing }
     ensures { out.new ≡ record nothing {
-      frames = map (spelled network) (doings.sealed_by (Some grant.now) counter
+      frames = map (spelled network) (drafts.sealed_by (Some grant.now) counter
           (record { to = 0xFFFF; unit = mesh.Local 1 (messages.spelling (message.Rreq number 0 grant.now.address dest)); note = 0 } ∷ []));
     } }
 {
@@ -240,8 +240,8 @@ fn seal_cut(
     requires left { first + pieces_of (length datagram.now) ≤ 4294967295 }
     requires room { length out.old.frames + pieces_of (length datagram.now) ≤ 24 }
     ensures { out.new ≡ record out.old {
-      frames = out.old.frames ++ map (spelled network) (doings.letters grant.now key.now first
-          (doings.all_go hop note (map (λ piece. mesh.Part (doings.own_mesh grant.now.address to) piece) (cut datagram.now tag))));
+      frames = out.old.frames ++ map (spelled network) (drafts.letters grant.now key.now first
+          (drafts.all_go hop note (map (λ piece. mesh.Part (drafts.own_mesh grant.now.address to) piece) (cut datagram.now tag))));
     } }
 {
     for k in 0..pieces(datagram.len() as u16) {
@@ -284,8 +284,8 @@ pub(crate) fn seal_load(
     requires left { first + units_in (load_of tag octets.now) ≤ 4294967295 }
     requires room { length out.old.frames + units_in (load_of tag octets.now) ≤ 24 }
     ensures { out.new ≡ record out.old {
-      frames = out.old.frames ++ map (spelled network) (doings.letters grant.now key.now first
-          (doings.all_go hop note (doings.units_of grant.now.address to (load_of tag octets.now))));
+      frames = out.old.frames ++ map (spelled network) (drafts.letters grant.now key.now first
+          (drafts.all_go hop note (drafts.units_of grant.now.address to (load_of tag octets.now))));
     } }
 {
     let Some(tag) = tag else {

@@ -2,7 +2,7 @@
 ghost use Rattle.std.specs.Prelude.{◌≡◌, ◌+◌, ◌<◌, ◌≤◌, ◌==◌, ◌||◌, nat_lt, true, false, Some, None, Ok, Err, IfSome, IfNone, IsSome, length, is_some};
 ghost use Rattle.fragment_buffers.specs.Cutting.{pieces_of};
 ghost use Rattle.node_rules.specs.Memory.{Datagram, next_hop};
-ghost use Rattle.node_rules.specs.Doings as doings;
+ghost use Rattle.node_rules.specs.Drafts as drafts;
 ghost use Rattle.node_rules.specs.Calls as calls;
 ghost use Rattle.node_rules.specs.declared.heard.SentHow.TheVariants as how;
 ghost use Rattle.plc_station.specs.State.{Carries, Agrees, nothing};
@@ -38,8 +38,8 @@ impl<K: Keeper + Drop> Station<K> {
         requires fits { length datagram.now ≤ 1280 }
         requires left { IfSome self.old.memory (λ l. l.counter.next + pieces_of (length datagram.now) ≤ 4294967295) }
         requires empty { out.old ≡ nothing }
-        ensures carries { IfSome self.old.memory (λ l. Carries self.old (doings.sealing doings.alone calls.sending_ends
-            (doings.body_goes grant.now.address hop to note (Datagram datagram.now l.next_tag) (calls.tag_taken datagram.now (doings.begun l))) how.Sent) result out.new self.new) }
+        ensures carries { IfSome self.old.memory (λ l. Carries self.old (drafts.sealing drafts.alone calls.sending_ends
+            (drafts.body_goes grant.now.address hop to note (Datagram datagram.now l.next_tag) (calls.tag_taken datagram.now (drafts.empty_draft l))) how.Sent) result out.new self.new) }
         ensures agrees { Agrees self.new }
     {
         self.halted = true;
@@ -72,11 +72,11 @@ impl<K: Keeper + Drop> Station<K> {
         requires agrees { Agrees self.old }
         requires some { 1 ≤ length datagram.now }
         requires fits { length datagram.now ≤ 1280 }
-        requires room { IfSome self.old.memory (λ l. doings.no_room l (length datagram.now) ≡ false) }
+        requires room { IfSome self.old.memory (λ l. drafts.no_room l (length datagram.now) ≡ false) }
         requires left { IfSome self.old.memory (λ l. l.counter.next ≤ 4294967295) }
         requires empty { out.old ≡ nothing }
-        ensures carries { IfSome self.old.memory (λ l. Carries self.old (doings.sealing doings.alone calls.sending_ends
-            (doings.waits to note (Datagram datagram.now l.next_tag) now (calls.tag_taken datagram.now (doings.begun l))) how.Waiting) result out.new self.new) }
+        ensures carries { IfSome self.old.memory (λ l. Carries self.old (drafts.sealing drafts.alone calls.sending_ends
+            (drafts.waits to note (Datagram datagram.now l.next_tag) now (calls.tag_taken datagram.now (drafts.empty_draft l))) how.Waiting) result out.new self.new) }
         ensures agrees { Agrees self.new }
     {
         self.halted = true;
@@ -106,12 +106,12 @@ impl<K: Keeper + Drop> Station<K> {
         requires ring { IfSome self.old.memory (λ l. l.ring ≡ Some grant.now) }
         requires some { 1 ≤ length datagram.now }
         requires fits { length datagram.now ≤ 1280 }
-        requires room { IfSome self.old.memory (λ l. doings.no_room l (length datagram.now) ≡ false) }
+        requires room { IfSome self.old.memory (λ l. drafts.no_room l (length datagram.now) ≡ false) }
         requires number { IfSome self.old.memory (λ l. l.own_number.last < 65535) }
         requires left { IfSome self.old.memory (λ l. l.counter.next + 1 ≤ 4294967295) }
         requires empty { out.old ≡ nothing }
-        ensures carries { IfSome self.old.memory (λ l. Carries self.old (doings.sealing doings.alone calls.sending_ends
-            (doings.waits to note (Datagram datagram.now l.next_tag) now (doings.seeks grant.now.address to (calls.tag_taken datagram.now (doings.begun l)))) how.Waiting) result out.new self.new) }
+        ensures carries { IfSome self.old.memory (λ l. Carries self.old (drafts.sealing drafts.alone calls.sending_ends
+            (drafts.waits to note (Datagram datagram.now l.next_tag) now (drafts.seeks grant.now.address to (calls.tag_taken datagram.now (drafts.empty_draft l)))) how.Waiting) result out.new self.new) }
         ensures agrees { Agrees self.new }
     {
         self.halted = true;

@@ -1,6 +1,6 @@
 //! What is shown of a station, besides its lists.
 ghost use Rattle.std.specs.Prelude.{◌≡◌, IfSome, None};
-ghost use Rattle.node_rules.specs.Showing.{shown_line, nothing_shown};
+ghost use Rattle.node_rules.specs.Showing.{shown_station, nothing_shown};
 ghost use Rattle.plc_station.specs.Shown.{IsHead};
 
 use crate::station::Station;
@@ -29,7 +29,7 @@ impl<K: Keeper + Drop> Station<K> {
     /// What is shown of it, besides its lists.
     pub fn shown_head(&self) -> ShownHead
         ensures halted { self.now.memory ≡ None → IsHead result nothing_shown }
-        ensures shown { IfSome self.now.memory (λ l. IsHead result (shown_line l)) }
+        ensures shown { IfSome self.now.memory (λ l. IsHead result (shown_station l)) }
     {
         if self.halted {
             return ShownHead {

@@ -11,10 +11,10 @@ ghost use Rattle.node_rules.specs.Ciphers.{network};
 ghost use Rattle.node_rules.specs.Frames.{arrived, arrived_with};
 ghost use Rattle.node_rules.specs.Memory.{address_of};
 ghost use Rattle.node_rules.specs.Accepting as accepting;
-ghost use Rattle.node_rules.specs.Opening.{line_of};
+ghost use Rattle.node_rules.specs.StoreReading.{station_of};
 ghost use Rattle.plc_station.specs.State.{Carries, Agrees, nothing};
-ghost use Rattle.plc_station.specs.Lines.{if_read, read_answer};
-ghost use Rattle.plc_station.specs.Opening.{IsOpenFault};
+ghost use Rattle.plc_station.specs.StationReading.{if_read, read_answer};
+ghost use Rattle.plc_station.specs.OpenFaults.{IsOpenFault};
 
 use crate::bodies::Bodies;
 use crate::parts::Parts;
@@ -55,16 +55,16 @@ pub struct Station<K: Keeper + Drop> {
 }
 
 impl<K: Keeper + Drop> Model for Station<K> {
-    ghost use Rattle.node_rules.specs.Memory.{Line};
-    ghost use Rattle.plc_station.specs.State.{State, station_code, unless_halted};
+    ghost use Rattle.node_rules.specs.Memory.{StationMemory};
+    ghost use Rattle.plc_station.specs.State.{State, station_state_code, unless_halted};
 
-    ghost Value = { State Line };
+    ghost Value = { State StationMemory };
 
-    ghost coded = { station_code };
+    ghost coded = { station_state_code };
 
-    ghost use Rattle.plc_station.specs.Lines.{line_in};
+    ghost use Rattle.plc_station.specs.StationReading.{station_in};
 
-    ghost view = { λ s. record { store = K.store s.keeper; eui = s.eui; memory = unless_halted s.halted (line_in s.parts s.bodies) } };
+    ghost view = { λ s. record { store = K.store s.keeper; eui = s.eui; memory = unless_halted s.halted (station_in s.parts s.bodies) } };
 }
 
 // The number that an EUI is.
@@ -93,10 +93,10 @@ impl<K: Keeper + Drop> Station<K> {
     ///
     /// Memory, where there is none for it; BadStore, where a record has no reading. The keeper comes back with it.
     pub fn open(alloc: Global, keeper: K, eui: Eui) -> Result<Station<K>, (OpenFault, K)>
-        ensures opened { IfOk result (λ s. s ≡ record { store = K.store keeper; eui = eui; memory = if_read (line_of (K.store keeper).records) }) }
+        ensures opened { IfOk result (λ s. s ≡ record { store = K.store keeper; eui = eui; memory = if_read (station_of (K.store keeper).records) }) }
         ensures running { IfOk result (λ s. IsSome s.memory) }
         ensures agrees { IsGapless peers (K.store keeper).records → IsGapless ranks (K.store keeper).records → IfOk result (λ s. Agrees s) }
-        ensures refused { IfErr result (λ e. (e.1 ≡ keeper) × IsOpenFault (line_of (K.store keeper).records) e.0) }
+        ensures refused { IfErr result (λ e. (e.1 ≡ keeper) × IsOpenFault (station_of (K.store keeper).records) e.0) }
     {
         let Ok(bodies) = Bodies::new(alloc) else {
             return Err((OpenFault::Memory, keeper));
@@ -270,8 +270,8 @@ impl<K: Keeper + Drop> Station<K> {
 
     /// Forgets everything but the store, and ends a halt. After BadStore it is halted.
     pub fn restart(&mut self) -> Result<(), BadStore>
-        ensures answer { result ≡ read_answer (line_of self.old.store.records) }
-        ensures state { self.new ≡ record self.old { memory = if_read (line_of self.old.store.records) } }
+        ensures answer { result ≡ read_answer (station_of self.old.store.records) }
+        ensures state { self.new ≡ record self.old { memory = if_read (station_of self.old.store.records) } }
         ensures agrees { IsGapless peers self.old.store.records → IsGapless ranks self.old.store.records → Agrees self.new }
     {
         self.halted = true;

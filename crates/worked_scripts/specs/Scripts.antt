@@ -127,39 +127,39 @@ four_meters =
 
 -- the answers behind so many events
 abbrev pub answers_after : ℕ → List Event → List Answer
-answers_after count events = map (λ (x : Entry). x.deeds.happened.answer) (drop count (run plain start events))
+answers_after count events = map (λ (x : Entry). x.trace.happened.answer) (drop count (run plain start events))
 
 -- the last entry's datagram that was handed up
 abbrev pub handed_at_last : List Entry → Option Handed
 handed_at_last [] = None
-handed_at_last (x ∷ []) = x.deeds.happened.up
+handed_at_last (x ∷ []) = x.trace.happened.up
 handed_at_last (x ∷ (y ∷ rest)) = handed_at_last (y ∷ rest)
 
 -- what the last entry shows
 abbrev pub shown_at_last : List Entry → Option Shown
 shown_at_last [] = None
-shown_at_last (x ∷ []) = x.deeds.happened.shown
+shown_at_last (x ∷ []) = x.trace.happened.shown
 shown_at_last (x ∷ (y ∷ rest)) = shown_at_last (y ∷ rest)
 
 -- the meters that took their grant, those whose joining is done, and the addresses that were given out, in order
 abbrev pub takers : List Entry → List ℕ
 takers [] = []
-takers (x ∷ rest) = one_of x.deeds.happened.took ++ takers rest
+takers (x ∷ rest) = one_of x.trace.happened.took ++ takers rest
 
 -- the meters whose joining is done, in order
 abbrev pub doers : List Entry → List ℕ
 doers [] = []
-doers (x ∷ rest) = one_of x.deeds.happened.done ++ doers rest
+doers (x ∷ rest) = one_of x.trace.happened.done ++ doers rest
 
 -- the addresses that were given out, in order
 abbrev pub admissions : List Entry → List Admission
 admissions [] = []
-admissions (x ∷ rest) = one_of x.deeds.happened.grant ++ admissions rest
+admissions (x ∷ rest) = one_of x.trace.happened.grant ++ admissions rest
 
 -- whether the last entry is a forged event
 abbrev pub forged_at_last : List Entry → Bool
 forged_at_last [] = false
-forged_at_last (x ∷ []) = x.deeds.happened.forged
+forged_at_last (x ∷ []) = x.trace.happened.forged
 forged_at_last (x ∷ (y ∷ rest)) = forged_at_last (y ∷ rest)
 
 -- the world behind a run

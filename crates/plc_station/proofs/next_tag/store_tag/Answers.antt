@@ -1,7 +1,7 @@
 use Rattle.std.proofs.Common.{arith, Some}
 use Rattle.byteorder.specs.Endian.{big_bytes}
 use Rattle.plc_base.proofs.StoreLemmas.{stores_elsewhere}
-use Rattle.node_rules.specs.Doings.{tag_slot}
+use Rattle.node_rules.specs.Drafts.{tag_slot}
 use Rattle.plc_station.proofs.Tags.{tag_stored}
 use Rattle.plc_station.proofs.next_tag.store_tag.Goals as goal
 

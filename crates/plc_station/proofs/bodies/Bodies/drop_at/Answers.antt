@@ -5,7 +5,7 @@ use Rattle.block_pool.specs.Pool.{chain_octets}
 use Rattle.fragment_buffers.specs.Taking.{blocks}
 use Rattle.fragment_buffers.proofs.Writing.{stays-remove}
 use Rattle.plc_station.specs.Bodies.{Held, Slot}
-use Rattle.plc_station.specs.Holding.{IsSound, IsHeld, body_in, bodies_in}
+use Rattle.plc_station.specs.BodiesInPool.{IsSound, IsHeld, body_in, bodies_in}
 use Rattle.plc_station.proofs.Sound.{Returns, sound_remove, told_remove, bodies_remove, seen_waiting, read_slot, blocks_less}
 use Rattle.plc_station.proofs.bodies.Bodies.drop_at.Goals as goal
 

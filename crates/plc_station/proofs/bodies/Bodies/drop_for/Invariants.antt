@@ -1,7 +1,7 @@
 use Rattle.std.proofs.Common.{◌≡◌, ◌-◌, ◌≤◌, not, length}
 use Rattle.std.specs.List.{filter}
 use Rattle.node_rules.specs.Memory.{Body}
-use Rattle.node_rules.specs.Doings.{waits_for}
+use Rattle.node_rules.specs.Drafts.{waits_for}
 use Rattle.plc_station.proofs.Dropping.{kept_so_far}
 use Rattle.plc_station.proofs.bodies.Bodies.drop_for.Given as goal
 

@@ -6,7 +6,7 @@ use Rattle.fragment_buffers.specs.Taking.{blocks}
 use Rattle.fragment_buffers.proofs.Writing.{Stays, stays-insert}
 use Rattle.plc_station.specs.Codes.{load_of}
 use Rattle.plc_station.specs.Bodies.{Held, Slot}
-use Rattle.plc_station.specs.Holding.{blocks_of, IsSound, bodies_in}
+use Rattle.plc_station.specs.BodiesInPool.{blocks_of, IsSound, bodies_in}
 use Rattle.plc_station.proofs.Sound.{Reserves, HasRoom, room_is, sound_push, told_push, bodies_push, seen_waiting, blocks_more}
 use Rattle.plc_station.proofs.bodies.Bodies.push.Goals.{After-push}
 use Rattle.plc_station.proofs.bodies.Bodies.push.Goals as goal

@@ -4,7 +4,7 @@ use Rattle.plc_base.specs.declared.out_frame.Out.{Out}
 use Rattle.plc_base.specs.declared.out_frame.OutFrame.{OutFrame}
 use Rattle.node_rules.specs.Memory.{Body}
 use Rattle.plc_station.specs.Bodies.{Held}
-use Rattle.plc_station.specs.Holding.{body_in}
+use Rattle.plc_station.specs.BodiesInPool.{body_in}
 use Rattle.plc_station.specs.Leaving.{body_at, frames_of, leaving}
 use Rattle.plc_station.specs.Sealing.{with_frames}
 use Rattle.plc_station.proofs.Leaves.{leaving-none, leaving-suc, leaving-few, frames-append, length-frames}

@@ -1,7 +1,7 @@
 use Rattle.std.proofs.Common.{◌≡◌, ℕ, ◌+◌, ◌<◌, ◌∷◌, [], ◌++◌, length, take, sym, ap, arith, ◌∙◌}
 use Rattle.std.proofs.lemmas.List.{length-append, length-map}
 use Rattle.plc_station.specs.Bodies.{Held}
-use Rattle.plc_station.specs.Holding.{body_in}
+use Rattle.plc_station.specs.BodiesInPool.{body_in}
 use Rattle.plc_station.specs.Leaving.{body_at, leaving}
 use Rattle.plc_station.proofs.Leaves.{leaving-none, leaving-suc, leaving-all, few-units}
 use Rattle.plc_station.proofs.bodies.Bodies.units_for.Goals as goal

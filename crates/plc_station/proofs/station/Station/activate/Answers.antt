@@ -7,11 +7,11 @@ use Rattle.node_rules.specs.declared.refusal.PresetFault.TheVariants as presets
 use Rattle.node_rules.specs.Ciphers.{network}
 use Rattle.node_rules.specs.Frames.{Sent as Frame, spelled}
 use Rattle.node_rules.specs.Plans.{resting}
-use Rattle.node_rules.specs.Doings.{begun, ringed, ranked}
+use Rattle.node_rules.specs.Drafts.{empty_draft, with_ring, with_rank}
 use Rattle.node_rules.specs.Calls.{ringing_ends, leaving, presetting_ends, near_rank}
 use Rattle.plc_station.specs.Bodies.{Held}
 use Rattle.plc_station.specs.Parts.{AgreesWith}
-use Rattle.plc_station.specs.Lines.{line_in}
+use Rattle.plc_station.specs.StationReading.{station_in}
 use Rattle.plc_station.specs.Sealing.{only_frames}
 use Rattle.plc_station.specs.State.{unless_halted}
 use Rattle.plc_station.proofs.Carrying.{on_memory, at_some, of_some, lines_are}
@@ -22,8 +22,8 @@ use Rattle.plc_station.proofs.station.Station.activate.Goals as goal
 
 pub returns-in_default-clause-carries : goal.returns-in_default-clause-carries
 returns-in_default-clause-carries g c =
-    rw (← c.self.view_is) (on_memory c.self.inside.halted _ _ (λ running. refusal ringing_ends _ (line_in c.self.inside.parts c.self.inside.bodies) NotHeld _ _ running (not_held (line_in c.self.inside.parts c.self.inside.bodies) c.args.index c.in_default.ensures) refl))
+    rw (← c.self.view_is) (on_memory c.self.inside.halted _ _ (λ running. refusal ringing_ends _ (station_in c.self.inside.parts c.self.inside.bodies) NotHeld _ _ running (not_held (station_in c.self.inside.parts c.self.inside.bodies) c.args.index c.in_default.ensures) refl))
 
 pub returns-clause-carries : goal.returns-clause-carries
 returns-clause-carries g c =
-    rw (← c.self.view_is) (on_memory c.self.inside.halted _ _ (λ running. carried_by _ _ _ _ _ _ (held (line_in c.self.inside.parts c.self.inside.bodies) c.args.index _ c.in-Some.ensures) (at_some _ _ (line_in c.self.inside.parts c.self.inside.bodies) running (rw (← c.self.view_is) at c.set_active.ensures.carries))))
+    rw (← c.self.view_is) (on_memory c.self.inside.halted _ _ (λ running. carried_by _ _ _ _ _ _ (held (station_in c.self.inside.parts c.self.inside.bodies) c.args.index _ c.in-Some.ensures) (at_some _ _ (station_in c.self.inside.parts c.self.inside.bodies) running (rw (← c.self.view_is) at c.set_active.ensures.carries))))

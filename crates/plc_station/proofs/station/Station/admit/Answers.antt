@@ -1,5 +1,5 @@
 use Rattle.std.proofs.Common.{refl}
-use Rattle.plc_station.specs.Lines.{line_in}
+use Rattle.plc_station.specs.StationReading.{station_in}
 use Rattle.plc_station.proofs.Carrying.{on_memory, lines_are}
 use Rattle.plc_station.proofs.Accepting.{admit_refused, admit_failed, admit_done}
 use Rattle.plc_station.proofs.station.Station.admit.Goals as goal
@@ -10,10 +10,10 @@ returns-in-Err-clause-carries g c = rw (← c.self.view_is) (on_memory c.self.in
 pub returns-in_default-keep-clause-carries : goal.returns-in_default-keep-clause-carries
 returns-in_default-keep-clause-carries g c =
     rw (← c.self.view_is)
-    (on_memory c.self.inside.halted _ _ (λ running. admit_failed _ _ (line_in c.self.inside.parts c.self.inside.bodies) c.args.from c.args.counter c.args.accepted _ c.in_default.ensures c.in_default-keep.ensures.store refl))
+    (on_memory c.self.inside.halted _ _ (λ running. admit_failed _ _ (station_in c.self.inside.parts c.self.inside.bodies) c.args.from c.args.counter c.args.accepted _ c.in_default.ensures c.in_default-keep.ensures.store refl))
 
 pub returns-clause-carries : goal.returns-clause-carries
 returns-clause-carries g c =
     rw (← c.self.view_is)
-    (on_memory c.self.inside.halted _ _ (λ running. admit_done _ _ (line_in c.self.inside.parts c.self.inside.bodies) c.args.from c.args.counter c.args.accepted _ c.in_default.ensures c.in-Ok.ensures.store
+    (on_memory c.self.inside.halted _ _ (λ running. admit_done _ _ (station_in c.self.inside.parts c.self.inside.bodies) c.args.from c.args.counter c.args.accepted _ c.in_default.ensures c.in-Ok.ensures.store
     (lines_are _ _ _ _ refl refl c.in-Ok.ensures.table refl refl refl refl refl)))

@@ -9,12 +9,12 @@ use Rattle.node_rules.specs.declared.heard.SentHow.TheVariants.{Sent, Waiting}
 use Rattle.node_rules.specs.declared.refusal.SendRefusal.TheVariants.{NotJoined, WaitingFull, SeqSpent, CounterSpent}
 use Rattle.node_rules.specs.Ciphers.{network}
 use Rattle.node_rules.specs.Frames.{Sent as Frame, spelled}
-use Rattle.node_rules.specs.Memory.{Line, Command, next_hop}
-use Rattle.node_rules.specs.Doings.{begun, goes, body_goes, own_mesh, waits, seeks, numbered, sealed_by}
+use Rattle.node_rules.specs.Memory.{StationMemory, Command, next_hop}
+use Rattle.node_rules.specs.Drafts.{empty_draft, goes, body_goes, own_mesh, waits, seeks, with_own_number, sealed_by}
 use Rattle.node_rules.specs.Calls.{sending_ends}
 use Rattle.node_rules.specs.Hearing.{dropped}
 use Rattle.plc_station.specs.Bodies.{Held}
-use Rattle.plc_station.specs.Lines.{line_in}
+use Rattle.plc_station.specs.StationReading.{station_in}
 use Rattle.plc_station.specs.Sealing.{only_frames}
 use Rattle.plc_station.specs.State.{State}
 use Rattle.plc_station.proofs.Carrying.{if_some, on_memory, at_some, lines_are}
@@ -24,11 +24,11 @@ use Rattle.plc_station.proofs.Commanding as ways
 use Rattle.plc_station.proofs.station.Station.command_goes.Goals as goal
 
 pub returns-in-Ok-clause-carries : goal.returns-in-Ok-clause-carries
-unfolding body_goes goes begun
+unfolding body_goes goes empty_draft
 returns-in-Ok-clause-carries g c =
-    if_some c.args.self.now.memory _ (λ l m. ways.told_done dropped sending_ends _ _ (goes c.args.hop (Carried (own_mesh c.args.grant.now.address c.args.to) (drop 1 c.args.octets.now)) 0 (begun l)) _ Sent _ (rw (c.number.ensures.value, c.command_unit-unit.ensures.value) at (at_some c.args.self.now.memory _ l m c.in-Ok.ensures.carries)))
+    if_some c.args.self.now.memory _ (λ l m. ways.told_done dropped sending_ends _ _ (goes c.args.hop (Carried (own_mesh c.args.grant.now.address c.args.to) (drop 1 c.args.octets.now)) 0 (empty_draft l)) _ Sent _ (rw (c.number.ensures.value, c.command_unit-unit.ensures.value) at (at_some c.args.self.now.memory _ l m c.in-Ok.ensures.carries)))
 
 pub returns-in-Err-clause-carries : goal.returns-in-Err-clause-carries
-unfolding body_goes goes begun
+unfolding body_goes goes empty_draft
 returns-in-Err-clause-carries g c =
-    if_some c.args.self.now.memory _ (λ l m. ways.told_failed dropped sending_ends _ _ (goes c.args.hop (Carried (own_mesh c.args.grant.now.address c.args.to) (drop 1 c.args.octets.now)) 0 (begun l)) _ Sent _ (rw (c.number.ensures.value, c.command_unit-unit.ensures.value) at (at_some c.args.self.now.memory _ l m c.in-Err.ensures.carries)))
+    if_some c.args.self.now.memory _ (λ l m. ways.told_failed dropped sending_ends _ _ (goes c.args.hop (Carried (own_mesh c.args.grant.now.address c.args.to) (drop 1 c.args.octets.now)) 0 (empty_draft l)) _ Sent _ (rw (c.number.ensures.value, c.command_unit-unit.ensures.value) at (at_some c.args.self.now.memory _ l m c.in-Err.ensures.carries)))

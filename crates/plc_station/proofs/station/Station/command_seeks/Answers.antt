@@ -9,12 +9,12 @@ use Rattle.node_rules.specs.declared.heard.SentHow.TheVariants.{Sent, Waiting}
 use Rattle.node_rules.specs.declared.refusal.SendRefusal.TheVariants.{NotJoined, WaitingFull, SeqSpent, CounterSpent}
 use Rattle.node_rules.specs.Ciphers.{network}
 use Rattle.node_rules.specs.Frames.{Sent as Frame, spelled}
-use Rattle.node_rules.specs.Memory.{Line, Command, next_hop}
-use Rattle.node_rules.specs.Doings.{begun, goes, body_goes, own_mesh, waits, seeks, numbered, sealed_by}
+use Rattle.node_rules.specs.Memory.{StationMemory, Command, next_hop}
+use Rattle.node_rules.specs.Drafts.{empty_draft, goes, body_goes, own_mesh, waits, seeks, with_own_number, sealed_by}
 use Rattle.node_rules.specs.Calls.{sending_ends}
 use Rattle.node_rules.specs.Hearing.{dropped}
 use Rattle.plc_station.specs.Bodies.{Held}
-use Rattle.plc_station.specs.Lines.{line_in}
+use Rattle.plc_station.specs.StationReading.{station_in}
 use Rattle.plc_station.specs.Sealing.{only_frames}
 use Rattle.plc_station.specs.State.{State}
 use Rattle.plc_station.proofs.Carrying.{if_some, on_memory, at_some, lines_are}
@@ -24,16 +24,16 @@ use Rattle.plc_station.proofs.Commanding as ways
 use Rattle.plc_station.proofs.station.Station.command_seeks.Goals as goal
 
 pub returns-in_default-clause-carries : goal.returns-in_default-clause-carries
-unfolding waits goes numbered begun
+unfolding waits goes with_own_number empty_draft
 returns-in_default-clause-carries g c =
-    rw (← c.self.view_is) (on_memory c.self.inside.halted _ _ (λ running. stopped sending_ends _ _ (waits c.args.to 0 (Command c.args.octets.now) c.args.now (seeks c.args.grant.now.address c.args.to (begun (line_in c.self.inside.parts c.self.inside.bodies)))) (waits c.args.to 0 (Command c.args.octets.now) c.args.now (seeks c.args.grant.now.address c.args.to (begun (line_in c.self.inside.parts c.self.inside.bodies)))) Waiting _ refl (wrote_one _ _ (advance_write c.self.inside.parts.own_number) _ c.in_default.ensures.store) c.requires.empty refl))
+    rw (← c.self.view_is) (on_memory c.self.inside.halted _ _ (λ running. stopped sending_ends _ _ (waits c.args.to 0 (Command c.args.octets.now) c.args.now (seeks c.args.grant.now.address c.args.to (empty_draft (station_in c.self.inside.parts c.self.inside.bodies)))) (waits c.args.to 0 (Command c.args.octets.now) c.args.now (seeks c.args.grant.now.address c.args.to (empty_draft (station_in c.self.inside.parts c.self.inside.bodies)))) Waiting _ refl (wrote_one _ _ (advance_write c.self.inside.parts.own_number) _ c.in_default.ensures.store) c.requires.empty refl))
 
 pub returns-in_default-reserve-clause-carries : goal.returns-in_default-reserve-clause-carries
-unfolding waits goes numbered begun
+unfolding waits goes with_own_number empty_draft
 returns-in_default-reserve-clause-carries g c =
-    rw (← c.self.view_is) (on_memory c.self.inside.halted _ _ (λ running. uncounted sending_ends _ _ (waits c.args.to 0 (Command c.args.octets.now) c.args.now (seeks c.args.grant.now.address c.args.to (begun (line_in c.self.inside.parts c.self.inside.bodies)))) (waits c.args.to 0 (Command c.args.octets.now) c.args.now (seeks c.args.grant.now.address c.args.to (begun (line_in c.self.inside.parts c.self.inside.bodies)))) Waiting _ _ _ refl (wrote_one _ _ (advance_write c.self.inside.parts.own_number) _ c.in-Ok.ensures.store) refl c.in_default-reserve.ensures.store c.requires.empty refl))
+    rw (← c.self.view_is) (on_memory c.self.inside.halted _ _ (λ running. uncounted sending_ends _ _ (waits c.args.to 0 (Command c.args.octets.now) c.args.now (seeks c.args.grant.now.address c.args.to (empty_draft (station_in c.self.inside.parts c.self.inside.bodies)))) (waits c.args.to 0 (Command c.args.octets.now) c.args.now (seeks c.args.grant.now.address c.args.to (empty_draft (station_in c.self.inside.parts c.self.inside.bodies)))) Waiting _ _ _ refl (wrote_one _ _ (advance_write c.self.inside.parts.own_number) _ c.in-Ok.ensures.store) refl c.in_default-reserve.ensures.store c.requires.empty refl))
 
 pub returns-clause-carries : goal.returns-clause-carries
-unfolding waits goes numbered begun
+unfolding waits goes with_own_number empty_draft
 returns-clause-carries g c =
-    rw (← c.self.view_is) (on_memory c.self.inside.halted _ _ (λ running. ended sending_ends _ _ (waits c.args.to 0 (Command c.args.octets.now) c.args.now (seeks c.args.grant.now.address c.args.to (begun (line_in c.self.inside.parts c.self.inside.bodies)))) (waits c.args.to 0 (Command c.args.octets.now) c.args.now (seeks c.args.grant.now.address c.args.to (begun (line_in c.self.inside.parts c.self.inside.bodies)))) Waiting _ _ _ refl (wrote_one _ _ (advance_write c.self.inside.parts.own_number) _ c.in-Ok.ensures.store) refl c.in-Ok-reserve.ensures.store (c.seal_request.ensures ∙ (λ i. only_frames (map (spelled network) (sealed_by ((sym (at_some c.args.self.now.memory (λ l. l.ring ≡ Some c.args.grant.now) (line_in c.self.inside.parts c.self.inside.bodies) (ap (λ (s : State Line). s.memory) (sym c.self.view_is) ∙ running) c.requires.ring)) i) (c.in-Ok-reserve.ensures.number i) (record { to = 0xFFFF; unit = Local 1 (messages.spelling (Rreq (c.in-Ok.ensures.number i) 0 c.args.grant.now.address c.args.to)); note = 0 } ∷ []))))) (lines_are _ _ _ _ refl c.in-Ok-reserve.ensures.counter refl refl c.in-Ok.ensures.numbering refl (ap (λ (h : Held). h.reassemblies) c.push.ensures) (ap (λ (h : Held). h.waiting) c.push.ensures))))
+    rw (← c.self.view_is) (on_memory c.self.inside.halted _ _ (λ running. ended sending_ends _ _ (waits c.args.to 0 (Command c.args.octets.now) c.args.now (seeks c.args.grant.now.address c.args.to (empty_draft (station_in c.self.inside.parts c.self.inside.bodies)))) (waits c.args.to 0 (Command c.args.octets.now) c.args.now (seeks c.args.grant.now.address c.args.to (empty_draft (station_in c.self.inside.parts c.self.inside.bodies)))) Waiting _ _ _ refl (wrote_one _ _ (advance_write c.self.inside.parts.own_number) _ c.in-Ok.ensures.store) refl c.in-Ok-reserve.ensures.store (c.seal_request.ensures ∙ (λ i. only_frames (map (spelled network) (sealed_by ((sym (at_some c.args.self.now.memory (λ l. l.ring ≡ Some c.args.grant.now) (station_in c.self.inside.parts c.self.inside.bodies) (ap (λ (s : State StationMemory). s.memory) (sym c.self.view_is) ∙ running) c.requires.ring)) i) (c.in-Ok-reserve.ensures.number i) (record { to = 0xFFFF; unit = Local 1 (messages.spelling (Rreq (c.in-Ok.ensures.number i) 0 c.args.grant.now.address c.args.to)); note = 0 } ∷ []))))) (lines_are _ _ _ _ refl c.in-Ok-reserve.ensures.counter refl refl c.in-Ok.ensures.numbering refl (ap (λ (h : Held). h.reassemblies) c.push.ensures) (ap (λ (h : Held). h.waiting) c.push.ensures))))

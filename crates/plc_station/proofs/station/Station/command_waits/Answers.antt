@@ -9,12 +9,12 @@ use Rattle.node_rules.specs.declared.heard.SentHow.TheVariants.{Sent, Waiting}
 use Rattle.node_rules.specs.declared.refusal.SendRefusal.TheVariants.{NotJoined, WaitingFull, SeqSpent, CounterSpent}
 use Rattle.node_rules.specs.Ciphers.{network}
 use Rattle.node_rules.specs.Frames.{Sent as Frame, spelled}
-use Rattle.node_rules.specs.Memory.{Line, Command, next_hop}
-use Rattle.node_rules.specs.Doings.{begun, goes, body_goes, own_mesh, waits, seeks, numbered, sealed_by}
+use Rattle.node_rules.specs.Memory.{StationMemory, Command, next_hop}
+use Rattle.node_rules.specs.Drafts.{empty_draft, goes, body_goes, own_mesh, waits, seeks, with_own_number, sealed_by}
 use Rattle.node_rules.specs.Calls.{sending_ends}
 use Rattle.node_rules.specs.Hearing.{dropped}
 use Rattle.plc_station.specs.Bodies.{Held}
-use Rattle.plc_station.specs.Lines.{line_in}
+use Rattle.plc_station.specs.StationReading.{station_in}
 use Rattle.plc_station.specs.Sealing.{only_frames}
 use Rattle.plc_station.specs.State.{State}
 use Rattle.plc_station.proofs.Carrying.{if_some, on_memory, at_some, lines_are}
@@ -24,6 +24,6 @@ use Rattle.plc_station.proofs.Commanding as ways
 use Rattle.plc_station.proofs.station.Station.command_waits.Goals as goal
 
 pub returns-clause-carries : goal.returns-clause-carries
-unfolding waits begun
+unfolding waits empty_draft
 returns-clause-carries g c =
-    rw (← c.self.view_is) (on_memory c.self.inside.halted _ _ (λ running. ended sending_ends _ _ (waits c.args.to 0 (Command c.args.octets.now) c.args.now (begun (line_in c.self.inside.parts c.self.inside.bodies))) (waits c.args.to 0 (Command c.args.octets.now) c.args.now (begun (line_in c.self.inside.parts c.self.inside.bodies))) Waiting _ _ _ refl (wrote_none _) refl c.in-Ok.ensures.store (c.requires.empty ∙ ap (λ (fs : List Frame). only_frames (map (spelled network) fs)) (sym (sealed_none c.self.inside.parts.ring c.self.inside.parts.counter.next))) (lines_are _ _ _ _ refl c.in-Ok.ensures.counter refl refl refl refl (ap (λ (h : Held). h.reassemblies) c.push.ensures) (ap (λ (h : Held). h.waiting) c.push.ensures))))
+    rw (← c.self.view_is) (on_memory c.self.inside.halted _ _ (λ running. ended sending_ends _ _ (waits c.args.to 0 (Command c.args.octets.now) c.args.now (empty_draft (station_in c.self.inside.parts c.self.inside.bodies))) (waits c.args.to 0 (Command c.args.octets.now) c.args.now (empty_draft (station_in c.self.inside.parts c.self.inside.bodies))) Waiting _ _ _ refl (wrote_none _) refl c.in-Ok.ensures.store (c.requires.empty ∙ ap (λ (fs : List Frame). only_frames (map (spelled network) fs)) (sym (sealed_none c.self.inside.parts.ring c.self.inside.parts.counter.next))) (lines_are _ _ _ _ refl c.in-Ok.ensures.counter refl refl refl refl (ap (λ (h : Held). h.reassemblies) c.push.ensures) (ap (λ (h : Held). h.waiting) c.push.ensures))))

@@ -4,7 +4,7 @@ use Rattle.std.proofs.lemmas.Bool.Decides.{nat_tests}
 use Rattle.mesh_header.specs.Reading.{unit_in}
 use Rattle.node_rules.specs.declared.refusal.Dropped.TheVariants.{BadUnit, Store}
 use Rattle.node_rules.specs.Hearing.{dropped}
-use Rattle.plc_station.specs.Lines.{line_in}
+use Rattle.plc_station.specs.StationReading.{station_in}
 use Rattle.plc_station.proofs.Carrying.{if_some, at_some, on_memory}
 use Rattle.plc_station.proofs.Ending.{refusal, rested, carried_by}
 use Rattle.plc_station.proofs.Listening.{no_unit, unit_unjoined, up_none, up_some, down_none, down_some}
@@ -16,8 +16,8 @@ returns-in_default-clause-carries g c =
 
 pub returns-in_default-grant-clause-carries : goal.returns-in_default-grant-clause-carries
 returns-in_default-grant-clause-carries g c =
-    rw (← c.self.view_is) (on_memory c.self.inside.halted _ _ (λ running. refusal dropped _ (line_in c.self.inside.parts c.self.inside.bodies) BadUnit _ _ running
-    (unit_unjoined (line_in c.self.inside.parts c.self.inside.bodies) c.args.got.now.path (unit_in c.args.got.now.payload) c.in-Some.unit c.in-Sealed.from c.in-Sealed.to_all c.in-Sealed.key c.args.cost c.args.note c.args.now (c.in-Some.ensures.unit ∙ ap unit_in c.octets.ensures.value) c.in-Sealed.is c.in_default-grant.ensures) c.clear.ensures))
+    rw (← c.self.view_is) (on_memory c.self.inside.halted _ _ (λ running. refusal dropped _ (station_in c.self.inside.parts c.self.inside.bodies) BadUnit _ _ running
+    (unit_unjoined (station_in c.self.inside.parts c.self.inside.bodies) c.args.got.now.path (unit_in c.args.got.now.payload) c.in-Some.unit c.in-Sealed.from c.in-Sealed.to_all c.in-Sealed.key c.args.cost c.args.note c.args.now (c.in-Some.ensures.unit ∙ ap unit_in c.octets.ensures.value) c.in-Sealed.is c.in_default-grant.ensures) c.clear.ensures))
 
 pub returns-in_default-joining_body-clause-carries : goal.returns-in_default-joining_body-clause-carries
 returns-in_default-joining_body-clause-carries g c =

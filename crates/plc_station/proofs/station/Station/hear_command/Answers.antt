@@ -4,7 +4,7 @@ use Rattle.std.proofs.lemmas.Bool.Decides.{nat_tests}
 use Rattle.loadng_messages.specs.Reading.{message_in}
 use Rattle.node_rules.specs.declared.refusal.Dropped.TheVariants.{BadUnit, Store}
 use Rattle.node_rules.specs.Hearing.{dropped}
-use Rattle.plc_station.specs.Lines.{line_in}
+use Rattle.plc_station.specs.StationReading.{station_in}
 use Rattle.plc_station.proofs.Carrying.{if_some, at_some, on_memory}
 use Rattle.plc_station.proofs.Ending.{refusal, rested, carried_by}
 use Rattle.plc_station.proofs.Listening.{message_bad, message_is, joining_bad, local_is}

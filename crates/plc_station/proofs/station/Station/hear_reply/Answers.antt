@@ -5,7 +5,7 @@ use Rattle.plc_base.specs.Grant.{Granted}
 use Rattle.node_rules.specs.declared.refusal.Dropped.TheVariants.{NoRoute}
 use Rattle.node_rules.specs.Memory.{next_hop}
 use Rattle.node_rules.specs.Hearing.{dropped}
-use Rattle.plc_station.specs.Lines.{line_in}
+use Rattle.plc_station.specs.StationReading.{station_in}
 use Rattle.plc_station.proofs.Carrying.{on_memory, if_some, at_some}
 use Rattle.plc_station.proofs.Ending.{refusal, carried_by}
 use Rattle.plc_station.proofs.Learning.{reply_here, reply_lost, reply_on}
@@ -19,10 +19,10 @@ returns-then-number-clause-carries g c =
 pub returns-in_default-clause-carries : goal.returns-in_default-clause-carries
 unfolding next_hop
 returns-in_default-clause-carries g c =
-    rw (← c.self.view_is) (on_memory c.self.inside.halted _ _ (λ running. refusal dropped _ (line_in c.self.inside.parts c.self.inside.bodies) NoRoute _ _ running
-    (reply_lost (line_in c.self.inside.parts c.self.inside.bodies) c.args.grant.now.address c.args.by c.args.origin c.args.to (record { number = c.args.number; cost = c.args.cost }) c.args.now (grind (arith, nat_tests, c.if-number.false, c.number.ensures.value, c.number-2.ensures.value, ap (λ (g : Granted). g.address) c.grant.view_is)) c.in_default.ensures) c.requires.empty))
+    rw (← c.self.view_is) (on_memory c.self.inside.halted _ _ (λ running. refusal dropped _ (station_in c.self.inside.parts c.self.inside.bodies) NoRoute _ _ running
+    (reply_lost (station_in c.self.inside.parts c.self.inside.bodies) c.args.grant.now.address c.args.by c.args.origin c.args.to (record { number = c.args.number; cost = c.args.cost }) c.args.now (grind (arith, nat_tests, c.if-number.false, c.number.ensures.value, c.number-2.ensures.value, ap (λ (g : Granted). g.address) c.grant.view_is)) c.in_default.ensures) c.requires.empty))
 
 pub returns-clause-carries : goal.returns-clause-carries
 unfolding next_hop
 returns-clause-carries g c =
-    rw (← c.self.view_is) (on_memory c.self.inside.halted _ _ (λ running. carried_by _ _ _ _ _ _ (reply_on (line_in c.self.inside.parts c.self.inside.bodies) c.args.grant.now.address c.args.by c.args.origin c.args.to c.in-Some.hop (record { number = c.args.number; cost = c.args.cost }) c.args.now (grind (arith, nat_tests, c.if-number.false, c.number.ensures.value, c.number-2.ensures.value, ap (λ (g : Granted). g.address) c.grant.view_is)) c.in-Some.ensures) (at_some _ _ (line_in c.self.inside.parts c.self.inside.bodies) running (rw (← c.self.view_is) at c.hear_reply_for.ensures.carries))))
+    rw (← c.self.view_is) (on_memory c.self.inside.halted _ _ (λ running. carried_by _ _ _ _ _ _ (reply_on (station_in c.self.inside.parts c.self.inside.bodies) c.args.grant.now.address c.args.by c.args.origin c.args.to c.in-Some.hop (record { number = c.args.number; cost = c.args.cost }) c.args.now (grind (arith, nat_tests, c.if-number.false, c.number.ensures.value, c.number-2.ensures.value, ap (λ (g : Granted). g.address) c.grant.view_is)) c.in-Some.ensures) (at_some _ _ (station_in c.self.inside.parts c.self.inside.bodies) running (rw (← c.self.view_is) at c.hear_reply_for.ensures.carries))))

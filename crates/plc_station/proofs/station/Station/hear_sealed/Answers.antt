@@ -3,7 +3,7 @@ use Rattle.std.specs.Prelude.{◌==◌}
 use Rattle.std.proofs.lemmas.Bool.Decides.{nat_tests}
 use Rattle.node_rules.specs.declared.refusal.Dropped.TheVariants.{BadUnit, Store}
 use Rattle.node_rules.specs.Hearing.{dropped}
-use Rattle.plc_station.specs.Lines.{line_in}
+use Rattle.plc_station.specs.StationReading.{station_in}
 use Rattle.plc_station.proofs.Carrying.{if_some, at_some, on_memory}
 use Rattle.plc_station.proofs.Ending.{refusal, rested, carried_by}
 use Rattle.plc_station.proofs.Listening.{whole_all, whole_one, part_all, part_one, carried_all, carried_one}

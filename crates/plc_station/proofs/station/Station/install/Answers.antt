@@ -7,11 +7,11 @@ use Rattle.node_rules.specs.declared.refusal.PresetFault.TheVariants as presets
 use Rattle.node_rules.specs.Ciphers.{network}
 use Rattle.node_rules.specs.Frames.{Sent as Frame, spelled}
 use Rattle.node_rules.specs.Plans.{resting}
-use Rattle.node_rules.specs.Doings.{begun, ringed, ranked}
+use Rattle.node_rules.specs.Drafts.{empty_draft, with_ring, with_rank}
 use Rattle.node_rules.specs.Calls.{ringing_ends, leaving, presetting_ends, near_rank}
 use Rattle.plc_station.specs.Bodies.{Held}
 use Rattle.plc_station.specs.Parts.{AgreesWith}
-use Rattle.plc_station.specs.Lines.{line_in}
+use Rattle.plc_station.specs.StationReading.{station_in}
 use Rattle.plc_station.specs.Sealing.{only_frames}
 use Rattle.plc_station.specs.State.{unless_halted}
 use Rattle.plc_station.proofs.Carrying.{on_memory, at_some, of_some, lines_are}
@@ -21,30 +21,30 @@ use Rattle.plc_station.proofs.Setting.{not_held, held, near_worse, near_full, ne
 use Rattle.plc_station.proofs.station.Station.install.Goals as goal
 
 pub returns-in_default-clause-carries : goal.returns-in_default-clause-carries
-unfolding ringed begun
+unfolding with_ring empty_draft
 returns-in_default-clause-carries g c =
-    rw (← c.self.view_is) (on_memory c.self.inside.halted _ _ (λ running. stopped ringing_ends _ _ (ringed (Some c.args.grant.now) (begun (line_in c.self.inside.parts c.self.inside.bodies))) (ringed (Some c.args.grant.now) (begun (line_in c.self.inside.parts c.self.inside.bodies))) tt _ refl (wrote_one _ _ (ring_write (Some c.args.grant.now)) _ c.in_default.ensures.store) refl refl))
+    rw (← c.self.view_is) (on_memory c.self.inside.halted _ _ (λ running. stopped ringing_ends _ _ (with_ring (Some c.args.grant.now) (empty_draft (station_in c.self.inside.parts c.self.inside.bodies))) (with_ring (Some c.args.grant.now) (empty_draft (station_in c.self.inside.parts c.self.inside.bodies))) tt _ refl (wrote_one _ _ (ring_write (Some c.args.grant.now)) _ c.in_default.ensures.store) refl refl))
 
 pub reserve-requires-clause-kept : goal.reserve-requires-clause-kept
 reserve-requires-clause-kept g c =
-    let before : IfSome (unless_halted c.self.inside.halted (line_in c.self.inside.parts c.self.inside.bodies)) (λ l. AgreesWith l (g.K.Keeper.store c.self.inside.keeper).records) = rw (← c.self.view_is) at c.requires.agrees in
+    let before : IfSome (unless_halted c.self.inside.halted (station_in c.self.inside.parts c.self.inside.bodies)) (λ l. AgreesWith l (g.K.Keeper.store c.self.inside.keeper).records) = rw (← c.self.view_is) at c.requires.agrees in
     let running = rw (← c.self.view_is) at c.requires.running in
-    (agrees_ringed (line_in c.self.inside.parts c.self.inside.bodies) _ _ _ (of_some _ _ _ running before) c.in-Ok.ensures.kept c.in-Ok.ensures.elsewhere).counter
+    (agrees_ringed (station_in c.self.inside.parts c.self.inside.bodies) _ _ _ (of_some _ _ _ running before) c.in-Ok.ensures.kept c.in-Ok.ensures.elsewhere).counter
 
 pub returns-in_default-reserve-clause-carries : goal.returns-in_default-reserve-clause-carries
-unfolding ringed begun
+unfolding with_ring empty_draft
 returns-in_default-reserve-clause-carries g c =
-    rw (← c.self.view_is) (on_memory c.self.inside.halted _ _ (λ running. uncounted ringing_ends _ _ (ringed (Some c.args.grant.now) (begun (line_in c.self.inside.parts c.self.inside.bodies))) (ringed (Some c.args.grant.now) (begun (line_in c.self.inside.parts c.self.inside.bodies))) tt _ _ _ refl (wrote_one _ _ (ring_write (Some c.args.grant.now)) _ c.in-Ok.ensures.store) refl c.in_default-reserve.ensures.store refl refl))
+    rw (← c.self.view_is) (on_memory c.self.inside.halted _ _ (λ running. uncounted ringing_ends _ _ (with_ring (Some c.args.grant.now) (empty_draft (station_in c.self.inside.parts c.self.inside.bodies))) (with_ring (Some c.args.grant.now) (empty_draft (station_in c.self.inside.parts c.self.inside.bodies))) tt _ _ _ refl (wrote_one _ _ (ring_write (Some c.args.grant.now)) _ c.in-Ok.ensures.store) refl c.in_default-reserve.ensures.store refl refl))
 
 pub returns-clause-carries : goal.returns-clause-carries
-unfolding ringed begun
+unfolding with_ring empty_draft
 returns-clause-carries g c =
-    rw (← c.self.view_is) (on_memory c.self.inside.halted _ _ (λ running. ended ringing_ends _ _ (ringed (Some c.args.grant.now) (begun (line_in c.self.inside.parts c.self.inside.bodies))) (ringed (Some c.args.grant.now) (begun (line_in c.self.inside.parts c.self.inside.bodies))) tt _ _ _ refl (wrote_one _ _ (ring_write (Some c.args.grant.now)) _ c.in-Ok.ensures.store) refl c.in-Ok-reserve.ensures.store
+    rw (← c.self.view_is) (on_memory c.self.inside.halted _ _ (λ running. ended ringing_ends _ _ (with_ring (Some c.args.grant.now) (empty_draft (station_in c.self.inside.parts c.self.inside.bodies))) (with_ring (Some c.args.grant.now) (empty_draft (station_in c.self.inside.parts c.self.inside.bodies))) tt _ _ _ refl (wrote_one _ _ (ring_write (Some c.args.grant.now)) _ c.in-Ok.ensures.store) refl c.in-Ok-reserve.ensures.store
     (ap (λ (fs : List Frame). only_frames (map (spelled network) fs)) (sym (sealed_none (Some c.args.grant.now) c.self.inside.parts.counter.next)))
     (lines_are _ _ _ _ c.in-Ok.ensures.ring c.in-Ok-reserve.ensures.counter refl refl refl refl refl refl)))
 
 pub returns-clause-agrees : goal.returns-clause-agrees
 returns-clause-agrees g c =
-    let before : IfSome (unless_halted c.self.inside.halted (line_in c.self.inside.parts c.self.inside.bodies)) (λ l. AgreesWith l (g.K.Keeper.store c.self.inside.keeper).records) = rw (← c.self.view_is) at c.requires.agrees in
+    let before : IfSome (unless_halted c.self.inside.halted (station_in c.self.inside.parts c.self.inside.bodies)) (λ l. AgreesWith l (g.K.Keeper.store c.self.inside.keeper).records) = rw (← c.self.view_is) at c.requires.agrees in
     let running = rw (← c.self.view_is) at c.requires.running in
-    (agrees_counted _ _ _ _ (agrees_ringed (line_in c.self.inside.parts c.self.inside.bodies) _ _ _ (of_some _ _ _ running before) c.in-Ok.ensures.kept c.in-Ok.ensures.elsewhere) c.in-Ok-reserve.ensures.kept c.in-Ok-reserve.ensures.elsewhere)
+    (agrees_counted _ _ _ _ (agrees_ringed (station_in c.self.inside.parts c.self.inside.bodies) _ _ _ (of_some _ _ _ running before) c.in-Ok.ensures.kept c.in-Ok.ensures.elsewhere) c.in-Ok-reserve.ensures.kept c.in-Ok-reserve.ensures.elsewhere)

@@ -8,11 +8,11 @@ use Rattle.node_rules.specs.declared.refusal.PresetFault.TheVariants as presets
 use Rattle.node_rules.specs.Ciphers.{network}
 use Rattle.node_rules.specs.Frames.{Sent as Frame, spelled}
 use Rattle.node_rules.specs.Plans.{resting}
-use Rattle.node_rules.specs.Doings.{begun, ringed, ranked}
+use Rattle.node_rules.specs.Drafts.{empty_draft, with_ring, with_rank}
 use Rattle.node_rules.specs.Calls.{ringing_ends, leaving, presetting_ends, near_rank}
 use Rattle.plc_station.specs.Bodies.{Held}
 use Rattle.plc_station.specs.Parts.{AgreesWith}
-use Rattle.plc_station.specs.Lines.{line_in}
+use Rattle.plc_station.specs.StationReading.{station_in}
 use Rattle.plc_station.specs.Sealing.{only_frames}
 use Rattle.plc_station.specs.State.{unless_halted}
 use Rattle.plc_station.proofs.Carrying.{on_memory, at_some, of_some, lines_are}

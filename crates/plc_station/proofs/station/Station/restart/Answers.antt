@@ -3,15 +3,15 @@ use Rattle.plc_base.specs.Keeper.{Records}
 use Rattle.plc_base.specs.SlotTables.{IsGapless}
 use Rattle.frame_counters.specs.PeerMarks.{peers}
 use Rattle.routing_set.specs.RoutingSet.{ranks}
-use Rattle.node_rules.specs.Memory.{Line}
+use Rattle.node_rules.specs.Memory.{StationMemory}
 use Rattle.plc_station.specs.Bodies.{Held}
-use Rattle.plc_station.specs.Lines.{line_in}
+use Rattle.plc_station.specs.StationReading.{station_in}
 use Rattle.plc_station.specs.Parts.{AgreesWith}
 use Rattle.plc_station.specs.State.{State}
 use Rattle.plc_station.proofs.station.Station.restart.Goals as goal
 
 pub returns-clause-agrees : goal.returns-clause-agrees
 returns-clause-agrees g c = λ m r.
-    let same : c.args.self.now.store.records ≡ (g.K.Keeper.store c.self.inside.keeper).records = sym (ap (λ (s : State Line). s.store.records) c.self.view_is) in
-    subst (λ (h : Held). AgreesWith (line_in c.in_ok-self-inside.field-0 h) (g.K.Keeper.store c.self.inside.keeper).records) (sym c.clear.ensures)
+    let same : c.args.self.now.store.records ≡ (g.K.Keeper.store c.self.inside.keeper).records = sym (ap (λ (s : State StationMemory). s.store.records) c.self.view_is) in
+    subst (λ (h : Held). AgreesWith (station_in c.in_ok-self-inside.field-0 h) (g.K.Keeper.store c.self.inside.keeper).records) (sym c.clear.ensures)
     (c.in_ok-self-inside.ensures.agrees (subst (λ (k : Records). IsGapless peers k) same m) (subst (λ (k : Records). IsGapless ranks k) same r))

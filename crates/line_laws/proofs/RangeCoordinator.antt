@@ -5,14 +5,14 @@ use Rattle.plc_base.specs.declared.key.Key.{Key}
 use Rattle.joining_messages.specs.declared.message.JoinMessage.{JoinMessage}
 use Rattle.joining_messages.specs.Reading.{join_in}
 use Rattle.node_rules.specs.declared.heard.Accepted.{Accepted}
-use Rattle.node_rules.specs.declared.heard.CoordinatorHeard.TheVariants as center_heard
+use Rattle.node_rules.specs.declared.heard.CoordinatorHeard.TheVariants as coordinator_heard
 use Rattle.node_rules.specs.Memory.{Memory, Load, Command}
 use Rattle.node_rules.specs.Coordinators as coordinators
 use Rattle.node_rules.specs.Hearing.{dropped}
 use Rattle.node_rules.specs.Joining.{command_of}
-use Rattle.line_laws.specs.Ranges.{IsLoad, IsLineRanged}
+use Rattle.line_laws.specs.Ranges.{IsLoad, IsStationRanged}
 use Rattle.line_laws.proofs.Made.{Given, RingWord, Carry}
-use Rattle.line_laws.proofs.HoldingForms.{HandedIn}
+use Rattle.line_laws.proofs.MemoryDraftForms.{HandedIn}
 use Rattle.line_laws.proofs.CoordinatorForms.{IsReached, IsSaidDown, IsGranted, coordinator_is}
 use Rattle.line_laws.proofs.NodeCalls.{heard_given}
 use Rattle.line_laws.proofs.Readings.{join_ranges}
@@ -34,11 +34,11 @@ pub record SpeaksWell (own : coordinators.CoordinatorIdentity) (g : Given) (m : 
 pub data SaysOnly (own : coordinators.CoordinatorIdentity) (g : Given) (m : Memory) : RingWord → Type 0 where
   ToMeter : (to : ℕ) (join : JoinMessage) → IsReached g m to → IsSaidDown HasEight own m join → SaysOnly own g m (Carry to 0 (Command (command_of join)))
 
-pub center_carries : (own : coordinators.CoordinatorIdentity) (g : Given) (m : Memory) → SpeaksWell own g m → (to n : ℕ) (load : Load) → SaysOnly own g m (Carry to n load) → (to < 0xFFFE) × IsLoad load
-center_carries own g m speaks to n load (ToMeter t join there said) = (speaks.reached t there, speaks.short join said)
+pub coordinator_carries : (own : coordinators.CoordinatorIdentity) (g : Given) (m : Memory) → SpeaksWell own g m → (to n : ℕ) (load : Load) → SaysOnly own g m (Carry to n load) → (to < 0xFFFE) × IsLoad load
+coordinator_carries own g m speaks to n load (ToMeter t join there said) = (speaks.reached t there, speaks.short join said)
 
-pub center_words : (own : coordinators.CoordinatorIdentity) (g : Given) (m : Memory) (w : RingWord) → SaysOnly own g m w → WordFits w
-center_words own g m w (ToMeter to join there said) = tt
+pub coordinator_words : (own : coordinators.CoordinatorIdentity) (g : Given) (m : Memory) (w : RingWord) → SaysOnly own g m w → WordFits w
+coordinator_words own g m w (ToMeter to join there said) = tt
 
 abbrev AnyKey : Eui → Key → Type 0
 AnyKey eui psk = Unit {0}
@@ -46,9 +46,9 @@ AnyKey eui psk = Unit {0}
 any_eui : (octets : List ℕ) (join : JoinMessage) → join_in octets ≡ Some join → HasEight join.eui
 any_eui octets join e = (join_ranges octets join e).0
 
-pub center_hears_ranged : (own : coordinators.CoordinatorIdentity) (m : Memory) (got : Accepted) (cost note now : ℕ) → InRange (SaysOnly own (heard_given got cost note now) m) (heard_given got cost note now) → IsLineRanged m.line
+pub coordinator_hears_ranged : (own : coordinators.CoordinatorIdentity) (m : Memory) (got : Accepted) (cost note now : ℕ) → InRange (SaysOnly own (heard_given got cost note now) m) (heard_given got cost note now) → IsStationRanged m.station
     → RangeOk (coordinators.hear_coordinator own m got cost note now)
-center_hears_ranged own m got cost note now known h =
-    plan_ranged (SaysOnly own (heard_given got cost note now) m) (λ granted. IsGranted m granted) AnyKey HasEight (heard_given got cost note now) known m h dropped (HandedIn center_heard.Line (heard_given got cost note now) m) _
-    (λ k answer x. handed_ranged center_heard.Line (heard_given got cost note now) m k answer x h) (λ d answer x. x.0) _
+coordinator_hears_ranged own m got cost note now known h =
+    plan_ranged (SaysOnly own (heard_given got cost note now) m) (λ granted. IsGranted m granted) AnyKey HasEight (heard_given got cost note now) known m h dropped (HandedIn coordinator_heard.Station (heard_given got cost note now) m) _
+    (λ k answer x. handed_ranged coordinator_heard.Station (heard_given got cost note now) m k answer x h) (λ d answer x. x.0) _
     (coordinator_is (SaysOnly own (heard_given got cost note now) m) AnyKey HasEight any_eui (heard_given got cost note now) own m (λ to there join said. ToMeter to join there said) got refl)

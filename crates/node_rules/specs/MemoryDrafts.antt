@@ -15,56 +15,56 @@ use Rattle.node_rules.specs.declared.refusal.Dropped.TheVariants as drops
 use Rattle.node_rules.specs.declared.refusal.RandomFault.{RandomFault}
 use Rattle.node_rules.specs.declared.refusal.RandomFault.TheVariants.{RandomsFull}
 use Rattle.node_rules.specs.Frames.{Up, Down}
-use Rattle.node_rules.specs.Memory.{Line, Memory, Command, address_of}
+use Rattle.node_rules.specs.Memory.{StationMemory, Memory, Command, address_of}
 use Rattle.node_rules.specs.Plans.{Plan}
-use Rattle.node_rules.specs.Doings.{Doing, Holder, Ends, begun, refused, sealing, choose, sets_out, lack}
+use Rattle.node_rules.specs.Drafts.{Draft, StationPlace, Ends, empty_draft, refused, sealing, choose, sets_out, lack}
 use Rattle.node_rules.specs.Hearing.{dropped_for}
 use Rattle.node_rules.specs.Joining.{command_of}
 
 -- the memory with another line
-abbrev pub with_line : Line → Memory → Memory
-with_line l m = record m { line = l }
+abbrev pub with_station : StationMemory → Memory → Memory
+with_station l m = record m { station = l }
 
 -- a memory holds what its node is on the line
-abbrev pub in_memory : Holder Memory
-in_memory = record { line = λ m. m.line; with_line = with_line }
+abbrev pub in_memory : StationPlace Memory
+in_memory = record { station = λ m. m.station; with_station = with_station }
 
 -- what is being done on the line, and the same back in the memory
-abbrev pub line_part : Doing Memory → Doing Line
-line_part d = record { puts = d.puts; memory = d.memory.line; units = d.units; plain = d.plain; made = d.made; opened = d.opened }
+abbrev pub station_part : Draft Memory → Draft StationMemory
+station_part d = record { puts = d.puts; memory = d.memory.station; units = d.units; plain = d.plain; made = d.made; opened = d.opened }
 
 -- what was done on the line, in the memory
-abbrev pub memory_part : Doing Memory → Doing Line → Doing Memory
-memory_part d l = record { puts = l.puts; memory = with_line l.memory d.memory; units = l.units; plain = l.plain; made = l.made; opened = l.opened }
+abbrev pub memory_part : Draft Memory → Draft StationMemory → Draft Memory
+memory_part d l = record { puts = l.puts; memory = with_station l.memory d.memory; units = l.units; plain = l.plain; made = l.made; opened = l.opened }
 
 -- a word of the line
-unfoldable pub on_line : (Doing Line → Doing Line) → Doing Memory → Doing Memory
-on_line word d = memory_part d (word (line_part d))
+unfoldable pub on_station : (Draft StationMemory → Draft StationMemory) → Draft Memory → Draft Memory
+on_station word d = memory_part d (word (station_part d))
 
 -- a change of the memory beside the line, of which nothing is stored
-unfoldable pub remembered : (Memory → Memory) → Doing Memory → Doing Memory
-remembered change d = record d { memory = change d.memory }
+unfoldable pub with_memory_by : (Memory → Memory) → Draft Memory → Draft Memory
+with_memory_by change d = record d { memory = change d.memory }
 
 -- pair tags are made, and checked
-unfoldable pub tagged_with : List PairTag → List PairTag → Doing Memory → Doing Memory
-tagged_with made opened d = record d { made = d.made ++ made; opened = d.opened ++ opened }
+unfoldable pub with_pair_tags : List PairTag → List PairTag → Draft Memory → Draft Memory
+with_pair_tags made opened d = record d { made = d.made ++ made; opened = d.opened ++ opened }
 
 -- a plain frame goes up to an agent, or down to the node of its message
-unfoldable pub goes_up : ℕ → Eui → JoinMessage → Doing Memory → Doing Memory
+unfoldable pub goes_up : ℕ → Eui → JoinMessage → Draft Memory → Draft Memory
 goes_up agent own message d = record d { plain = d.plain ++ Up agent own message ∷ [] }
 
 -- a plain frame goes down to the node of its message
-unfoldable pub goes_down : ℕ → JoinMessage → Doing Memory → Doing Memory
+unfoldable pub goes_down : ℕ → JoinMessage → Draft Memory → Draft Memory
 goes_down own message d = record d { plain = d.plain ++ Down own message ∷ [] }
 
 -- a joining message sets out in a command, from the address of the ring that is left
-unfoldable pub is_commanded : ℕ → JoinMessage → ℕ → Doing Memory → Doing Memory
+unfoldable pub is_commanded : ℕ → JoinMessage → ℕ → Draft Memory → Draft Memory
 is_commanded to message now d =
-    option_map_or (λ own. on_line (sets_out own to 0 (Command (command_of message)) now) d) (address_of d.memory.line) d
+    option_map_or (λ own. on_station (sets_out own to 0 (Command (command_of message)) now) d) (address_of d.memory.station) d
 
 -- what such a command lacks
 abbrev pub command_lack : Memory → ℕ → JoinMessage → Option Dropped
-command_lack m to message = option_map dropped_for (lack m.line to (length (command_of message)))
+command_lack m to message = option_map dropped_for (lack m.station to (length (command_of message)))
 
 -- # Random values
 
@@ -84,7 +84,7 @@ given_ends = record { spent = RandomsFull; store = RandomsFull }
 abbrev pub give_random : Memory → Rand → Plan Memory (Result (Unit {0}) RandomFault)
 give_random m value =
     choose (nat_lt 7 (length m.randoms)) (refused given_ends m RandomsFull)
-    (sealing in_memory given_ends (remembered (λ n. record n { randoms = n.randoms ++ value ∷ [] }) (begun m)) tt)
+    (sealing in_memory given_ends (with_memory_by (λ n. record n { randoms = n.randoms ++ value ∷ [] }) (empty_draft m)) tt)
 
 -- # Joining commands that the station hands on
 

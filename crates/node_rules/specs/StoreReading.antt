@@ -14,8 +14,8 @@ use Rattle.group_keys.specs.KeyRing as ring
 use Rattle.group_keys.specs.KeyBook as book
 use Rattle.routing_set.specs.RoutingSet as routing
 use Rattle.routing_set.specs.OwnNumber as own_number
-use Rattle.node_rules.specs.Memory.{Line, Memory, Role, Coordinator, Meter}
-use Rattle.node_rules.specs.Doings.{tag_slot}
+use Rattle.node_rules.specs.Memory.{StationMemory, Memory, Role, Coordinator, Meter}
+use Rattle.node_rules.specs.Drafts.{tag_slot}
 
 -- what goes on with a part that was read, if it has a reading
 abbrev pub reading : {A B : Type 0} → Result A BadStore → (A → Result B BadStore) → Result B BadStore
@@ -32,8 +32,8 @@ tag_in (Some octets) = if length octets == 2 then Ok (big_number 2 octets) else 
 -- # A node on the line
 
 -- what the records give of it
-unfoldable pub line_of : Records → Result Line BadStore
-line_of records =
+unfoldable pub station_of : Records → Result StationMemory BadStore
+station_of records =
     reading (ring.opened records) (λ r.
     reading (counter.opened records) (λ c.
     reading (own_number.opened records) (λ n.
@@ -45,21 +45,21 @@ line_of records =
 -- # A meter and the coordinator
 
 -- the memory behind a restart: no random value is left, and no session
-abbrev pub remembering : Line → book.Book → Memory
-remembering l b = record { line = l; randoms = []; session = None; sessions = []; book = b }
+abbrev pub remembering : StationMemory → book.Book → Memory
+remembering l b = record { station = l; randoms = []; session = None; sessions = []; book = b }
 
 -- what the records give of a node of this role: the coordinator's book belongs to it
 abbrev pub memory_of : Role → Records → Result Memory BadStore
-memory_of (Meter psk) records = reading (line_of records) (λ l. Ok (remembering l []))
-memory_of Coordinator records = reading (line_of records) (λ l. reading (slots.opened book.entries records) (λ b. Ok (remembering l b)))
+memory_of (Meter psk) records = reading (station_of records) (λ l. Ok (remembering l []))
+memory_of Coordinator records = reading (station_of records) (λ l. reading (slots.opened book.entries records) (λ b. Ok (remembering l b)))
 
 -- no rank, and every floor 0
 abbrev pub blank_routing : routing.Routing
 blank_routing = record { entries = []; floors = map (λ _. 0) (range_with_len 0 16) }
 
 -- what a node holds on the line whose store has no record
-abbrev pub blank_line : Line
-blank_line = record {
+abbrev pub blank_station : StationMemory
+blank_station = record {
   ring = None;
   counter = counter.counting_at 0;
   marks = [];

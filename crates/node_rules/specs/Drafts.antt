@@ -23,7 +23,7 @@ use Rattle.loadng_messages.specs.declared.message.Message.{Message}
 use Rattle.loadng_messages.specs.declared.message.Message.TheVariants.{Rreq}
 use Rattle.loadng_messages.specs.Grammar as messages
 use Rattle.node_rules.specs.Frames.{Sent, Sealed, to_all}
-use Rattle.node_rules.specs.Memory.{Line, Body, Load, Datagram, Command, load_octets, next_hop}
+use Rattle.node_rules.specs.Memory.{StationMemory, Body, Load, Datagram, Command, load_octets, next_hop}
 use Rattle.node_rules.specs.Plans.{Plan, resting}
 
 -- A unit on its way out, which is not sealed yet.
@@ -33,7 +33,7 @@ pub record Outgoing : Type 0 where
   pub note : ℕ
 
 -- What is being done, up to the sealing of its units, which comes last.
-pub record Doing (M : Type 0) : Type 0 where
+pub record Draft (M : Type 0) : Type 0 where
   -- the store writes so far, in order
   pub puts : List Write
   -- the memory that is left
@@ -45,27 +45,27 @@ pub record Doing (M : Type 0) : Type 0 where
   pub opened : List PairTag
 
 -- nothing is done yet
-unfoldable pub begun : {M : Type 0} → M → Doing M
-begun m = record { puts = []; memory = m; units = []; plain = []; made = []; opened = [] }
+unfoldable pub empty_draft : {M : Type 0} → M → Draft M
+empty_draft m = record { puts = []; memory = m; units = []; plain = []; made = []; opened = [] }
 
 -- # Words of what is stored and kept
 
 -- the rank of an address is offered by a next hop: floors and rank are stored, and the route is valid
-unfoldable pub ranked : ℕ → Rank → ℕ → ℕ → Doing Line → Doing Line
-ranked dest rank by now d = record d {
+unfoldable pub with_rank : ℕ → Rank → ℕ → ℕ → Draft StationMemory → Draft StationMemory
+with_rank dest rank by now d = record d {
   puts = d.puts ++ routing.offer_writes d.memory.routing dest rank by now;
   memory = record d.memory { routing = routing.offered d.memory.routing dest rank by now };
 }
 
 -- an own number is taken
-unfoldable pub numbered : Doing Line → Doing Line
-numbered d = record d {
+unfoldable pub with_own_number : Draft StationMemory → Draft StationMemory
+with_own_number d = record d {
   puts = d.puts ++ puts_of (own_number.advance_write d.memory.own_number);
   memory = record d.memory { own_number = own_number.advanced d.memory.own_number };
 }
 
 -- the number that is taken
-abbrev pub number_of : Doing Line → ℕ
+abbrev pub number_of : Draft StationMemory → ℕ
 number_of d = d.memory.own_number.last + 1
 
 -- the slot of the next datagram tag
@@ -77,28 +77,28 @@ abbrev pub tag_after : ℕ → ℕ
 tag_after tag = (tag + 1) % 65536
 
 -- the tag of a datagram is taken: the next one is stored
-unfoldable pub tagged : Doing Line → Doing Line
-tagged d = record d {
+unfoldable pub with_next_tag : Draft StationMemory → Draft StationMemory
+with_next_tag d = record d {
   puts = d.puts ++ record { slot = tag_slot; octets = big_bytes 2 (tag_after d.memory.next_tag) } ∷ [];
   memory = record d.memory { next_tag = tag_after d.memory.next_tag };
 }
 
 -- the ring is another one
-unfoldable pub ringed : ring.Ring → Doing Line → Doing Line
-ringed r d = record d { puts = d.puts ++ puts_of (ring.ring_write r); memory = record d.memory { ring = r } }
+unfoldable pub with_ring : ring.Ring → Draft StationMemory → Draft StationMemory
+with_ring r d = record d { puts = d.puts ++ puts_of (ring.ring_write r); memory = record d.memory { ring = r } }
 
 -- the routes are other ones, of which nothing is stored
-unfoldable pub rerouted : (routing.Routing → routing.Routing) → Doing Line → Doing Line
-rerouted change d = record d { memory = record d.memory { routing = change d.memory.routing } }
+unfoldable pub with_routing_by : (routing.Routing → routing.Routing) → Draft StationMemory → Draft StationMemory
+with_routing_by change d = record d { memory = record d.memory { routing = change d.memory.routing } }
 
 -- # Words of what goes out
 
 -- a unit goes to one node or to all
-unfoldable pub goes : ℕ → Unit → ℕ → Doing Line → Doing Line
+unfoldable pub goes : ℕ → Unit → ℕ → Draft StationMemory → Draft StationMemory
 goes to unit note d = record d { units = d.units ++ record { to = to; unit = unit; note = note } ∷ [] }
 
 -- a route message goes to one node or to all
-abbrev pub tells : ℕ → Message → Doing Line → Doing Line
+abbrev pub tells : ℕ → Message → Draft StationMemory → Draft StationMemory
 tells to message d = goes to (Local 1 (messages.spelling message)) 0 d
 
 -- the mesh header of what a node sends itself: 14 hops are left to it
@@ -117,7 +117,7 @@ abbrev pub all_go : ℕ → ℕ → List Unit → List Outgoing
 all_go hop note units = map (λ unit. record { to = hop; unit = unit; note = note }) units
 
 -- a body goes to a next hop
-unfoldable pub body_goes : ℕ → ℕ → ℕ → ℕ → Load → Doing Line → Doing Line
+unfoldable pub body_goes : ℕ → ℕ → ℕ → ℕ → Load → Draft StationMemory → Draft StationMemory
 body_goes own hop to note load d = record d { units = d.units ++ all_go hop note (units_of own to load) }
 
 -- # Bodies that wait
@@ -127,32 +127,32 @@ abbrev pub waits_for : ℕ → Body → Bool
 waits_for dest b = b.to == dest
 
 -- whether something waits for an address
-abbrev pub is_awaited : Line → ℕ → Bool
+abbrev pub is_awaited : StationMemory → ℕ → Bool
 is_awaited l dest = list_any (waits_for dest) l.waiting
 
 -- a body waits from now on
-unfoldable pub waits : ℕ → ℕ → Load → ℕ → Doing Line → Doing Line
+unfoldable pub waits : ℕ → ℕ → Load → ℕ → Draft StationMemory → Draft StationMemory
 waits to note load now d =
     record d { memory = record d.memory { waiting = d.memory.waiting ++ record { to = to; note = note; since = now; load = load } ∷ [] } }
 
 -- an own number is taken, and a request for the route to an address goes to all
-abbrev pub seeks : ℕ → ℕ → Doing Line → Doing Line
-seeks own dest d = tells to_all (Rreq (number_of d) 0 own dest) (numbered d)
+abbrev pub seeks : ℕ → ℕ → Draft StationMemory → Draft StationMemory
+seeks own dest d = tells to_all (Rreq (number_of d) 0 own dest) (with_own_number d)
 
 -- the route is sought unless something waits for it already
-unfoldable pub seeks_once : ℕ → ℕ → Doing Line → Doing Line
+unfoldable pub seeks_once : ℕ → ℕ → Draft StationMemory → Draft StationMemory
 seeks_once own dest d = if is_awaited d.memory dest then d else seeks own dest d
 
 -- a body goes on its way to an address: by the valid route, or it waits for one
-abbrev pub sets_out : ℕ → ℕ → ℕ → Load → ℕ → Doing Line → Doing Line
+abbrev pub sets_out : ℕ → ℕ → ℕ → Load → ℕ → Draft StationMemory → Draft StationMemory
 sets_out own to note load now d = set_out_by (next_hop d.memory to)
   where
-    set_out_by : Option ℕ → Doing Line
+    set_out_by : Option ℕ → Draft StationMemory
     set_out_by None = waits to note load now (seeks_once own to d)
     set_out_by (Some hop) = body_goes own hop to note load d
 
 -- the bodies that wait for an address leave by this hop, in the order of their arrival
-unfoldable pub leave : ℕ → ℕ → ℕ → Doing Line → Doing Line
+unfoldable pub leave : ℕ → ℕ → ℕ → Draft StationMemory → Draft StationMemory
 leave own dest hop d = record d {
   units = d.units ++ flat_map (λ b. all_go hop b.note (units_of own b.to b.load)) (filter (waits_for dest) d.memory.waiting);
   memory = record d.memory { waiting = filter (λ b. not (waits_for dest b)) d.memory.waiting };
@@ -166,19 +166,19 @@ pub data Lack : Type 0 where
   OfNumbers : Lack
 
 -- how many blocks the waiting bodies fill
-abbrev pub blocks_waiting : Line → ℕ
+abbrev pub blocks_waiting : StationMemory → ℕ
 blocks_waiting l = sum_by (λ (b : Body). blocks (length (load_octets b.load))) l.waiting
 
 -- whether a body of so many octets more can't wait: 8 bodies wait, or their blocks pass 80
-abbrev pub no_room : Line → ℕ → Bool
+abbrev pub no_room : StationMemory → ℕ → Bool
 no_room l octets = if nat_lt (length l.waiting) 8 then nat_lt 80 (blocks_waiting l + blocks octets) else true
 
 -- whether no own number is left
-abbrev pub numbers_spent : Line → Bool
+abbrev pub numbers_spent : StationMemory → Bool
 numbers_spent l = own_number.is_spent l.own_number
 
 -- what a body of so many octets for an address lacks, if it lacks something: with a route nothing
-unfoldable pub lack : Line → ℕ → ℕ → Option Lack
+unfoldable pub lack : StationMemory → ℕ → ℕ → Option Lack
 lack l to octets =
     if is_some (next_hop l to) then None
     else (Some OfRoom when no_room l octets
@@ -187,7 +187,7 @@ lack l to octets =
 -- # Sealing
 
 -- how many counters are left
-abbrev pub counters_left : Line → ℕ
+abbrev pub counters_left : StationMemory → ℕ
 counters_left l = 4294967295 - l.counter.next
 
 -- the key that seals
@@ -207,17 +207,17 @@ sealed_by None first units = []
 sealed_by (Some g) first units = option_map_or (λ key. letters g key first units) (sealing_key g) []
 
 -- where a memory holds what a node is on the line
-pub record Holder (M : Type 0) : Type 0 where
-  pub line : M → Line
-  pub with_line : Line → M → M
+pub record StationPlace (M : Type 0) : Type 0 where
+  pub station : M → StationMemory
+  pub with_station : StationMemory → M → M
 
 -- the line alone
-abbrev pub alone : Holder Line
-alone = record { line = λ l. l; with_line = λ l m. l }
+abbrev pub alone : StationPlace StationMemory
+alone = record { station = λ l. l; with_station = λ l m. l }
 
 -- the counters of so many frames are taken
-abbrev pub counted : {M : Type 0} → Holder M → ℕ → M → M
-counted h count m = h.with_line (record (h.line m) { counter = counter.reserved (h.line m).counter count }) m
+abbrev pub counted : {M : Type 0} → StationPlace M → ℕ → M → M
+counted h count m = h.with_station (record (h.station m) { counter = counter.reserved (h.station m).counter count }) m
 
 -- What refusals of a kind of answer say that the counters are spent, and that a store write failed.
 pub record Ends (E : Type 0) : Type 0 where
@@ -229,20 +229,20 @@ abbrev pub refused : {M H E : Type 0} → Ends E → M → E → Plan M (Result 
 refused ends m reason = resting m (Err reason) (Err ends.store)
 
 -- the doing is carried to its end: the counter of its letters is the last to be stored, and the ring that is left seals them
-abbrev pub sealing : {M H E : Type 0} → Holder M → Ends E → Doing M → H → Plan M (Result H E)
+abbrev pub sealing : {M H E : Type 0} → StationPlace M → Ends E → Draft M → H → Plan M (Result H E)
 sealing h ends d answer = record {
   answer = Ok answer;
   failed = Err ends.store;
-  puts = d.puts ++ puts_of (counter.reserve_write (h.line d.memory).counter (length d.units));
+  puts = d.puts ++ puts_of (counter.reserve_write (h.station d.memory).counter (length d.units));
   memory = counted h (length d.units) d.memory;
-  frames = d.plain ++ sealed_by (h.line d.memory).ring (h.line d.memory).counter.next d.units;
+  frames = d.plain ++ sealed_by (h.station d.memory).ring (h.station d.memory).counter.next d.units;
   made = d.made;
   opened = d.opened;
 }
 
 -- refused where fewer counters are left than units are to be sealed
-unfoldable pub sealed : {M H E : Type 0} → Holder M → Ends E → M → Doing M → H → Plan M (Result H E)
-sealed h ends m d answer = if nat_lt (counters_left (h.line m)) (length d.units) then refused ends m ends.spent else sealing h ends d answer
+unfoldable pub sealed : {M H E : Type 0} → StationPlace M → Ends E → M → Draft M → H → Plan M (Result H E)
+sealed h ends m d answer = if nat_lt (counters_left (h.station m)) (length d.units) then refused ends m ends.spent else sealing h ends d answer
 
 -- the first fault refuses
 unfoldable pub checked : {M H E : Type 0} → Ends E → M → Option E → Plan M (Result H E) → Plan M (Result H E)

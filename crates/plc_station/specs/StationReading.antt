@@ -3,7 +3,7 @@ use Rattle.std.specs.Prelude.{◌≡◌, [], Option, Some, None, Result, Ok, Err
 use Rattle.std.specs.FinMap.{get}
 use Rattle.plc_base.specs.Keeper.{Records}
 use Rattle.plc_base.specs.declared.keeper.BadStore.{BadStore}
-use Rattle.node_rules.specs.Memory.{Line}
+use Rattle.node_rules.specs.Memory.{StationMemory}
 use Rattle.plc_station.specs.Bodies.{Held}
 use Rattle.plc_station.specs.declared.parts.Parts.{Parts}
 
@@ -12,8 +12,8 @@ abbrev pub no_bodies : Held
 no_bodies = record { reassemblies = []; waiting = [] }
 
 -- the line of these parts and these bodies
-abbrev pub line_in : Parts → Held → Line
-line_in p h = record {
+abbrev pub station_in : Parts → Held → StationMemory
+station_in p h = record {
   ring = p.ring;
   counter = p.counter;
   marks = p.marks;
@@ -25,11 +25,11 @@ line_in p h = record {
 }
 
 -- the memory that a reading gives, none where there is no reading
-abbrev pub if_read : Result Line BadStore → Option Line
+abbrev pub if_read : Result StationMemory BadStore → Option StationMemory
 if_read (Ok l) = Some l
 if_read (Err bad) = None
 
 -- the answer that a reading gives
-abbrev pub read_answer : Result Line BadStore → Result (Unit {0}) BadStore
+abbrev pub read_answer : Result StationMemory BadStore → Result (Unit {0}) BadStore
 read_answer (Ok l) = Ok tt
 read_answer (Err bad) = Err bad

@@ -1,12 +1,12 @@
 -- Why a station is not opened.
 use Rattle.std.specs.Prelude.{◌≡◌, Result, Err, ⊤}
 use Rattle.plc_base.specs.declared.keeper.BadStore as keeper
-use Rattle.node_rules.specs.Memory.{Line}
+use Rattle.node_rules.specs.Memory.{StationMemory}
 use Rattle.plc_station.specs.declared.station.OpenFault.{OpenFault}
 use Rattle.plc_station.specs.declared.station.OpenFault.TheVariants.{Memory, BadStore, Store}
 
 -- the fault says why: a record has no reading, or there was no memory
-abbrev pub IsOpenFault : Result Line keeper.BadStore → OpenFault → Type 0
+abbrev pub IsOpenFault : Result StationMemory keeper.BadStore → OpenFault → Type 0
 IsOpenFault read Memory = ⊤
 IsOpenFault read (BadStore bad) = read ≡ Err bad
 IsOpenFault read Store = ⊥

@@ -16,14 +16,14 @@ use Rattle.node_rules.specs.declared.heard.CoordinatorHeard.TheVariants as coord
 use Rattle.node_rules.specs.declared.refusal.FrameRefusal.TheVariants as frames
 use Rattle.node_rules.specs.Ciphers.{Ciphers}
 use Rattle.node_rules.specs.Frames.{arrived}
-use Rattle.node_rules.specs.Memory.{Line, Memory, Role, Coordinator}
+use Rattle.node_rules.specs.Memory.{StationMemory, Memory, Role, Coordinator}
 use Rattle.node_rules.specs.Plans.{Plan, resting}
 use Rattle.node_rules.specs.Accepting.{Accepting, accept, marking}
-use Rattle.node_rules.specs.Doings.{Ends}
+use Rattle.node_rules.specs.Drafts.{Ends}
 use Rattle.node_rules.specs.Hearing.{dropped}
-use Rattle.node_rules.specs.Holding.{in_memory}
+use Rattle.node_rules.specs.MemoryDrafts.{in_memory}
 use Rattle.node_rules.specs.Coordinators as coordinators
-use Rattle.node_rules.specs.NodeSteps.{of_line}
+use Rattle.node_rules.specs.NodeSteps.{of_station}
 use Rattle.line_laws.specs.Stores.{IsHeld, IsKept}
 use Rattle.line_laws.specs.Sizes.{IsSized}
 use Rattle.line_laws.specs.Owed.{AreOctets, KeepsRanges}
@@ -33,11 +33,11 @@ use Rattle.line_laws.proofs.Readings.{join_ranges}
 use Rattle.line_laws.proofs.Keeping.{leads_beside}
 use Rattle.line_laws.proofs.StoreRanks.{EntryFits}
 use Rattle.line_laws.proofs.StoreFold.{WordFits}
-use Rattle.line_laws.proofs.StoreBook.{Rest, rest_lasts, line_leads}
+use Rattle.line_laws.proofs.StoreBook.{Rest, rest_lasts, station_leads}
 use Rattle.line_laws.proofs.StoreMarks.{IsAdmitted, IsPlain, Accepts, Turned, Plain, Marked, accept_is, marks_lead}
 use Rattle.line_laws.proofs.Planned.{Planned, planned_weaker}
 use Rattle.line_laws.proofs.Made.{RingWord, Given, Offered}
-use Rattle.line_laws.proofs.HoldingForms.{AnyAnswer, HandedIn, MadeBy}
+use Rattle.line_laws.proofs.MemoryDraftForms.{AnyAnswer, HandedIn, MadeBy}
 use Rattle.line_laws.proofs.CoordinatorForms.{HandsNothingUp, IsGranted, coordinator_is, allow_is, depot_is, rekey_is, activate_self_is, challenge_is, activate_is, kick_is}
 use Rattle.line_laws.proofs.CallForms.{Nothing}
 use Rattle.line_laws.proofs.Nodes.{PlanOk, plan_ok}
@@ -64,18 +64,18 @@ module _ (ciphers : Ciphers) (fits : KeepsRanges ciphers) (own : coordinators.Co
   L : Granted → Type 0
   L granted = IsGranted m granted
 
-  center_ok : {H F : Type 0} (g : Given) → ((address : Option ℕ) (by origin : ℕ) (rank : Rank) → Offered g address by origin rank → EntryFits (routing.offered_entry origin rank by g.now))
-      → (ends : Ends F) (K : Memory → H → Type 0) (N : H → Type 0) → ((n : Memory) (answer : H) → K n answer → (r : Records) → IsKept Coordinator m r → IsKept Coordinator n r) → ((n : Memory) (answer : H) → K n answer → IsSized m → IsSized n) → ((n : Memory) (answer : H) → K n answer → n.line.counter ≡ m.line.counter)
+  coordinator_ok : {H F : Type 0} (g : Given) → ((address : Option ℕ) (by origin : ℕ) (rank : Rank) → Offered g address by origin rank → EntryFits (routing.offered_entry origin rank by g.now))
+      → (ends : Ends F) (K : Memory → H → Type 0) (N : H → Type 0) → ((n : Memory) (answer : H) → K n answer → (r : Records) → IsKept Coordinator m r → IsKept Coordinator n r) → ((n : Memory) (answer : H) → K n answer → IsSized m → IsSized n) → ((n : Memory) (answer : H) → K n answer → n.station.counter ≡ m.station.counter)
       → (p : Plan Memory (Result H F)) → Planned in_memory ends m K (MadeBy Ordered (IsGranted m) HasPair HasEui g m N) p → PlanOk Coordinator m p
-  center_ok g offers ends K N kept sized same p s = plan_ok Coordinator Ordered (IsGranted m) HasPair HasEui g m (λ w k. k) offers (λ eui k. k) (λ eui psk k. k) (λ b e change. refl) (granted_keys Coordinator m) ends K kept sized same p
+  coordinator_ok g offers ends K N kept sized same p s = plan_ok Coordinator Ordered (IsGranted m) HasPair HasEui g m (λ w k. k) offers (λ eui k. k) (λ eui psk k. k) (λ b e change. refl) (granted_keys Coordinator m) ends K kept sized same p
       (planned_weaker p (λ n answer k. k) (few_of N m Ordered (IsGranted m) HasPair HasEui g) s) h
 
   order_ok : {H F : Type 0} (now : ℕ) (ends : Ends F) (p : Plan Memory (Result H F)) → Planned in_memory ends m Nothing (MadeBy Ordered (IsGranted m) HasPair HasEui (call_given 0 0 now) m AnyAnswer) p → PlanOk Coordinator m p
-  order_ok now ends p s = center_ok (call_given 0 0 now) (call_offers 0 0 now) ends Nothing AnyAnswer (λ n answer k. absurd k) (λ n answer k. absurd k) (λ n answer k. absurd k) p s
+  order_ok now ends p s = coordinator_ok (call_given 0 0 now) (call_offers 0 0 now) ends Nothing AnyAnswer (λ n answer k. absurd k) (λ n answer k. absurd k) (λ n answer k. absurd k) p s
 
   pub coordinator_hears_ok : (got : Accepted) (cost note now : ℕ) → RoutesFit got → PlanOk Coordinator m (coordinators.hear_coordinator own m got cost note now)
-  coordinator_hears_ok got cost note now routes = center_ok (heard_given got cost note now) (heard_offers got cost note now routes) dropped (HandedIn coordinator_heard.Line (heard_given got cost note now) m) HandsNothingUp
-      (handed_kept Coordinator m h coordinator_heard.Line (heard_given got cost note now)) (handed_within Coordinator m h coordinator_heard.Line (heard_given got cost note now)) (handed_counter m coordinator_heard.Line (heard_given got cost note now)) _
+  coordinator_hears_ok got cost note now routes = coordinator_ok (heard_given got cost note now) (heard_offers got cost note now routes) dropped (HandedIn coordinator_heard.Station (heard_given got cost note now) m) HandsNothingUp
+      (handed_kept Coordinator m h coordinator_heard.Station (heard_given got cost note now)) (handed_within Coordinator m h coordinator_heard.Station (heard_given got cost note now)) (handed_counter m coordinator_heard.Station (heard_given got cost note now)) _
       (coordinator_is Ordered HasPair HasEui heard_eui (heard_given got cost note now) own m (λ to there join said. tt) got refl)
 
   pub allow_ok : (eui : Eui) (psk : Key) → HasEui eui → HasPair eui psk → PlanOk Coordinator m (coordinators.allow m eui psk)
@@ -105,11 +105,11 @@ depot_failed ciphers fits own m eui psk known pair = planned_failed _ (depot_is 
 -- # Accepting a frame
 
 module _ (ciphers : Ciphers) (fits : KeepsRanges ciphers) (octets : List ℕ) (are : AreOctets octets) where
-  pub admitted_fits : (l : Line) (from counter : ℕ) (got : Accepted) → IsAdmitted l (arrived ciphers octets) from counter got → (from < 0xFFFE) × (counter < 2 ^ 32)
+  pub admitted_fits : (l : StationMemory) (from counter : ℕ) (got : Accepted) → IsAdmitted l (arrived ciphers octets) from counter got → (from < 0xFFFE) × (counter < 2 ^ 32)
   admitted_fits l from counter got a = head_ranges ciphers octets a.frame a.head.0 a.head.1 a.head.2 a.to from counter a.index are a.is a.head.3
 
   -- the path of what is accepted sealed, and its payload
-  admitted_routes : (l : Line) (from counter : ℕ) (got : Accepted) → IsAdmitted l (arrived ciphers octets) from counter got → RoutesFit got
+  admitted_routes : (l : StationMemory) (from counter : ℕ) (got : Accepted) → IsAdmitted l (arrived ciphers octets) from counter got → RoutesFit got
   admitted_routes l from counter got a = record {
     run = λ by all key code body message path unit read.
         route_ranges a.payload code body message (fits.opened octets a.frame a.key a.payload are a.is a.opened) (ap (λ (x : Accepted). unit_in x.payload) (sym a.got_is) ∙ unit) read;
@@ -118,32 +118,32 @@ module _ (ciphers : Ciphers) (fits : KeepsRanges ciphers) (octets : List ℕ) (a
   plain_routes : (got : Accepted) → IsPlain got.path → RoutesFit got
   plain_routes got plain = record { run = λ from all key code body message path unit read. absurd (subst IsPlain path plain) }
 
-  accepting_ok : (role : Role) (m : Memory) (p : Accepting) → Accepts m.line (arrived ciphers octets) p → IsSized m → PlanOk role m (of_line m p)
+  accepting_ok : (role : Role) (m : Memory) (p : Accepting) → Accepts m.station (arrived ciphers octets) p → IsSized m → PlanOk role m (of_station m p)
   unfolding resting marking
-  accepting_ok role m p (Turned reason) h = record { leads = leads_beside (IsKept role) m m (λ r k. k); sized = h; few = omega arith; rises = λ fits. record { high = tt; numbered = omega arith } }
-  accepting_ok role m p (Plain got plain) h = record { leads = leads_beside (IsKept role) m m (λ r k. k); sized = h; few = omega arith; rises = λ fits. record { high = tt; numbered = omega arith } }
+  accepting_ok role m p (Turned reason) h = record { leads = leads_beside (IsKept role) m m (λ r k. k); sized = h; few = omega arith; rises = λ fits. record { high = tt; with_own_number = omega arith } }
+  accepting_ok role m p (Plain got plain) h = record { leads = leads_beside (IsKept role) m m (λ r k. k); sized = h; few = omega arith; rises = λ fits. record { high = tt; with_own_number = omega arith } }
   accepting_ok role m p (Marked from counter got a) h =
-      let in_range = admitted_fits m.line from counter got a in
+      let in_range = admitted_fits m.station from counter got a in
       record {
-        leads = line_leads role m m.line (record m.line { marks = marks.kept_after m.line.marks from counter }) _
-            (marks_lead (Rest role m) (rest_lasts role m) m.line from counter in_range.0 in_range.1 a.room);
-        sized = record { line = record { reassemblies = h.line.reassemblies; waiting = h.line.waiting; short = h.line.short }; sessions = h.sessions; randoms = h.randoms };
+        leads = station_leads role m m.station (record m.station { marks = marks.kept_after m.station.marks from counter }) _
+            (marks_lead (Rest role m) (rest_lasts role m) m.station from counter in_range.0 in_range.1 a.room);
+        sized = record { station = record { reassemblies = h.station.reassemblies; waiting = h.station.waiting; short = h.station.short }; sessions = h.sessions; randoms = h.randoms };
         few = omega arith;
-        rises = λ fits. record { high = marks_high m.line.counter.limit m.line.marks from counter; numbered = omega arith };
+        rises = λ fits. record { high = marks_high m.station.counter.limit m.station.marks from counter; with_own_number = omega arith };
       }
 
-  pub accept_ok : (role : Role) (m : Memory) (own : Eui) → IsSized m → PlanOk role m (of_line m (accept m.line own (arrived ciphers octets)))
-  accept_ok role m own h = accepting_ok role m _ (accept_is m.line own (arrived ciphers octets)) h
+  pub accept_ok : (role : Role) (m : Memory) (own : Eui) → IsSized m → PlanOk role m (of_station m (accept m.station own (arrived ciphers octets)))
+  accept_ok role m own h = accepting_ok role m _ (accept_is m.station own (arrived ciphers octets)) h
 
   -- route messages of what is accepted are in range
-  pub accepted_routes : (l : Line) (p : Accepting) (got : Accepted) → Accepts l (arrived ciphers octets) p → p.answer ≡ Ok got → RoutesFit got
+  pub accepted_routes : (l : StationMemory) (p : Accepting) (got : Accepted) → Accepts l (arrived ciphers octets) p → p.answer ≡ Ok got → RoutesFit got
   unfolding resting marking
   accepted_routes l p got (Turned reason) e = absurd (cc)
   accepted_routes l p got (Plain x plain) e = let same : x ≡ got = cc in subst RoutesFit same (plain_routes x plain)
   accepted_routes l p got (Marked from counter x a) e = let same : x ≡ got = cc in subst RoutesFit same (admitted_routes l from counter x a)
 
   -- the word of a failed write
-  pub accept_failed : (l : Line) (p : Accepting) → Accepts l (arrived ciphers octets) p → p.failed ≡ Err frames.Store
+  pub accept_failed : (l : StationMemory) (p : Accepting) → Accepts l (arrived ciphers octets) p → p.failed ≡ Err frames.Store
   unfolding resting marking
   accept_failed l p (Turned reason) = refl
   accept_failed l p (Plain x plain) = refl
