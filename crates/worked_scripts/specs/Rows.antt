@@ -148,6 +148,31 @@ AForgedFrameIsNamed =
     × (forged_at_last (run plain start forging) ≡ true)
     × (counts_of forging ≡ record { events = 7; flights = 0; sends = 0; ups = 1; forged = 1 })
 
+-- # Route errors whose lost address is their target
+
+-- a route error of the coordinator's address to meter 1, sealed by nobody, whose lost address is its target
+abbrev pub error_for : ℕ → List ℕ
+error_for lost =
+    (spelled plain (Sealed (record { to = 1; from = 0; counter = 9; index = 0; key = group_key; unit = Local 1 (messages.spelling (Rerr lost lost)); note = 0 }))).octets
+
+-- the route to meter 2 goes by meter 2, so the error of another neighbour leaves it
+abbrev pub error_by_another : List Event
+error_by_another = two_meters ++ (Near 1 2 1 ∷ Inject 1 1 (error_for 2) ∷ [])
+
+-- the route to the coordinator goes by the sender of the error, so it ends
+abbrev pub error_by_its_hop : List Event
+error_by_its_hop = two_meters ++ (Near 0 1 1 ∷ Inject 1 1 (error_for 0) ∷ [])
+
+-- where the route goes by another hop, it stays and the error goes on by it, which takes a counter; where it goes by the sender, none is
+-- left, and no frame goes out
+abbrev pub AnErrorForItsTargetGoesOn : Type 0
+AnErrorForItsTargetGoesOn =
+    (answers_after 6 error_by_another ≡ said.Broken ∷ [])
+    × (counts_of error_by_another ≡ record { events = 7; flights = 1; sends = 0; ups = 0; forged = 1 })
+    × (answers_after 6 (two_meters ++ (Near 1 2 1 ∷ Counter 1 4294967295 ∷ Inject 1 1 (error_for 2) ∷ [])) ≡ said.Set ∷ said.CounterSpent ∷ [])
+    × (answers_after 6 error_by_its_hop ≡ said.Broken ∷ [])
+    × (counts_of error_by_its_hop ≡ record { events = 7; flights = 0; sends = 0; ups = 0; forged = 1 })
+
 -- # Malicious frames
 
 -- a plain frame: up to an address from a node, and down to a node from an address

@@ -1,5 +1,5 @@
 //! Runs of small scripts, computed: each carried by a function that does nothing.
-ghost use Rattle.worked_scripts.specs.Rows.{ARepeatIsRefused, DatagramsOfEverySize, DiscoveryOverTwoRelays, ABrokenRouteStaysBroken, ALostFlightComesNoMore, CostsAreSpent, NothingIsSentWhenSpent, AForgedFrameIsNamed, MaliciousFramesAreRefused, RotationAndKick, AMeterJoinsOverTheAir, AnOldThirdPacketIsRefused, AMeterJoinsThroughAnAgent, AKickedMeterMayNotKnow, FramesAreSpelled, AFailedWriteHalts, BadLinesHaveTheirReasons};
+ghost use Rattle.worked_scripts.specs.Rows.{AnErrorForItsTargetGoesOn, ARepeatIsRefused, DatagramsOfEverySize, DiscoveryOverTwoRelays, ABrokenRouteStaysBroken, ALostFlightComesNoMore, CostsAreSpent, NothingIsSentWhenSpent, AForgedFrameIsNamed, MaliciousFramesAreRefused, RotationAndKick, AMeterJoinsOverTheAir, AnOldThirdPacketIsRefused, AMeterJoinsThroughAnAgent, AKickedMeterMayNotKnow, FramesAreSpelled, AFailedWriteHalts, BadLinesHaveTheirReasons};
 
 /// A datagram over one hop is handed up, and its repeat is refused.
 #[tactic(auto, using(crate::proofs::Witness::a_repeat_is_refused))]
@@ -101,4 +101,10 @@ pub fn a_failed_write_halts()
 #[tactic(auto, using(crate::proofs::Witness::bad_lines_have_their_reasons))]
 pub fn bad_lines_have_their_reasons()
     ensures { BadLinesHaveTheirReasons }
+{}
+
+/// A route error whose lost address is its target goes on where a route by another hop is left, and nowhere else.
+#[tactic(auto, using(crate::proofs::Witness::an_error_for_its_target_goes_on))]
+pub fn an_error_for_its_target_goes_on()
+    ensures { AnErrorForItsTargetGoesOn }
 {}
