@@ -1,10 +1,9 @@
 //! The lines of a source, through a window.
 ghost use Rattle.std.specs.Prelude.{◌≡◌, ◌+◌, ◌<◌, ◌≤◌, ◌++◌, [], length, take, if◌then◌else◌, nat_lt, Some, None, IfOk, OnErr, IsTrue, false};
-ghost use Rattle.std.specs.Io.KnownBytes.{Keeps};
-ghost use Rattle.plc_base.specs.Causes.{HasCause};
+ghost use Rattle.plc_base.specs.Streams.{ReadFaults};
 ghost use Rattle.line_driver.specs.Lines.{NoFeed};
 ghost use Rattle.line_driver.specs.Windows.{passed};
-ghost use Rattle.line_driver.specs.Next.{NextLine, IsOver, StaysOver, Refilled, Shed, FeedIs, FoundIs, kind_by};
+ghost use Rattle.line_driver.specs.Next.{NextLine, StaysOver, Refills, Shed, FeedIs, FoundIs, kind_by};
 
 use crate::window::{MAX_LINE, Window};
 use memchr::memchr;
@@ -130,11 +129,11 @@ impl Input {
     /// Finds the next line. After an `Err` the input is not used again.
     pub fn next_line<S: Source>(&mut self, source: &mut S) -> Result<Option<LineKind>, Failed>
         requires { self.old.seen ≤ 67108864 }
-        ensures next { NextLine (S.left source.old) (S.left source.new)
+        ensures next { NextLine (S.state source.old) (S.state source.new)
             self.old.seen self.old.count self.old.window.ahead self.old.ended
             self.new.seen self.new.count self.new.window.ahead self.new.ended self.new.window.line result }
-        ensures over { StaysOver self.old.ended self.new.ended (S.ended source.old) (S.ended source.new) (S.left source.old) (S.left source.new) }
-        ensures cause { HasCause (S.faults source.old) (S.faults source.new) result }
+        ensures over { StaysOver self.old.ended self.new.ended (S.state source.old) (S.state source.new) }
+        ensures faults { ReadFaults (S.state source.old) (S.state source.new) result }
     {
         let begin = self.seen;
         let mut long = false;
@@ -227,12 +226,10 @@ impl Input {
     fn refill<S: Source>(&mut self, source: &mut S) -> Result<(), Failed>
         requires room { length self.old.window.ahead < 8192 }
         requires going { self.old.ended ≡ false }
-        ensures given { IfOk result (λ _. Refilled (S.left source.old) (S.left source.new) self.old.window.ahead self.new.window.ahead self.new.ended) }
-        ensures over { IsTrue self.new.ended → IsOver (S.ended source.new) (S.left source.new) }
-        ensures err { OnErr result ((self.new.window.ahead ≡ self.old.window.ahead) × (self.new.ended ≡ false) × Keeps (S.left source.old) (S.left source.new)) }
+        ensures refills { Refills (S.state source.old) (S.state source.new)
+            self.old.window.ahead self.new.window.ahead self.new.ended result }
         ensures seen { self.new.seen ≡ self.old.seen }
         ensures count { self.new.count ≡ self.old.count }
-        ensures cause { HasCause (S.faults source.old) (S.faults source.new) result }
     {
         let count = self.window.fill(source)?;
         self.ended = count == 0;

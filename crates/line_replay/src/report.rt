@@ -1,10 +1,9 @@
 //! The texts of a report.
-ghost use Rattle.std.specs.Prelude.{◌≡◌, ◌≤◌, ◌+◌, ◌-◌, ◌++◌, length, IfOk, OnOk, string_bytes, codes, Some};
-ghost use Rattle.plc_base.specs.Causes.{Rose};
+ghost use Rattle.std.specs.Prelude.{◌≡◌, ◌+◌, ◌-◌, ◌++◌, length, IfOk, OnOk, string_bytes, codes, Some};
 ghost use Rattle.line_driver.specs.Clauses.{StopsWith};
 ghost use Rattle.line_replay.specs.Texts.{answer_word, verdict_word, reason_word, answer_text, up_text, forged_text, happened_text, fly_text, flies_text, sent_text, bad_text, end_text};
 
-use line_driver::{Exit, stop};
+use line_driver::{StopReason, stop};
 use line_world::{Answer, Handed, Happenings, World};
 use plc_base::Sink;
 use std::alloc::{AllocError, Global};
@@ -223,9 +222,13 @@ pub fn end_text(alloc: Global, world: &World) -> Result<String, AllocError>
 }
 
 /// Reports a bad line, at which the run stops.
-pub fn refuse<K: Sink>(alloc: Global, number: u32, reason: Reason, sink: &mut K) -> Result<(), Exit>
-    ensures stops { StopsWith (K.taken sink.old) (K.taken sink.new) (Rose (K.faults sink.old) (K.faults sink.new)) (bad_text number reason) result }
-    ensures later { K.faults sink.old ≤ K.faults sink.new }
+pub fn refuse<K: Sink>(
+    alloc: Global,
+    number: u32,
+    reason: Reason,
+    sink: &mut K,
+) -> Result<(), StopReason>
+    ensures { StopsWith (K.state sink.old) (K.state sink.new) (bad_text number reason) result }
 {
     stop(sink, bad_text(alloc, number, reason))
 }
