@@ -1,5 +1,5 @@
 -- What a reader of lines takes from its source.
-use Rattle.std.specs.Prelude.{◌≡◌, ◌⊎◌, ℕ, ◌+◌, ◌<◌, ◌≤◌, Bool, false, List, [], ◌∷◌, ◌++◌, length, take, slice_index, if◌then◌else◌, nat_le, true, Result, None, Some, IsTrue, OnErr, IfOk}
+use Rattle.std.specs.Prelude.{◌≡◌, ◌⊎◌, ℕ, ◌+◌, ◌<◌, ◌≤◌, Bool, false, List, [], ◌∷◌, ◌++◌, length, take, slice_index, if◌then◌else◌, nat_lt, nat_le, true, Result, None, Some, IsTrue, OnErr, IfOk}
 use Rattle.std.specs.declared.option.Option.{Option}
 use Rattle.std.specs.Io.KnownBytes.{Consumes, Keeps, IsAtEnd}
 use Rattle.plc_base.specs.declared.streams.Failed.{Failed}
@@ -14,6 +14,14 @@ use Rattle.line_driver.specs.Lines.{NoFeed, Content, Text, Long, TooMuch, Line, 
 abbrev pub kind_by : Bool → ℕ → LineKind
 kind_by true count = kinds.Long
 kind_by false count = if nat_le count 4096 then kinds.Text else kinds.Long
+
+-- the kind of the line that the end of input ends, if it has an octet: what was used of it since `begin`, and so many octets ahead
+abbrev pub last_kind : ℕ → ℕ → Bool → ℕ → Option LineKind
+last_kind begin seen long count = if nat_lt begin (seen + count) then Some (kind_by long count) else None
+
+-- how many lines were taken with that one
+abbrev pub last_count : ℕ → ℕ → ℕ → ℕ → ℕ
+last_count begin seen lines count = if nat_lt begin (seen + count) then lines + 1 else lines
 
 -- the source has ended, and none is left
 abbrev pub IsOver : SourceState → Type 0

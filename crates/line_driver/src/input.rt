@@ -1,9 +1,9 @@
 //! The lines of a source, through a window.
-ghost use Rattle.std.specs.Prelude.{◌≡◌, ◌+◌, ◌<◌, ◌≤◌, ◌++◌, [], length, take, if◌then◌else◌, nat_lt, Some, None, IfOk, OnErr, IsTrue, false};
+ghost use Rattle.std.specs.Prelude.{◌≡◌, ◌+◌, ◌<◌, ◌≤◌, ◌++◌, [], length, take, IfOk, false};
 ghost use Rattle.plc_base.specs.Streams.{ReadFaults};
 ghost use Rattle.line_driver.specs.Lines.{NoFeed};
-ghost use Rattle.line_driver.specs.Windows.{passed};
-ghost use Rattle.line_driver.specs.Next.{NextLine, StaysOver, Refills, Shed, FeedIs, FoundIs, kind_by};
+ghost use Rattle.line_driver.specs.Windows.{window_after};
+ghost use Rattle.line_driver.specs.Next.{NextLine, StaysOver, Refills, Shed, FeedIs, FoundIs, kind_by, last_kind, last_count};
 
 use crate::window::{MAX_LINE, Window};
 use memchr::memchr;
@@ -159,7 +159,7 @@ impl Input {
         requires there { at < length self.old.window.ahead }
         requires room { self.old.seen + at < 67108864 }
         ensures kind { result ≡ kind_by long at }
-        ensures window { self.new.window ≡ passed self.old.window at (at + 1) }
+        ensures window { self.new.window ≡ window_after self.old.window at (at + 1) }
         ensures seen { self.new.seen ≡ self.old.seen + at + 1 }
         ensures count { self.new.count ≡ self.old.count + 1 }
         ensures ended { self.new.ended ≡ self.old.ended }
@@ -175,7 +175,7 @@ impl Input {
         requires there { room < length self.old.window.ahead }
         requires last { self.old.seen + room ≡ 67108864 }
         ensures kind { result ≡ LineKind.TooMuch }
-        ensures window { self.new.window ≡ passed self.old.window room (room + 1) }
+        ensures window { self.new.window ≡ window_after self.old.window room (room + 1) }
         ensures count { self.new.count ≡ self.old.count + 1 }
         ensures ended { self.new.ended ≡ self.old.ended }
     {
@@ -190,10 +190,11 @@ impl Input {
         requires counted { self.old.count ≤ begin }
         requires begun { begin ≤ self.old.seen }
         requires room { self.old.seen + length self.old.window.ahead ≤ 67108864 }
-        ensures kind { result ≡ (if nat_lt begin (self.old.seen + length self.old.window.ahead) then Some (kind_by long (length self.old.window.ahead)) else None) }
-        ensures window { self.new.window ≡ passed self.old.window (length self.old.window.ahead) (length self.old.window.ahead) }
+        ensures kind { result ≡ last_kind begin self.old.seen long (length self.old.window.ahead) }
+        ensures window { self.new.window
+            ≡ window_after self.old.window (length self.old.window.ahead) (length self.old.window.ahead) }
         ensures seen { self.new.seen ≡ self.old.seen + length self.old.window.ahead }
-        ensures count { self.new.count ≡ (if nat_lt begin (self.old.seen + length self.old.window.ahead) then self.old.count + 1 else self.old.count) }
+        ensures count { self.new.count ≡ last_count begin self.old.seen self.old.count (length self.old.window.ahead) }
         ensures ended { self.new.ended ≡ self.old.ended }
     {
         let count = self.window.len();

@@ -51,8 +51,8 @@ pub trait LineMachine {
 
     /// Gives the line of this number its turn, whose octets these are where it is a text, and writes its report.
     ///
-    /// `BadLine` where the line is bad, `WriteFault` where the sink failed, `Memory` for want of memory. The machine is not used
-    /// again after an error.
+    /// `BadLine` where the line is bad, `WriteFault` where the sink failed, `Memory` where memory ran out. The machine is not
+    /// used again after an error.
     fn take<K: Sink>(
         &mut self,
         number: u32,
@@ -60,9 +60,10 @@ pub trait LineMachine {
         line: &[u8],
         sink: &mut K,
     ) -> Result<(), StopReason>
-        ensures { Turned (K.state sink.old) (K.state sink.new) self.old self.new (turn self.old number (content_found line.now kind)) result };
+        ensures { Turned (K.state sink.old) (K.state sink.new) self.old self.new
+            (turn self.old number (content_found line.now kind)) result };
 
-    /// Writes the text at the end of input. `WriteFault` where the sink failed, `Memory` for want of memory; never `BadLine`.
+    /// Writes the text at the end of input. `WriteFault` where the sink failed, `Memory` where memory ran out; never `BadLine`.
     fn finish<K: Sink>(&self, sink: &mut K) -> Result<(), StopReason>
         ensures { Told (K.state sink.old) (K.state sink.new) (end_text self.now) result };
 
@@ -109,15 +110,19 @@ fn take_line<M: LineMachine, K: Sink>(
     window: &Window,
     sink: &mut K,
 ) -> Result<(), StopReason>
-    ensures { Turned (K.state sink.old) (K.state sink.new) machine.old machine.new (M.turn machine.old number (content_found window.now.line kind)) result }
+    ensures { Turned (K.state sink.old) (K.state sink.new) machine.old machine.new
+        (M.turn machine.old number (content_found window.now.line kind)) result }
 {
     machine.take(number, kind, window.line(), sink)
 }
 
 /// Reads a script from the source line by line, and writes the report of a machine to the sink.
 ///
-/// The report of a line is written before the next one is taken, and at a bad line at most 8,192 octets after it were read. At the end
-/// of input the machine is left in the state after the last line; in what state it is left otherwise is not said.
+/// The report of a line is written before the next one is taken, and at a bad line at most 8,192 octets after it were read. At
+/// the end of input the machine is left in the state after the last line; in what state it is left otherwise is not said.
+///
+/// Where no read of the source and no write of the sink is to fail, and the sink has room for the whole report, neither count of
+/// faults changes.
 pub fn run<M: LineMachine, S: Source, K: Sink>(
     alloc: Global,
     machine: &mut M,

@@ -18,7 +18,8 @@ pub enum StopReason {
 
 /// Writes a text, if there was memory for it. Never `BadLine`.
 pub fn tell<K: Sink>(sink: &mut K, text: Result<String, AllocError>) -> Result<(), StopReason>
-    ensures told { (t : List ℕ) → IfOk text (λ s. string_bytes s ≡ t) → Told (K.state sink.old) (K.state sink.new) t result }
+    ensures told { (t : List ℕ) → IfOk text (λ s. string_bytes s ≡ t)
+        → Told (K.state sink.old) (K.state sink.new) t result }
     ensures memory { result ≡ Err StopReason.Memory → IsErr text }
 {
     match text {
@@ -33,7 +34,8 @@ pub fn tell_made<K: Sink>(
     made: Result<(), AllocError>,
     text: &str,
 ) -> Result<(), StopReason>
-    ensures told { (t : List ℕ) → OnOk made (text.now ≡ t) → Told (K.state sink.old) (K.state sink.new) t result }
+    ensures told { (t : List ℕ) → OnOk made (text.now ≡ t)
+        → Told (K.state sink.old) (K.state sink.new) t result }
     ensures memory { result ≡ Err StopReason.Memory → IsErr made }
 {
     match made {
@@ -47,7 +49,8 @@ pub fn tell_made<K: Sink>(
 
 /// Writes the report of a bad line, at which the run stops.
 pub fn stop<K: Sink>(sink: &mut K, text: Result<String, AllocError>) -> Result<(), StopReason>
-    ensures stops { (t : List ℕ) → IfOk text (λ s. string_bytes s ≡ t) → StopsWith (K.state sink.old) (K.state sink.new) t result }
+    ensures stops { (t : List ℕ) → IfOk text (λ s. string_bytes s ≡ t)
+        → StopsWith (K.state sink.old) (K.state sink.new) t result }
     ensures memory { result ≡ Err StopReason.Memory → IsErr text }
 {
     match tell(sink, text) {

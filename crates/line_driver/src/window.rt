@@ -1,7 +1,7 @@
 //! The octets of a source that were read ahead, and the line that was found last.
 ghost use Rattle.std.specs.Prelude.{◌≡◌, ◌<◌, ◌≤◌, ◌++◌, [], length, take, drop, IfOk, OnErr};
 ghost use Rattle.circular_buffer.specs.Buffer.{buffer};
-ghost use Rattle.line_driver.specs.Windows.{passed};
+ghost use Rattle.line_driver.specs.Windows.{window_after};
 ghost use Rattle.line_driver.specs.Next.{Fills};
 
 use circular_buffer::HeapCircularBuffer;
@@ -112,7 +112,7 @@ impl Window {
     pub fn pass(&mut self, line: usize, used: usize)
         requires line { line ≤ used }
         requires used { used ≤ length self.old.ahead }
-        ensures { self.new ≡ passed self.old line used }
+        ensures { self.new ≡ window_after self.old line used }
     {
         let count = line.min(MAX_LINE);
         take_out(&mut self.ring, &mut self.line, count, used);

@@ -34,7 +34,8 @@ step_taking w event (Err faults.Memory) = Skipped
 abbrev pub reading_taking : World → Reading → Taking
 reading_taking w Quiet = Skipped
 reading_taking w NoForm = Refused reasons.Form
-reading_taking w (Reads event) = if nat_lt w.events MAX_EVENTS then step_taking w event (step w event) else Refused reasons.Events
+reading_taking w (Reads event) =
+    if nat_lt w.events MAX_EVENTS then step_taking w event (step w event) else Refused reasons.Events
 
 -- the reasons of a bad line, in their order
 unfoldable pub taking : World → Content → Taking

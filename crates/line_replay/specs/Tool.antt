@@ -14,7 +14,7 @@ use Rattle.line_replay.specs.declared.tool.Command.{Command}
 use Rattle.line_replay.specs.declared.tool.Command.TheVariants.{Replay, Show, Vectors}
 use Rattle.line_replay.specs.declared.status.Status.{Status}
 use Rattle.line_replay.specs.declared.status.Status.TheVariants as status
-use Rattle.line_replay.specs.Shown.{shown}
+use Rattle.line_replay.specs.Shown.{show_outcome}
 use Rattle.line_replay.specs.Report.{is_forged, outcome, report, entries, entries_text, last_text, forged_in, IsQuieted}
 
 -- the command that words name, if they are of a form
@@ -25,7 +25,10 @@ command_of (word ∷ []) =
     else (if bytes_eq (string_bytes word) (codes "show") then Some Show
     else (if bytes_eq (string_bytes word) (codes "vectors") then Some Vectors
     else None))
-command_of (word ∷ option ∷ []) = if bytes_eq (string_bytes word) (codes "replay") && bytes_eq (string_bytes option) (codes "-q") then Some (Replay true) else None
+command_of (word ∷ option ∷ []) =
+    if bytes_eq (string_bytes word) (codes "replay") && bytes_eq (string_bytes option) (codes "-q")
+    then Some (Replay true)
+    else None
 command_of (word ∷ option ∷ other ∷ words) = None
 
 -- the status of a run over lines, which has seen a forged event or not
@@ -37,7 +40,7 @@ status_of exits.Memory forged = status.Memory
 status_of exits.ReadFault forged = status.ReadFault
 status_of exits.WriteFault forged = status.WriteFault
 
--- What reading lines did: how the run ended, the state that it left where it came to the end of input, and the status of that.
+-- What reading lines did: how the run ended, the last state where it came to the end of input, and the status of both.
 pub record Ran {M : Type 0} (forged : M → Bool) (outcome : List ℕ → Bool → Outcome M) (source0 source1 : SourceState) (sink0 sink1 : SinkState) (result : Status) : Type 0 where
   pub exit : Exit
   pub last : M
@@ -50,7 +53,7 @@ none_forged frames = false
 
 -- What showing frames did.
 abbrev pub Shows : SourceState → SourceState → SinkState → SinkState → Status → Type 0
-Shows source0 source1 sink0 sink1 result = Ran none_forged shown source0 source1 sink0 sink1 result
+Shows source0 source1 sink0 sink1 result = Ran none_forged show_outcome source0 source1 sink0 sink1 result
 
 -- a status says of a run whether an event of it is forged
 abbrev pub Names : Status → ℕ → Type 0
@@ -85,15 +88,16 @@ pub record Holds (entries : List Entry) : Type 0 where
 pub record Replays (quiet : Bool) (source0 source1 : SourceState) (sink0 sink1 : SinkState) (result : Status) : Type 0 where
   pub ran : Ran is_forged (outcome quiet) source0 source1 sink0 sink1 result
   -- the report is the lines of the run's entries, and then the last line
-  pub by_entries : (e : Bool) → report quiet ran.drives.b e ≡ entries_text quiet (entries ran.drives.b e) ++ last_text ran.drives.b e
+  pub by_entries : (e : Bool)
+      → report quiet ran.drives.b e ≡ entries_text quiet (entries ran.drives.b e) ++ last_text ran.drives.b e
   -- the quiet report is the other one without the lines of the flights
   pub quieted : (e : Bool) → IsQuieted (report false ran.drives.b e) (report true ran.drives.b e)
   pub holds : (e : Bool) → Holds (entries ran.drives.b e)
   -- the status names a forged event exactly where there is one
   pub named : Names result (forged_in (entries ran.drives.b true))
 
--- Why a status comes where one text is written and nothing is read: all of it was written, and the status is the one for that; or
--- the sink failed, and a prefix of it was written.
+-- Why a status comes where one text is written and nothing is read: all of it was written, and the status is the one for that;
+-- or the sink failed, and a prefix of it was written.
 abbrev pub TellsBy : List ℕ → Status → List ℕ → SinkState → SinkState → Status → Type 0
 TellsBy text done w sink0 sink1 status.Fine = (done ≡ status.Fine) × (w ≡ text)
 TellsBy text done w sink0 sink1 status.Usage = (done ≡ status.Usage) × (w ≡ text)

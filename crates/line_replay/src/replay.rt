@@ -43,7 +43,9 @@ fn push_entry(
     number: u32,
     happened: &Happenings<'_>,
 ) -> Result<(), AllocError>
-    ensures { OnOk result (string_bytes text.new ≡ string_bytes text.old ++ (happened_text number happened.now ++ sent_text quiet world.now happened.now.first_flight)) }
+    ensures { OnOk result (string_bytes text.new
+        ≡ string_bytes text.old
+        ++ (happened_text number happened.now ++ sent_text quiet world.now happened.now.first_flight)) }
 {
     push_happened(text, alloc, number, happened)?;
     push_sent(text, alloc, quiet, world, happened.first_flight)

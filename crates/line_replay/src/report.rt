@@ -189,7 +189,8 @@ pub fn push_sent(
 }
 
 fn push_flies(text: &mut String, alloc: Global, world: &World, first: u32) -> Result<(), AllocError>
-    ensures { OnOk result (string_bytes text.new ≡ string_bytes text.old ++ flies_text world.now first (length world.now.flights + 1 - first)) }
+    ensures { OnOk result (string_bytes text.new
+        ≡ string_bytes text.old ++ flies_text world.now first (length world.now.flights + 1 - first)) }
 {
     let last = world.counts().flights;
     for number in u64::from(first)..u64::from(last) + 1 {

@@ -34,7 +34,8 @@ fn status_of(exit: Exit, forged: bool) -> Status
 
 /// Reads a script from the source, and writes its report to the sink: a quiet one without the octets of the flights.
 fn replay<S: Source, K: Sink>(alloc: Global, quiet: bool, source: &mut S, sink: &mut K) -> Status
-    ensures replays { Replays quiet (S.state source.old) (S.state source.new) (K.state sink.old) (K.state sink.new) result }
+    ensures replays { Replays quiet (S.state source.old) (S.state source.new)
+        (K.state sink.old) (K.state sink.new) result }
     ensures whole { is_whole result ≡ true → IsAtEnd ((S.state source.new).left) }
     ensures read { result ≡ Status.ReadFault → SourceRose (S.state source.old) (S.state source.new) }
     ensures write { result ≡ Status.WriteFault → SinkRose (K.state sink.old) (K.state sink.new) }
@@ -80,8 +81,8 @@ fn tell<K: Sink>(sink: &mut K, text: &[u8], done: Status) -> Status
 /// The commands that the program has.
 #[derive(Clone, Copy, Debug, PartialEq, Eq)]
 pub enum Command {
-    /// `replay` and `replay -q`: runs a script and reports what the line did, with the octets of the flights or, where it is quiet,
-    /// without them.
+    /// `replay` and `replay -q`: runs a script and reports what the line did, with the octets of the flights or, where it is
+    /// quiet, without them.
     Replay {
         /// Whether the octets of the flights are left out.
         quiet: bool,
@@ -111,27 +112,32 @@ const USAGE: &[u8; 58] = b"usage: line_replay replay [-q] | show | vectors | dri
 
 /// All that the program does, with the words after its name.
 ///
-/// `replay` reads a script and writes what its line did, `replay -q` the same without the octets of the flights. `show` reads frames in hexadecimal and writes what each is. `vectors`
-/// writes what the ciphers make of known inputs. Other words write the usage line. These two read nothing, and never answer Memory.
+/// `replay` reads a script and writes what its line did, `replay -q` the same without the octets of the flights. `show` reads
+/// frames in hexadecimal and writes what each is. `vectors` writes what the ciphers make of known inputs. Other words write the
+/// usage line. These two read nothing, and never answer Memory.
+///
+/// Where no read of the source and no write of the sink is to fail, and the sink has room for the whole text, neither count of
+/// faults changes, so that neither fault comes.
 pub fn run_tool<S: Source, K: Sink>(
     alloc: Global,
     words: &[String],
     source: &mut S,
     sink: &mut K,
 ) -> Status
-    // What was read and written, why this status came, and what holds of the run: up to its first forged event every datagram that was
-    // handed up was sent to that node with the same octets, none is handed up twice, a meter holds only group keys that were issued to
-    // it, and no table passes its size; in every run the counters of a node's flights rise, and no two flights have one nonce.
+    // What was read and written, why this status came, and what holds of the run: up to its first forged event every datagram
+    // that was handed up was sent to that node with the same octets, none is handed up twice, a meter holds only group keys that
+    // were issued to it, and no table passes its size; in every run the counters of a node's flights rise, and no two flights
+    // have one nonce.
     ensures replays { (quiet : Bool) → command_of words.now ≡ Some (Command.Replay quiet)
         → Replays quiet (S.state source.old) (S.state source.new) (K.state sink.old) (K.state sink.new) result }
     // What was read and written of frames, and why this status came.
     ensures shows { command_of words.now ≡ Some Command.Show
         → Shows (S.state source.old) (S.state source.new) (K.state sink.old) (K.state sink.new) result }
     // What ends Fine or Forged was read whole.
-    ensures whole_script { (quiet : Bool) → command_of words.now ≡ Some (Command.Replay quiet) → is_whole result ≡ true
-        → IsAtEnd ((S.state source.new).left) }
-    ensures whole_frames { command_of words.now ≡ Some Command.Show → is_whole result ≡ true
-        → IsAtEnd ((S.state source.new).left) }
+    ensures whole_script { (quiet : Bool) → command_of words.now ≡ Some (Command.Replay quiet)
+        → is_whole result ≡ true → IsAtEnd ((S.state source.new).left) }
+    ensures whole_frames { command_of words.now ≡ Some Command.Show
+        → is_whole result ≡ true → IsAtEnd ((S.state source.new).left) }
     // The vectors are those of the definitions, and nothing is read for them.
     ensures vectors { command_of words.now ≡ Some Command.Vectors
         → (source.new ≡ source.old) × Tells vectors_text Status.Fine (K.state sink.old) (K.state sink.new) result }
