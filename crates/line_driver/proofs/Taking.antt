@@ -8,6 +8,7 @@ use Rattle.std.specs.Io.KnownBytes.{Consumes, Keeps}
 use Rattle.std.proofs.Math.Seq.{drop-cons, take-append-add}
 use Rattle.memchr.specs.Find.{NoneBefore, Nowhere, Passes, is_byte}
 use Rattle.plc_base.specs.declared.streams.Failed.{Failed}
+use Rattle.plc_base.specs.Streams.{SourceState}
 use Rattle.line_driver.specs.declared.input.LineKind.{LineKind}
 use Rattle.line_driver.specs.declared.input.LineKind.TheVariants as kinds
 use Rattle.line_driver.specs.declared.input.Found.TheVariants.{Feed, PastRoom}
@@ -191,19 +192,19 @@ clear_front ahead0 ahead1 octets is none = (
 )
 
 -- What was used of a line, and what was given, since the octets ahead of it.
-pub record Taking (left0 left1 : Option (List ℕ)) (seen0 count0 : ℕ) (ahead0 : List ℕ) (ended0 : Bool) (seen1 : ℕ) (ahead1 : List ℕ) (ended1 : Bool) (long : Bool) : Type 0 where
+pub record Taking (source0 source1 : SourceState) (seen0 count0 : ℕ) (ahead0 : List ℕ) (ended0 : Bool) (seen1 : ℕ) (ahead1 : List ℕ) (ended1 : Bool) (long : Bool) : Type 0 where
   pub octets : List ℕ
-  pub gave : Consumes left0 left1 octets
+  pub gave : Consumes source0.left source1.left octets
   pub part : List ℕ
   pub is : PartIs part long
   pub used : seen1 ≡ seen0 + length part
   pub lines : (more : List ℕ) (e : Bool) → lines_from seen0 count0 [] (ahead0 ++ (octets ++ more)) e ≡ lines_from seen1 count0 part (ahead1 ++ more) e
   pub still : IsTrue ended0 → (octets ≡ []) × IsTrue ended1
 
-pub taking_none : (left : Option (List ℕ)) (seen count : ℕ) (ahead : List ℕ) (ended : Bool) → Taking left left seen count ahead ended seen ahead ended false
-taking_none left seen count ahead ended = record {
+pub taking_none : (source : SourceState) (seen count : ℕ) (ahead : List ℕ) (ended : Bool) → Taking source source seen count ahead ended seen ahead ended false
+taking_none source seen count ahead ended = record {
   octets = [];
-  gave = Consumes-nil left;
+  gave = Consumes-nil source.left;
   part = [];
   is = refl;
   used = omega arith;
@@ -211,9 +212,9 @@ taking_none left seen count ahead ended = record {
   still = λ over. (refl, over);
 }
 
-module _ {left0 left1 : Option (List ℕ)} {seen0 count0 : ℕ} {ahead0 : List ℕ} {ended0 : Bool} {seen1 : ℕ} {ahead1 : List ℕ} {ended1 : Bool} {long : Bool} (t : Taking left0 left1 seen0 count0 ahead0 ended0 seen1 ahead1 ended1 long) where
+module _ {source0 source1 : SourceState} {seen0 count0 : ℕ} {ahead0 : List ℕ} {ended0 : Bool} {seen1 : ℕ} {ahead1 : List ℕ} {ended1 : Bool} {long : Bool} (t : Taking source0 source1 seen0 count0 ahead0 ended0 seen1 ahead1 ended1 long) where
   -- octets ahead are shed or not
-  pub taking_shed : (seen2 : ℕ) (ahead2 : List ℕ) (long2 : Bool) → NoFeed ahead1 → seen1 + length ahead1 ≤ 67108864 → Shed seen1 seen2 ahead1 ahead2 long long2 → Taking left0 left1 seen0 count0 ahead0 ended0 seen2 ahead2 ended1 long2
+  pub taking_shed : (seen2 : ℕ) (ahead2 : List ℕ) (long2 : Bool) → NoFeed ahead1 → seen1 + length ahead1 ≤ 67108864 → Shed seen1 seen2 ahead1 ahead2 long long2 → Taking source0 source1 seen0 count0 ahead0 ended0 seen2 ahead2 ended1 long2
   taking_shed seen2 ahead2 long2 none room (inl (few, same, ahead, kept)) = rw (same, ahead, kept) t
   taking_shed seen2 ahead2 long2 none room (inr (many, more, ahead, is)) = rw (more, ahead, is) (record {
     octets = t.octets;
@@ -226,10 +227,10 @@ module _ {left0 left1 : Option (List ℕ)} {seen0 count0 : ℕ} {ahead0 : List �
   })
 
   -- more octets are given
-  pub taking_more : {left2 : Option (List ℕ)} {ahead2 : List ℕ} {ended2 : Bool} → ended1 ≡ false → Refilled left1 left2 ahead1 ahead2 ended2 → Taking left0 left2 seen0 count0 ahead0 ended0 seen1 ahead2 ended2 long
-  taking_more {left2} {ahead2} {ended2} going r = record {
+  pub taking_more : {source2 : SourceState} {ahead2 : List ℕ} {ended2 : Bool} → ended1 ≡ false → Refilled source1 source2 ahead1 ahead2 ended2 → Taking source0 source2 seen0 count0 ahead0 ended0 seen1 ahead2 ended2 long
+  taking_more {source2} {ahead2} {ended2} going r = record {
     octets = t.octets ++ r.octets;
-    gave = Consumes-trans left0 left1 left2 t.octets r.octets t.gave r.gave;
+    gave = Consumes-trans source0.left source1.left source2.left t.octets r.octets t.gave r.gave;
     part = t.part;
     is = t.is;
     used = t.used;
@@ -241,7 +242,7 @@ module _ {left0 left1 : Option (List ℕ)} {seen0 count0 : ℕ} {ahead0 : List �
 
   -- the line feed
   pub found_line : (at : ℕ) (kind : LineKind) (seen2 count2 : ℕ) (line ahead2 : List ℕ) (ended2 : Bool) → FoundIs ahead1 (67108864 - seen1) (Feed at) → kind ≡ kind_by long at → seen2 ≡ seen1 + at + 1 → count2 ≡ count0 + 1
-      → line ≡ take (min at 4096) ahead1 → ahead2 ≡ drop (at + 1) ahead1 → ended2 ≡ ended1 → NextLine left0 left1 seen0 count0 ahead0 ended0 seen2 count2 ahead2 ended2 line (Ok (Some kind))
+      → line ≡ take (min at 4096) ahead1 → ahead2 ≡ drop (at + 1) ahead1 → ended2 ≡ ended1 → NextLine source0 source1 seen0 count0 ahead0 ended0 seen2 count2 ahead2 ended2 line (Ok (Some kind))
   found_line at kind seen2 count2 line ahead2 ended2 found kind_is seen_is number line_is ahead_is ended_is = rw (kind_is, line_is, ahead_is, ended_is) (record {
     octets = t.octets;
     gave = t.gave;
@@ -267,7 +268,7 @@ module _ {left0 left1 : Option (List ℕ)} {seen0 count0 : ℕ} {ahead0 : List �
 
   -- the octet that is too much
   pub found_too_much : (kind : LineKind) (room seen2 count2 : ℕ) (line ahead2 : List ℕ) (ended2 : Bool) → room ≡ 67108864 - seen1 → seen1 ≤ 67108864 → FoundIs ahead1 (67108864 - seen1) PastRoom → kind ≡ kinds.TooMuch → count2 ≡ count0 + 1
-      → ahead2 ≡ drop (room + 1) ahead1 → ended2 ≡ ended1 → NextLine left0 left1 seen0 count0 ahead0 ended0 seen2 count2 ahead2 ended2 line (Ok (Some kind))
+      → ahead2 ≡ drop (room + 1) ahead1 → ended2 ≡ ended1 → NextLine source0 source1 seen0 count0 ahead0 ended0 seen2 count2 ahead2 ended2 line (Ok (Some kind))
   found_too_much kind room seen2 count2 line ahead2 ended2 room_is within found kind_is number ahead_is ended_is = rw (kind_is, ahead_is, ended_is, room_is) (record {
     octets = t.octets;
     gave = t.gave;
@@ -290,17 +291,17 @@ module _ {left0 left1 : Option (List ℕ)} {seen0 count0 : ℕ} {ahead0 : List �
   -- the end of input, whether it ends a line or not
   pub found_at_end : (r : Option LineKind) (seen2 count2 : ℕ) (line ahead2 : List ℕ) (ended2 : Bool) → IsTrue ended1 → NoFeed ahead1 → seen1 + length ahead1 ≤ 67108864 → seen0 ≤ seen1 → seen2 ≡ seen1 + length ahead1
       → r ≡ (if nat_lt seen0 (seen1 + length ahead1) then Some (kind_by long (length ahead1)) else None) → count2 ≡ (if nat_lt seen0 (seen1 + length ahead1) then count0 + 1 else count0)
-      → line ≡ take (min (length ahead1) 4096) ahead1 → ahead2 ≡ [] → ended2 ≡ ended1 → NextLine left0 left1 seen0 count0 ahead0 ended0 seen2 count2 ahead2 ended2 line (Ok r)
+      → line ≡ take (min (length ahead1) 4096) ahead1 → ahead2 ≡ [] → ended2 ≡ ended1 → NextLine source0 source1 seen0 count0 ahead0 ended0 seen2 count2 ahead2 ended2 line (Ok r)
   found_at_end r seen2 count2 line ahead2 ended2 over none room order seen_is r_is count_is line_is ahead_is ended_is = rw (line_is, ahead_is, ended_is) (elim (cases_lt seen0 (seen1 + length ahead1)) [
-    | inl some ↦ subst (λ q. NextLine left0 left1 seen0 count0 ahead0 ended0 seen2 count2 [] ended1 (take (min (length ahead1) 4096) ahead1) (Ok q)) (sym (r_is ∙ rw (lt-ltb seen0 (seen1 + length ahead1) some))) (ends some (count_is ∙ rw (lt-ltb seen0 (seen1 + length ahead1) some)))
-    | inr few ↦ subst (λ q. NextLine left0 left1 seen0 count0 ahead0 ended0 seen2 count2 [] ended1 (take (min (length ahead1) 4096) ahead1) (Ok q)) (sym (r_is ∙ rw (le-ltb seen0 (seen1 + length ahead1) few))) (nothing few)
+    | inl some ↦ subst (λ q. NextLine source0 source1 seen0 count0 ahead0 ended0 seen2 count2 [] ended1 (take (min (length ahead1) 4096) ahead1) (Ok q)) (sym (r_is ∙ rw (lt-ltb seen0 (seen1 + length ahead1) some))) (ends some (count_is ∙ rw (lt-ltb seen0 (seen1 + length ahead1) some)))
+    | inr few ↦ subst (λ q. NextLine source0 source1 seen0 count0 ahead0 ended0 seen2 count2 [] ended1 (take (min (length ahead1) 4096) ahead1) (Ok q)) (sym (r_is ∙ rw (le-ltb seen0 (seen1 + length ahead1) few))) (nothing few)
   ])
     where
       -- the lines of what is ahead, and nothing more
       rest : (e : Bool) → lines_from seen0 count0 [] (ahead0 ++ t.octets) e ≡ lines_from (seen1 + length ahead1) count0 (t.part ++ ahead1) [] e
       rest e = ap (λ (l : List ℕ). lines_from seen0 count0 [] (ahead0 ++ l) e) (sym (append-nil t.octets)) ∙ t.lines [] e ∙ stretched seen1 count0 t.part ahead1 [] e none room
 
-      nothing : seen1 + length ahead1 ≤ seen0 → NextLine left0 left1 seen0 count0 ahead0 ended0 seen2 count2 [] ended1 (take (min (length ahead1) 4096) ahead1) (Ok None)
+      nothing : seen1 + length ahead1 ≤ seen0 → NextLine source0 source1 seen0 count0 ahead0 ended0 seen2 count2 [] ended1 (take (min (length ahead1) 4096) ahead1) (Ok None)
       nothing few = record {
         octets = t.octets;
         gave = t.gave;
@@ -317,7 +318,7 @@ module _ {left0 left1 : Option (List ℕ)} {seen0 count0 : ℕ} {ahead0 : List �
           ∙ ap (λ k. lines_with count2 k [] (lines_from seen2 count2 [] [] true)) (sym (kept_front ahead1 long (length ahead1) ∙ ap (λ (l : List ℕ). content_found l (kind_by long (length ahead1))) (take_all (length ahead1) ahead1 (omega arith))))
           )
 
-      ends : seen0 < seen1 + length ahead1 → count2 ≡ count0 + 1 → NextLine left0 left1 seen0 count0 ahead0 ended0 seen2 count2 [] ended1 (take (min (length ahead1) 4096) ahead1) (Ok (Some (kind_by long (length ahead1))))
+      ends : seen0 < seen1 + length ahead1 → count2 ≡ count0 + 1 → NextLine source0 source1 seen0 count0 ahead0 ended0 seen2 count2 [] ended1 (take (min (length ahead1) 4096) ahead1) (Ok (Some (kind_by long (length ahead1))))
       ends some number = record {
         octets = t.octets;
         gave = t.gave;
@@ -327,10 +328,10 @@ module _ {left0 left1 : Option (List ℕ)} {seen0 count0 : ℕ} {ahead0 : List �
       }
 
   -- a failure, with no whole line
-  pub found_failure : (f : Failed) {left2 : Option (List ℕ)} (seen2 count2 : ℕ) (line ahead2 : List ℕ) (ended2 : Bool) → ended1 ≡ false → NoFeed ahead1 → seen1 + length ahead1 ≤ 67108864 → Keeps left1 left2 → NextLine left0 left2 seen0 count0 ahead0 ended0 seen2 count2 ahead2 ended2 line (Err f)
-  found_failure f {left2} seen2 count2 line ahead2 ended2 going none room kept = record {
+  pub found_failure : (f : Failed) {source2 : SourceState} (seen2 count2 : ℕ) (line ahead2 : List ℕ) (ended2 : Bool) → ended1 ≡ false → NoFeed ahead1 → seen1 + length ahead1 ≤ 67108864 → Keeps source1.left source2.left → NextLine source0 source2 seen0 count0 ahead0 ended0 seen2 count2 ahead2 ended2 line (Err f)
+  found_failure f {source2} seen2 count2 line ahead2 ended2 going none room kept = record {
     octets = t.octets;
-    gave = Consumes-kept left0 left1 left2 t.octets t.gave kept;
+    gave = Consumes-kept source0.left source1.left source2.left t.octets t.gave kept;
     found = tt;
     failed = (began ended0 t.still, ap (λ (l : List ℕ). lines_from seen0 count0 [] (ahead0 ++ l) false) (sym (append-nil t.octets)) ∙ t.lines [] false ∙ stretched seen1 count0 t.part ahead1 [] false none room ∙ open_end (seen1 + length ahead1) count0 (t.part ++ ahead1));
     still = λ over. absurd (both_ways ended1 going (t.still over).1);

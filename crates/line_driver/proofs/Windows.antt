@@ -1,7 +1,8 @@
 -- The octets that a reader of lines holds.
-use Rattle.std.proofs.Common.{◌≡◌, ℕ, ◌≤◌, Option, List, ◌++◌, length, take, drop, length-take, length-append, append_assoc, ◌∙◌, ap, arith}
+use Rattle.std.proofs.Common.{◌≡◌, ℕ, ◌≤◌, List, ◌++◌, length, take, drop, length-take, length-append, append_assoc, ◌∙◌, ap, arith}
 use Rattle.std.proofs.lemmas.List.{take-take, take-append-le}
 use Rattle.std.specs.Io.KnownBytes.{Consumes}
+use Rattle.plc_base.specs.Streams.{SourceState}
 use Rattle.line_driver.specs.Next.{Given}
 
 -- the front of a buffer whose front was written
@@ -16,8 +17,8 @@ taken_out n r len items dst old post rest r_is some room dst_is =
     ∙ take-append-le n (take n items) (drop n old) (omega (arith, some, length-take n items))
     ∙ take-take n n items (omega arith)
 
-pub given_behind : {left0 left1 : Option (List ℕ)} (items buf post rest chunk new : List ℕ) (len n r : ℕ) → n ≤ len → n ≤ length buf → Consumes left0 left1 (take n buf) → chunk ≡ take len ((buf ++ post) ++ rest) → r ≡ n
-    → new ≡ items ++ take r (take n chunk) → Given left0 left1 items new n
+pub given_behind : {source0 source1 : SourceState} (items buf post rest chunk new : List ℕ) (len n r : ℕ) → n ≤ len → n ≤ length buf → Consumes source0.left source1.left (take n buf) → chunk ≡ take len ((buf ++ post) ++ rest) → r ≡ n
+    → new ≡ items ++ take r (take n chunk) → Given source0 source1 items new n
 given_behind items buf post rest chunk new len n r room fits gave chunk_is r_is new_is = record {
   octets = take n buf;
   gave = gave;

@@ -1,40 +1,41 @@
 -- What a machine's calls and the run over it say.
-use Rattle.std.specs.Prelude.{◌≡◌, ℕ, Bool, true, false, List, [], Result, Ok, Err, IsTrue}
-use Rattle.std.specs.declared.option.Option.{Option}
+use Rattle.std.specs.Prelude.{◌≡◌, ℕ, ◌≤◌, Bool, true, false, List, [], length, Result, Ok, Err, IsTrue}
 use Rattle.std.specs.Io.KnownBytes.{Consumes, Appends}
-use Rattle.plc_base.specs.Streams.{IsPrefixOf}
+use Rattle.plc_base.specs.Streams.{SourceState, SinkState, SourceFaults, SinkFaults, SourceRose, SinkRose, PlansRoomFor, IsPrefixOf}
 use Rattle.line_driver.specs.declared.machine.Exit.{Exit}
 use Rattle.line_driver.specs.declared.machine.Exit.TheVariants as exits
-use Rattle.line_driver.specs.Lines.{Content}
-use Rattle.line_driver.specs.Outcomes.{Turn, Skips, Takes, Stops, Ended, Open, outcome, StopsShortOf}
+use Rattle.line_driver.specs.declared.telling.StopReason.{StopReason}
+use Rattle.line_driver.specs.declared.telling.StopReason.TheVariants as stops
+use Rattle.line_driver.specs.declared.window.TheConstants.{WINDOW}
+use Rattle.line_driver.specs.Outcomes.{Turn, Skips, Takes, Stops, Ended, Open, Outcome, StopsShortOf}
 
--- w was written of a text: all of it, or a front where memory ran out or the sink failed
-abbrev pub ToldBy : List ℕ → List ℕ → Type 0 → Result (Unit {0}) Exit → Type 0
-ToldBy w text rose (Ok _) = w ≡ text
-ToldBy w text rose (Err exits.Memory) = IsPrefixOf w text
-ToldBy w text rose (Err exits.WriteFault) = rose × IsPrefixOf w text
-ToldBy w text rose (Err exits.Fine) = ⊥
-ToldBy w text rose (Err exits.BadScript) = ⊥
-ToldBy w text rose (Err exits.ReadFault) = ⊥
+-- w was written of a text: all of it, or a prefix where memory ran out or the sink failed
+abbrev pub ToldBy : List ℕ → List ℕ → SinkState → SinkState → Result (Unit {0}) StopReason → Type 0
+ToldBy w text old new (Ok _) = w ≡ text
+ToldBy w text old new (Err stops.Memory) = IsPrefixOf w text
+ToldBy w text old new (Err stops.WriteFault) = SinkRose old new × IsPrefixOf w text
+ToldBy w text old new (Err stops.BadLine) = ⊥
 
-pub record Told (taken0 taken1 : Option (List ℕ)) (rose : Type 0) (text : List ℕ) (result : Result (Unit {0}) Exit) : Type 0 where
+-- a text was written
+pub record Told (old new : SinkState) (text : List ℕ) (result : Result (Unit {0}) StopReason) : Type 0 where
   pub w : List ℕ
-  pub wrote : Appends taken0 taken1 w
-  pub told : ToldBy w text rose result
+  pub wrote : Appends old.taken new.taken w
+  pub told : ToldBy w text old new result
+  pub faults : SinkFaults old new (length text)
 
--- w was written of the report of a bad line: all of it, and the run stops there, or a front of it
-abbrev pub StopsBy : List ℕ → List ℕ → Type 0 → Result (Unit {0}) Exit → Type 0
-StopsBy w text rose (Err exits.BadScript) = w ≡ text
-StopsBy w text rose (Err exits.Memory) = IsPrefixOf w text
-StopsBy w text rose (Err exits.WriteFault) = rose × IsPrefixOf w text
-StopsBy w text rose (Err exits.Fine) = ⊥
-StopsBy w text rose (Err exits.ReadFault) = ⊥
-StopsBy w text rose (Ok _) = ⊥
+-- w was written of the report of a bad line: all of it, and the run stops there, or a prefix of it
+abbrev pub StopsBy : List ℕ → List ℕ → SinkState → SinkState → Result (Unit {0}) StopReason → Type 0
+StopsBy w text old new (Err stops.BadLine) = w ≡ text
+StopsBy w text old new (Err stops.Memory) = IsPrefixOf w text
+StopsBy w text old new (Err stops.WriteFault) = SinkRose old new × IsPrefixOf w text
+StopsBy w text old new (Ok _) = ⊥
 
-pub record StopsWith (taken0 taken1 : Option (List ℕ)) (rose : Type 0) (text : List ℕ) (result : Result (Unit {0}) Exit) : Type 0 where
+-- the report of a bad line was written
+pub record StopsWith (old new : SinkState) (text : List ℕ) (result : Result (Unit {0}) StopReason) : Type 0 where
   pub w : List ℕ
-  pub wrote : Appends taken0 taken1 w
-  pub by : StopsBy w text rose result
+  pub wrote : Appends old.taken new.taken w
+  pub by : StopsBy w text old new result
+  pub faults : SinkFaults old new (length text)
 
 abbrev pub turn_text : {M : Type 0} → Turn M → List ℕ
 turn_text Skips = []
@@ -53,33 +54,48 @@ IsStop (Takes next text) = ⊥
 IsStop (Stops text) = Unit {0}
 
 -- a line had its turn, and w was written of its report
-abbrev pub TurnedBy : {M : Type 0} → List ℕ → M → M → Turn M → Type 0 → Result (Unit {0}) Exit → Type 0
-TurnedBy w m0 m1 turn rose (Ok _) = GoesOn w m0 m1 turn
-TurnedBy w m0 m1 turn rose (Err exits.BadScript) = IsStop turn × (w ≡ turn_text turn)
-TurnedBy w m0 m1 turn rose (Err exits.Memory) = IsPrefixOf w (turn_text turn)
-TurnedBy w m0 m1 turn rose (Err exits.WriteFault) = rose × IsPrefixOf w (turn_text turn)
-TurnedBy w m0 m1 turn rose (Err exits.Fine) = ⊥
-TurnedBy w m0 m1 turn rose (Err exits.ReadFault) = ⊥
+abbrev pub TurnedBy : {M : Type 0} → List ℕ → M → M → Turn M → SinkState → SinkState → Result (Unit {0}) StopReason → Type 0
+TurnedBy w m0 m1 turn old new (Ok _) = GoesOn w m0 m1 turn
+TurnedBy w m0 m1 turn old new (Err stops.BadLine) = IsStop turn × (w ≡ turn_text turn)
+TurnedBy w m0 m1 turn old new (Err stops.Memory) = IsPrefixOf w (turn_text turn)
+TurnedBy w m0 m1 turn old new (Err stops.WriteFault) = SinkRose old new × IsPrefixOf w (turn_text turn)
 
-pub record Turned {M : Type 0} (taken0 taken1 : Option (List ℕ)) (rose : Type 0) (m0 m1 : M) (turn : Turn M) (result : Result (Unit {0}) Exit) : Type 0 where
+-- a line had its turn
+pub record Turned {M : Type 0} (old new : SinkState) (m0 m1 : M) (turn : Turn M) (result : Result (Unit {0}) StopReason) : Type 0 where
   pub w : List ℕ
-  pub wrote : Appends taken0 taken1 w
-  pub turned : TurnedBy w m0 m1 turn rose result
+  pub wrote : Appends old.taken new.taken w
+  pub turned : TurnedBy w m0 m1 turn old new result
+  pub faults : SinkFaults old new (length (turn_text turn))
 
 -- ---- the whole run
 
--- Why a run ended so, where at most `ahead` octets are read behind a bad line, over the octets b that were given and the text w that was written; a
--- run that came to the end of input left the machine in the state m1.
-abbrev pub Comes : {M : Type 0} → ℕ → (M → ℕ → Content → Turn M) → (M → List ℕ) → M → M → Bool → List ℕ → List ℕ → Type 0 → Type 0 → Exit → Type 0
-Comes ahead turn end_text m m1 ended b w source_rose sink_rose exits.Fine = IsTrue ended × ((outcome turn end_text m b true).ending ≡ Ended m1) × (w ≡ (outcome turn end_text m b true).text)
-Comes ahead turn end_text m m1 ended b w source_rose sink_rose exits.BadScript = StopsShortOf ahead (outcome turn end_text m b ended).ending × (w ≡ (outcome turn end_text m b ended).text)
-Comes ahead turn end_text m m1 ended b w source_rose sink_rose exits.ReadFault = source_rose × ((outcome turn end_text m b false).ending ≡ Open) × (w ≡ (outcome turn end_text m b false).text)
-Comes ahead turn end_text m m1 ended b w source_rose sink_rose exits.WriteFault = sink_rose × IsPrefixOf w (outcome turn end_text m b ended).text
-Comes ahead turn end_text m m1 ended b w source_rose sink_rose exits.Memory = IsPrefixOf w (outcome turn end_text m b ended).text
+-- how a run ends at which a machine's call ends it
+abbrev pub exit_of : StopReason → Exit
+exit_of stops.BadLine = exits.BadScript
+exit_of stops.Memory = exits.Memory
+exit_of stops.WriteFault = exits.WriteFault
 
-pub record Drives {M : Type 0} (ahead : ℕ) (turn : M → ℕ → Content → Turn M) (end_text : M → List ℕ) (m m1 : M) (left0 left1 taken0 taken1 : Option (List ℕ)) (ended : Bool) (source_rose sink_rose : Type 0) (result : Exit) : Type 0 where
+-- What an exit says, over the octets b that were given, the text w that was written and what b does by the outcome: at the end of
+-- input, that it is in the state `last`, and that w is the whole text; at a bad line, that few octets are read after it.
+abbrev pub Comes : {M : Type 0} → (List ℕ → Bool → Outcome M) → M → SourceState → SourceState → SinkState → SinkState → List ℕ → List ℕ → Exit → Type 0
+Comes outcome last source0 source1 sink0 sink1 b w exits.Fine =
+    IsTrue source1.ended × ((outcome b true).ending ≡ Ended last) × (w ≡ (outcome b true).text)
+Comes outcome last source0 source1 sink0 sink1 b w exits.BadScript =
+    StopsShortOf WINDOW (outcome b source1.ended).ending × (w ≡ (outcome b source1.ended).text)
+Comes outcome last source0 source1 sink0 sink1 b w exits.ReadFault =
+    SourceRose source0 source1 × ((outcome b false).ending ≡ Open) × (w ≡ (outcome b false).text)
+Comes outcome last source0 source1 sink0 sink1 b w exits.WriteFault =
+    SinkRose sink0 sink1 × IsPrefixOf w (outcome b source1.ended).text
+Comes outcome last source0 source1 sink0 sink1 b w exits.Memory = IsPrefixOf w (outcome b source1.ended).text
+
+-- What a run did: what the source gave, what the sink took, why it ended so, and where neither can have failed.
+pub record Drives {M : Type 0} (outcome : List ℕ → Bool → Outcome M) (last : M) (source0 source1 : SourceState) (sink0 sink1 : SinkState) (exit : Exit) : Type 0 where
   pub b : List ℕ
   pub w : List ℕ
-  pub gave : Consumes left0 left1 b
-  pub wrote : Appends taken0 taken1 w
-  pub comes : Comes ahead turn end_text m m1 ended b w source_rose sink_rose result
+  pub gave : Consumes source0.left source1.left b
+  pub wrote : Appends sink0.taken sink1.taken w
+  pub comes : Comes outcome last source0 source1 sink0 sink1 b w exit
+  pub source : SourceFaults source0 source1
+  pub sink_later : sink0.faults ≤ sink1.faults
+  -- no write fails where none is to and there is room for the whole text
+  pub sink_none : PlansRoomFor (length (outcome b source1.ended).text) sink0.plan → sink1.faults ≡ sink0.faults

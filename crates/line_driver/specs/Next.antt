@@ -1,8 +1,9 @@
 -- What a reader of lines takes from its source.
-use Rattle.std.specs.Prelude.{◌≡◌, ◌⊎◌, ℕ, ◌+◌, ◌<◌, ◌≤◌, Bool, false, List, [], ◌∷◌, ◌++◌, length, take, slice_index, if◌then◌else◌, nat_le, true, Result, None, Some, IsTrue, OnErr, IfOk}
+use Rattle.std.specs.Prelude.{◌≡◌, ◌⊎◌, ℕ, ◌+◌, ◌<◌, ◌≤◌, Bool, false, List, [], ◌∷◌, ◌++◌, length, take, slice_index, if◌then◌else◌, nat_lt, nat_le, true, Result, None, Some, IsTrue, OnErr, IfOk}
 use Rattle.std.specs.declared.option.Option.{Option}
-use Rattle.std.specs.Io.KnownBytes.{Consumes, IsAtEnd}
+use Rattle.std.specs.Io.KnownBytes.{Consumes, Keeps, IsAtEnd}
 use Rattle.plc_base.specs.declared.streams.Failed.{Failed}
+use Rattle.plc_base.specs.Streams.{SourceState, ReadFaults}
 use Rattle.line_driver.specs.declared.input.LineKind.{LineKind}
 use Rattle.line_driver.specs.declared.input.LineKind.TheVariants as kinds
 use Rattle.line_driver.specs.declared.input.Found.{Found}
@@ -14,13 +15,21 @@ abbrev pub kind_by : Bool → ℕ → LineKind
 kind_by true count = kinds.Long
 kind_by false count = if nat_le count 4096 then kinds.Text else kinds.Long
 
+-- the kind of the line that the end of input ends, if it has an octet: what was used of it since `begin`, and so many octets ahead
+abbrev pub last_kind : ℕ → ℕ → Bool → ℕ → Option LineKind
+last_kind begin seen long count = if nat_lt begin (seen + count) then Some (kind_by long count) else None
+
+-- how many lines were taken with that one
+abbrev pub last_count : ℕ → ℕ → ℕ → ℕ → ℕ
+last_count begin seen lines count = if nat_lt begin (seen + count) then lines + 1 else lines
+
 -- the source has ended, and none is left
-abbrev pub IsOver : Bool → Option (List ℕ) → Type 0
-IsOver ended left = IsTrue ended × IsAtEnd left
+abbrev pub IsOver : SourceState → Type 0
+IsOver source = IsTrue source.ended × IsAtEnd source.left
 
 -- where the end of input was seen, the source has ended
-abbrev pub StaysOver : Bool → Bool → Bool → Bool → Option (List ℕ) → Option (List ℕ) → Type 0
-StaysOver seen0 seen1 ended0 ended1 left0 left1 = (IsTrue seen0 → IsOver ended0 left0) → IsTrue seen1 → IsOver ended1 left1
+abbrev pub StaysOver : Bool → Bool → SourceState → SourceState → Type 0
+StaysOver seen0 seen1 source0 source1 = (IsTrue seen0 → IsOver source0) → IsTrue seen1 → IsOver source1
 
 -- what was found, where the octets of a text stand in a buffer
 abbrev pub content_found : List ℕ → LineKind → Content
@@ -28,19 +37,33 @@ content_found octets kinds.Text = Text octets
 content_found octets kinds.Long = Long
 content_found octets kinds.TooMuch = TooMuch
 
--- A read behind the octets ahead, which so many came by.
-pub record Given (left0 left1 : Option (List ℕ)) (ahead0 ahead1 : List ℕ) (count : ℕ) : Type 0 where
+-- So many octets came after those ahead.
+pub record Given (source0 source1 : SourceState) (ahead0 ahead1 : List ℕ) (count : ℕ) : Type 0 where
   pub octets : List ℕ
-  pub gave : Consumes left0 left1 octets
+  pub gave : Consumes source0.left source1.left octets
   pub grown : ahead1 ≡ ahead0 ++ octets
   pub counted : length octets ≡ count
 
--- The same, where the end of input is seen if none came.
-pub record Refilled (left0 left1 : Option (List ℕ)) (ahead0 ahead1 : List ℕ) (ended1 : Bool) : Type 0 where
+-- A read after the octets ahead.
+pub record Fills (source0 source1 : SourceState) (ahead0 ahead1 : List ℕ) (result : Result ℕ Failed) : Type 0 where
+  pub given : IfOk result (Given source0 source1 ahead0 ahead1)
+  pub over : IfOk result (λ count. count ≡ 0 → IsOver source1)
+  pub kept : OnErr result ((ahead1 ≡ ahead0) × Keeps source0.left source1.left)
+  pub faults : ReadFaults source0 source1 result
+
+-- Octets came after those ahead, and the end of input is seen if none came.
+pub record Refilled (source0 source1 : SourceState) (ahead0 ahead1 : List ℕ) (ended1 : Bool) : Type 0 where
   pub octets : List ℕ
-  pub gave : Consumes left0 left1 octets
+  pub gave : Consumes source0.left source1.left octets
   pub grown : ahead1 ≡ ahead0 ++ octets
   pub none : octets ≡ [] → IsTrue ended1
+
+-- A read after the octets ahead, which sees the end of input or not.
+pub record Refills (source0 source1 : SourceState) (ahead0 ahead1 : List ℕ) (ended1 : Bool) (result : Result (Unit {0}) Failed) : Type 0 where
+  pub given : IfOk result (λ _. Refilled source0 source1 ahead0 ahead1 ended1)
+  pub over : IsTrue ended1 → IsOver source1
+  pub kept : OnErr result ((ahead1 ≡ ahead0) × (ended1 ≡ false) × Keeps source0.left source1.left)
+  pub faults : ReadFaults source0 source1 result
 
 -- All octets ahead are used where they are more than a line may have, which makes the line too long.
 abbrev pub Shed : ℕ → ℕ → List ℕ → List ℕ → Bool → Bool → Type 0
@@ -85,9 +108,9 @@ LineIs seen0 count0 window0 octets seen1 count1 window1 ended1 line None =
     IsTrue ended1 × ((e : Bool) → lines_from seen0 count0 [] (window0 ++ octets) e ≡ [])
 
 -- A line, the end of input, or a failure, and what the source gave for it.
-pub record NextLine (left0 left1 : Option (List ℕ)) (seen0 count0 : ℕ) (window0 : List ℕ) (ended0 : Bool) (seen1 count1 : ℕ) (window1 : List ℕ) (ended1 : Bool) (line : List ℕ) (result : Result (Option LineKind) Failed) : Type 0 where
+pub record NextLine (source0 source1 : SourceState) (seen0 count0 : ℕ) (window0 : List ℕ) (ended0 : Bool) (seen1 count1 : ℕ) (window1 : List ℕ) (ended1 : Bool) (line : List ℕ) (result : Result (Option LineKind) Failed) : Type 0 where
   pub octets : List ℕ
-  pub gave : Consumes left0 left1 octets
+  pub gave : Consumes source0.left source1.left octets
   pub found : IfOk result (LineIs seen0 count0 window0 octets seen1 count1 window1 ended1 line)
   -- no line is whole
   pub failed : OnErr result ((ended0 ≡ false) × (lines_from seen0 count0 [] (window0 ++ octets) false ≡ []))

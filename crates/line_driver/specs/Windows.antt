@@ -18,5 +18,5 @@ abbrev pub window_of : List ℕ → List ℕ → ℕ → Window
 window_of ahead octets line_len = record { line = take line_len octets; ahead = ahead }
 
 -- the first `n` octets are the line, or the first 4,096 of them, and `used` octets are used
-abbrev pub passed : Window → ℕ → ℕ → Window
-passed w n used = record { line = take (min n 4096) w.ahead; ahead = drop used w.ahead }
+abbrev pub window_after : Window → ℕ → ℕ → Window
+window_after w n used = record { line = take (min n 4096) w.ahead; ahead = drop used w.ahead }

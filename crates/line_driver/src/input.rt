@@ -1,10 +1,9 @@
 //! The lines of a source, through a window.
-ghost use Rattle.std.specs.Prelude.{◌≡◌, ◌+◌, ◌<◌, ◌≤◌, ◌++◌, [], length, take, if◌then◌else◌, nat_lt, Some, None, IfOk, OnErr, IsTrue, false};
-ghost use Rattle.std.specs.Io.KnownBytes.{Keeps};
-ghost use Rattle.plc_base.specs.Causes.{HasCause};
+ghost use Rattle.std.specs.Prelude.{◌≡◌, ◌+◌, ◌<◌, ◌≤◌, ◌++◌, [], length, take, IfOk, false};
+ghost use Rattle.plc_base.specs.Streams.{ReadFaults};
 ghost use Rattle.line_driver.specs.Lines.{NoFeed};
-ghost use Rattle.line_driver.specs.Windows.{passed};
-ghost use Rattle.line_driver.specs.Next.{NextLine, IsOver, StaysOver, Refilled, Shed, FeedIs, FoundIs, kind_by};
+ghost use Rattle.line_driver.specs.Windows.{window_after};
+ghost use Rattle.line_driver.specs.Next.{NextLine, StaysOver, Refills, Shed, FeedIs, FoundIs, kind_by, last_kind, last_count};
 
 use crate::window::{MAX_LINE, Window};
 use memchr::memchr;
@@ -130,11 +129,11 @@ impl Input {
     /// Finds the next line. After an `Err` the input is not used again.
     pub fn next_line<S: Source>(&mut self, source: &mut S) -> Result<Option<LineKind>, Failed>
         requires { self.old.seen ≤ 67108864 }
-        ensures next { NextLine (S.left source.old) (S.left source.new)
+        ensures next { NextLine (S.state source.old) (S.state source.new)
             self.old.seen self.old.count self.old.window.ahead self.old.ended
             self.new.seen self.new.count self.new.window.ahead self.new.ended self.new.window.line result }
-        ensures over { StaysOver self.old.ended self.new.ended (S.ended source.old) (S.ended source.new) (S.left source.old) (S.left source.new) }
-        ensures cause { HasCause (S.faults source.old) (S.faults source.new) result }
+        ensures over { StaysOver self.old.ended self.new.ended (S.state source.old) (S.state source.new) }
+        ensures faults { ReadFaults (S.state source.old) (S.state source.new) result }
     {
         let begin = self.seen;
         let mut long = false;
@@ -160,7 +159,7 @@ impl Input {
         requires there { at < length self.old.window.ahead }
         requires room { self.old.seen + at < 67108864 }
         ensures kind { result ≡ kind_by long at }
-        ensures window { self.new.window ≡ passed self.old.window at (at + 1) }
+        ensures window { self.new.window ≡ window_after self.old.window at (at + 1) }
         ensures seen { self.new.seen ≡ self.old.seen + at + 1 }
         ensures count { self.new.count ≡ self.old.count + 1 }
         ensures ended { self.new.ended ≡ self.old.ended }
@@ -176,7 +175,7 @@ impl Input {
         requires there { room < length self.old.window.ahead }
         requires last { self.old.seen + room ≡ 67108864 }
         ensures kind { result ≡ LineKind.TooMuch }
-        ensures window { self.new.window ≡ passed self.old.window room (room + 1) }
+        ensures window { self.new.window ≡ window_after self.old.window room (room + 1) }
         ensures count { self.new.count ≡ self.old.count + 1 }
         ensures ended { self.new.ended ≡ self.old.ended }
     {
@@ -191,10 +190,11 @@ impl Input {
         requires counted { self.old.count ≤ begin }
         requires begun { begin ≤ self.old.seen }
         requires room { self.old.seen + length self.old.window.ahead ≤ 67108864 }
-        ensures kind { result ≡ (if nat_lt begin (self.old.seen + length self.old.window.ahead) then Some (kind_by long (length self.old.window.ahead)) else None) }
-        ensures window { self.new.window ≡ passed self.old.window (length self.old.window.ahead) (length self.old.window.ahead) }
+        ensures kind { result ≡ last_kind begin self.old.seen long (length self.old.window.ahead) }
+        ensures window { self.new.window
+            ≡ window_after self.old.window (length self.old.window.ahead) (length self.old.window.ahead) }
         ensures seen { self.new.seen ≡ self.old.seen + length self.old.window.ahead }
-        ensures count { self.new.count ≡ (if nat_lt begin (self.old.seen + length self.old.window.ahead) then self.old.count + 1 else self.old.count) }
+        ensures count { self.new.count ≡ last_count begin self.old.seen self.old.count (length self.old.window.ahead) }
         ensures ended { self.new.ended ≡ self.old.ended }
     {
         let count = self.window.len();
@@ -227,12 +227,10 @@ impl Input {
     fn refill<S: Source>(&mut self, source: &mut S) -> Result<(), Failed>
         requires room { length self.old.window.ahead < 8192 }
         requires going { self.old.ended ≡ false }
-        ensures given { IfOk result (λ _. Refilled (S.left source.old) (S.left source.new) self.old.window.ahead self.new.window.ahead self.new.ended) }
-        ensures over { IsTrue self.new.ended → IsOver (S.ended source.new) (S.left source.new) }
-        ensures err { OnErr result ((self.new.window.ahead ≡ self.old.window.ahead) × (self.new.ended ≡ false) × Keeps (S.left source.old) (S.left source.new)) }
+        ensures refills { Refills (S.state source.old) (S.state source.new)
+            self.old.window.ahead self.new.window.ahead self.new.ended result }
         ensures seen { self.new.seen ≡ self.old.seen }
         ensures count { self.new.count ≡ self.old.count }
-        ensures cause { HasCause (S.faults source.old) (S.faults source.new) result }
     {
         let count = self.window.fill(source)?;
         self.ended = count == 0;

@@ -10,5 +10,5 @@ mod window;
 pub use input::{LineKind, MAX_INPUT};
 pub use laws::lines_of_a_script;
 pub use machine::{Exit, LineMachine, run};
-pub use telling::{stop, tell, tell_made};
+pub use telling::{StopReason, stop, tell, tell_made};
 pub use window::{MAX_LINE, WINDOW};

@@ -1,30 +1,44 @@
 //! The run over a machine.
-ghost use Rattle.std.specs.Prelude.{◌≡◌, ◌≤◌, [], List, ℕ, IsTrue, false};
+ghost use Rattle.std.specs.Prelude.{◌≡◌, [], List, ℕ, false};
 ghost use Rattle.std.specs.Io.KnownBytes.{IsAtEnd};
-ghost use Rattle.plc_base.specs.Causes.{Rose};
 ghost use Rattle.line_driver.specs.Lines.{Content, TooMuch};
 ghost use Rattle.line_driver.specs.Next.{content_found};
-ghost use Rattle.line_driver.specs.Outcomes.{Turn};
+ghost use Rattle.line_driver.specs.Outcomes.{Turn, outcome};
 ghost use Rattle.line_driver.specs.Clauses.{Told, Turned, IsStop, Drives};
 
 use crate::input::{Input, LineKind};
-use crate::window::{WINDOW, Window};
+use crate::telling::StopReason;
+use crate::window::Window;
 use plc_base::{Failed, Sink, Source};
 use std::alloc::Global;
 
-/// How a run ended, or why a machine's call ends it.
+/// How a run ended.
 #[derive(Clone, Copy, Debug, PartialEq, Eq)]
 pub enum Exit {
     /// The input was read to its end, and the text at the end was written.
     Fine,
-    /// A line is bad. Its report was written, and no line behind it was taken.
+    /// A line is bad. Its report was written, and no line after it was taken.
     BadScript,
-    /// There was not enough memory. A front of the text was written.
+    /// There was not enough memory. A prefix of the text was written.
     Memory,
     /// The source failed. The text of all whole lines before was written.
     ReadFault,
-    /// The sink failed. A front of the text was written.
+    /// The sink failed. A prefix of the text was written.
     WriteFault,
+}
+
+impl From<StopReason> for Exit {
+    ghost use Rattle.line_driver.specs.Clauses.{exit_of};
+
+    ghost from_gives = { λ reason exit. exit ≡ exit_of reason };
+
+    fn from(reason: StopReason) -> Exit {
+        match reason {
+            StopReason::BadLine => Exit::BadScript,
+            StopReason::Memory => Exit::Memory,
+            StopReason::WriteFault => Exit::WriteFault,
+        }
+    }
 }
 
 /// What takes the lines of a script one by one.
@@ -37,22 +51,21 @@ pub trait LineMachine {
 
     /// Gives the line of this number its turn, whose octets these are where it is a text, and writes its report.
     ///
-    /// `BadScript` where the line is bad, `WriteFault` where the sink failed, `Memory` for want of memory; never another
-    /// error. The machine is not used again after an error.
+    /// `BadLine` where the line is bad, `WriteFault` where the sink failed, `Memory` where memory ran out. The machine is not
+    /// used again after an error.
     fn take<K: Sink>(
         &mut self,
         number: u32,
         kind: LineKind,
         line: &[u8],
         sink: &mut K,
-    ) -> Result<(), Exit>
-        ensures turned { Turned (K.taken sink.old) (K.taken sink.new) (Rose (K.faults sink.old) (K.faults sink.new)) self.old self.new (turn self.old number (content_found line.now kind)) result }
-        ensures later { K.faults sink.old ≤ K.faults sink.new };
+    ) -> Result<(), StopReason>
+        ensures { Turned (K.state sink.old) (K.state sink.new) self.old self.new
+            (turn self.old number (content_found line.now kind)) result };
 
-    /// Writes the text at the end of input. `WriteFault` where the sink failed, `Memory` for want of memory.
-    fn finish<K: Sink>(&self, sink: &mut K) -> Result<(), Exit>
-        ensures told { Told (K.taken sink.old) (K.taken sink.new) (Rose (K.faults sink.old) (K.faults sink.new)) (end_text self.now) result }
-        ensures later { K.faults sink.old ≤ K.faults sink.new };
+    /// Writes the text at the end of input. `WriteFault` where the sink failed, `Memory` where memory ran out; never `BadLine`.
+    fn finish<K: Sink>(&self, sink: &mut K) -> Result<(), StopReason>
+        ensures { Told (K.state sink.old) (K.state sink.new) (end_text self.now) result };
 
     /// The octet that is too much makes its line bad.
     ghost stops: { (m : Self) (number : ℕ) → IsStop (turn m number TooMuch) };
@@ -69,11 +82,9 @@ fn follow<M: LineMachine, S: Source, K: Sink>(
     requires seen { input.old.seen ≡ 0 }
     requires count { input.old.count ≡ 0 }
     requires going { input.old.ended ≡ false }
-    ensures drives { Drives WINDOW M.turn M.end_text machine.old machine.new (S.left source.old) (S.left source.new) (K.taken sink.old) (K.taken sink.new) (S.ended source.new)
-        (Rose (S.faults source.old) (S.faults source.new)) (Rose (K.faults sink.old) (K.faults sink.new)) result }
-    ensures whole { result ≡ Exit.Fine → IsAtEnd (S.left source.new) }
-    ensures source { S.faults source.old ≤ S.faults source.new }
-    ensures sink { K.faults sink.old ≤ K.faults sink.new }
+    ensures drives { Drives (outcome M.turn M.end_text machine.old) machine.new
+        (S.state source.old) (S.state source.new) (K.state sink.old) (K.state sink.new) result }
+    ensures whole { result ≡ Exit.Fine → IsAtEnd ((S.state source.new).left) }
 {
     loop {
         match input.next_line(source) {
@@ -81,12 +92,12 @@ fn follow<M: LineMachine, S: Source, K: Sink>(
             Ok(None) => {
                 return match machine.finish(sink) {
                     Ok(()) => Exit::Fine,
-                    Err(end) => end,
+                    Err(reason) => Exit::from(reason),
                 };
             }
             Ok(Some(kind)) => match take_line(machine, input.count, kind, &input.window, sink) {
                 Ok(()) => {}
-                Err(end) => return end,
+                Err(reason) => return Exit::from(reason),
             },
         }
     }
@@ -98,28 +109,29 @@ fn take_line<M: LineMachine, K: Sink>(
     kind: LineKind,
     window: &Window,
     sink: &mut K,
-) -> Result<(), Exit>
-    ensures turned { Turned (K.taken sink.old) (K.taken sink.new) (Rose (K.faults sink.old) (K.faults sink.new)) machine.old machine.new (M.turn machine.old number (content_found window.now.line kind)) result }
-    ensures later { K.faults sink.old ≤ K.faults sink.new }
+) -> Result<(), StopReason>
+    ensures { Turned (K.state sink.old) (K.state sink.new) machine.old machine.new
+        (M.turn machine.old number (content_found window.now.line kind)) result }
 {
     machine.take(number, kind, window.line(), sink)
 }
 
 /// Reads a script from the source line by line, and writes the report of a machine to the sink.
 ///
-/// The report of a line is written before the next one is taken, and at a bad line at most 8,192 octets behind it were read. At the end
-/// of input the machine is left in the state after the last line; in what state it is left otherwise is not said.
+/// The report of a line is written before the next one is taken, and at a bad line at most 8,192 octets after it were read. At
+/// the end of input the machine is left in the state after the last line; in what state it is left otherwise is not said.
+///
+/// Where no read of the source and no write of the sink is to fail, and the sink has room for the whole report, neither count of
+/// faults changes.
 pub fn run<M: LineMachine, S: Source, K: Sink>(
     alloc: Global,
     machine: &mut M,
     source: &mut S,
     sink: &mut K,
 ) -> Exit
-    ensures drives { Drives WINDOW M.turn M.end_text machine.old machine.new (S.left source.old) (S.left source.new) (K.taken sink.old) (K.taken sink.new) (S.ended source.new)
-        (Rose (S.faults source.old) (S.faults source.new)) (Rose (K.faults sink.old) (K.faults sink.new)) result }
-    ensures whole { result ≡ Exit.Fine → IsAtEnd (S.left source.new) }
-    ensures source { S.faults source.old ≤ S.faults source.new }
-    ensures sink { K.faults sink.old ≤ K.faults sink.new }
+    ensures drives { Drives (outcome M.turn M.end_text machine.old) machine.new
+        (S.state source.old) (S.state source.new) (K.state sink.old) (K.state sink.new) result }
+    ensures whole { result ≡ Exit.Fine → IsAtEnd ((S.state source.new).left) }
 {
     let mut input = match Input::new(alloc) {
         Ok(input) => input,

@@ -1,51 +1,60 @@
 //! Texts that a machine writes.
-ghost use Rattle.std.specs.Prelude.{◌≡◌, ◌≤◌, IfOk, OnOk, IsErr, string_bytes, List, ℕ};
-ghost use Rattle.plc_base.specs.Causes.{Rose};
+ghost use Rattle.std.specs.Prelude.{◌≡◌, IfOk, OnOk, IsErr, string_bytes, List, ℕ};
 ghost use Rattle.line_driver.specs.Clauses.{Told, StopsWith};
 
-use crate::machine::Exit;
 use plc_base::{Sink, write_all};
 use std::alloc::AllocError;
 
-/// Writes a text, if there was memory for it.
-pub fn tell<K: Sink>(sink: &mut K, text: Result<String, AllocError>) -> Result<(), Exit>
-    ensures told { (t : List ℕ) → IfOk text (λ s. string_bytes s ≡ t) → Told (K.taken sink.old) (K.taken sink.new) (Rose (K.faults sink.old) (K.faults sink.new)) t result }
-    ensures memory { result ≡ Err Exit.Memory → IsErr text }
-    ensures later { K.faults sink.old ≤ K.faults sink.new }
+/// Why a machine's call ends the run.
+#[derive(Clone, Copy, Debug, PartialEq, Eq)]
+pub enum StopReason {
+    /// The line is bad, and its report was written.
+    BadLine,
+    /// There was not enough memory. A prefix of the text was written.
+    Memory,
+    /// The sink failed. A prefix of the text was written.
+    WriteFault,
+}
+
+/// Writes a text, if there was memory for it. Never `BadLine`.
+pub fn tell<K: Sink>(sink: &mut K, text: Result<String, AllocError>) -> Result<(), StopReason>
+    ensures told { (t : List ℕ) → IfOk text (λ s. string_bytes s ≡ t)
+        → Told (K.state sink.old) (K.state sink.new) t result }
+    ensures memory { result ≡ Err StopReason.Memory → IsErr text }
 {
     match text {
-        Err(_) => Err(Exit::Memory),
+        Err(_) => Err(StopReason::Memory),
         Ok(text) => tell_made(sink, Ok(()), text.as_str()),
     }
 }
 
-/// Writes a text that stands in a buffer, if there was memory to make it.
+/// Writes a text that is in a buffer, if there was memory to make it. Never `BadLine`.
 pub fn tell_made<K: Sink>(
     sink: &mut K,
     made: Result<(), AllocError>,
     text: &str,
-) -> Result<(), Exit>
-    ensures told { (t : List ℕ) → OnOk made (text.now ≡ t) → Told (K.taken sink.old) (K.taken sink.new) (Rose (K.faults sink.old) (K.faults sink.new)) t result }
-    ensures memory { result ≡ Err Exit.Memory → IsErr made }
-    ensures later { K.faults sink.old ≤ K.faults sink.new }
+) -> Result<(), StopReason>
+    ensures told { (t : List ℕ) → OnOk made (text.now ≡ t)
+        → Told (K.state sink.old) (K.state sink.new) t result }
+    ensures memory { result ≡ Err StopReason.Memory → IsErr made }
 {
     match made {
-        Err(_) => Err(Exit::Memory),
+        Err(_) => Err(StopReason::Memory),
         Ok(()) => match write_all(sink, text.as_bytes()) {
             Ok(()) => Ok(()),
-            Err(_) => Err(Exit::WriteFault),
+            Err(_) => Err(StopReason::WriteFault),
         },
     }
 }
 
 /// Writes the report of a bad line, at which the run stops.
-pub fn stop<K: Sink>(sink: &mut K, text: Result<String, AllocError>) -> Result<(), Exit>
-    ensures stops { (t : List ℕ) → IfOk text (λ s. string_bytes s ≡ t) → StopsWith (K.taken sink.old) (K.taken sink.new) (Rose (K.faults sink.old) (K.faults sink.new)) t result }
-    ensures memory { result ≡ Err Exit.Memory → IsErr text }
-    ensures later { K.faults sink.old ≤ K.faults sink.new }
+pub fn stop<K: Sink>(sink: &mut K, text: Result<String, AllocError>) -> Result<(), StopReason>
+    ensures stops { (t : List ℕ) → IfOk text (λ s. string_bytes s ≡ t)
+        → StopsWith (K.state sink.old) (K.state sink.new) t result }
+    ensures memory { result ≡ Err StopReason.Memory → IsErr text }
 {
     match tell(sink, text) {
-        Ok(()) => Err(Exit::BadScript),
-        Err(exit) => Err(exit),
+        Ok(()) => Err(StopReason::BadLine),
+        Err(reason) => Err(reason),
     }
 }

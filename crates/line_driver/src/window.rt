@@ -1,10 +1,8 @@
 //! The octets of a source that were read ahead, and the line that was found last.
 ghost use Rattle.std.specs.Prelude.{◌≡◌, ◌<◌, ◌≤◌, ◌++◌, [], length, take, drop, IfOk, OnErr};
-ghost use Rattle.std.specs.Io.KnownBytes.{Keeps};
 ghost use Rattle.circular_buffer.specs.Buffer.{buffer};
-ghost use Rattle.plc_base.specs.Causes.{HasCause};
-ghost use Rattle.line_driver.specs.Windows.{passed};
-ghost use Rattle.line_driver.specs.Next.{Given, IsOver};
+ghost use Rattle.line_driver.specs.Windows.{window_after};
+ghost use Rattle.line_driver.specs.Next.{Fills};
 
 use circular_buffer::HeapCircularBuffer;
 use plc_base::{Failed, Source};
@@ -61,13 +59,10 @@ fn read_behind<S: Source>(
 ) -> Result<usize, Failed>
     requires room { length ring.old.items < ring.old.capacity }
     requires chunk { ring.old.capacity ≤ length chunk.old.items }
-    ensures given { IfOk result (λ count. Given (S.left source.old) (S.left source.new) ring.old.items ring.new.items count) }
-    ensures over { IfOk result (λ count. count ≡ 0 → IsOver (S.ended source.new) (S.left source.new)) }
-    ensures err { OnErr result ((ring.new ≡ ring.old) × Keeps (S.left source.old) (S.left source.new)) }
+    ensures fills { Fills (S.state source.old) (S.state source.new) ring.old.items ring.new.items result }
     ensures capacity { ring.new.capacity ≡ ring.old.capacity }
     ensures bound { length ring.new.items ≤ ring.old.capacity }
     ensures length { length chunk.new.items ≡ length chunk.old.items }
-    ensures cause { HasCause (S.faults source.old) (S.faults source.new) result }
 {
     let room = ring.capacity() - ring.len();
     let count = source.read(&mut chunk[0..room])?;
@@ -117,7 +112,7 @@ impl Window {
     pub fn pass(&mut self, line: usize, used: usize)
         requires line { line ≤ used }
         requires used { used ≤ length self.old.ahead }
-        ensures { self.new ≡ passed self.old line used }
+        ensures { self.new ≡ window_after self.old line used }
     {
         let count = line.min(MAX_LINE);
         take_out(&mut self.ring, &mut self.line, count, used);
@@ -128,12 +123,9 @@ impl Window {
     /// input. The line stays.
     pub fn fill<S: Source>(&mut self, source: &mut S) -> Result<usize, Failed>
         requires room { length self.old.ahead < WINDOW }
-        ensures given { IfOk result (λ count. Given (S.left source.old) (S.left source.new) self.old.ahead self.new.ahead count) }
-        ensures over { IfOk result (λ count. count ≡ 0 → IsOver (S.ended source.new) (S.left source.new)) }
+        ensures fills { Fills (S.state source.old) (S.state source.new) self.old.ahead self.new.ahead result }
         ensures bound { length self.new.ahead ≤ WINDOW }
         ensures line { self.new.line ≡ self.old.line }
-        ensures err { OnErr result ((self.new.ahead ≡ self.old.ahead) × Keeps (S.left source.old) (S.left source.new)) }
-        ensures cause { HasCause (S.faults source.old) (S.faults source.new) result }
     {
         let count = read_behind(&mut self.ring, &mut self.chunk, source)?;
         Ok(count)

@@ -2,13 +2,14 @@
 use Rattle.std.proofs.Common.{◌≡◌, ℕ, ◌+◌, ◌<◌, Bool, List, [], ◌++◌, Ok, Err, Result, refl, sym, ap, ◌∙◌, subst}
 use Rattle.std.specs.Prelude.{OnOk}
 use Rattle.std.proofs.lemmas.Bool.{lt-ltb}
-use Rattle.std.specs.declared.option.Option.{Option}
-use Rattle.line_driver.specs.declared.machine.Exit.{Exit}
+use Rattle.plc_base.specs.Streams.{SinkState}
+use Rattle.line_driver.specs.declared.telling.StopReason.{StopReason}
 use Rattle.line_driver.specs.Outcomes.{Turn, Takes}
 use Rattle.line_driver.specs.Clauses.{Told, Turned}
 use Rattle.line_driver.proofs.Turned.{taken}
 use Rattle.line_rules.specs.declared.event.Event.{Event}
 use Rattle.line_rules.specs.declared.happenings.Happenings.{Happenings}
+use Rattle.line_world.specs.declared.world.TheConstants.{MAX_EVENTS}
 use Rattle.line_world.specs.Worlds.{World}
 use Rattle.line_world.specs.Steps.{step}
 use Rattle.line_replay.specs.declared.reading.Reading.TheVariants.{Reads}
@@ -18,15 +19,15 @@ use Rattle.line_replay.specs.Report.{Playing, reading_taking, turn_by}
 abbrev text_of : Bool → ℕ → World → Happenings → List ℕ
 text_of quiet number next h = happened_text number h ++ sent_text quiet next h.first_flight
 
-turn_is : (quiet : Bool) (number : ℕ) (w next : World) (e : Event) (h : Happenings) → w.events < 50000 → step w e ≡ Ok (next, h)
+turn_is : (quiet : Bool) (number : ℕ) (w next : World) (e : Event) (h : Happenings) → w.events < MAX_EVENTS → step w e ≡ Ok (next, h)
     → turn_by quiet number (reading_taking w (Reads e)) ≡ Takes (record { quiet = quiet; world = next }) (text_of quiet (w.events + 1) next h)
-turn_is quiet number w next e h room is = rw (lt-ltb w.events 50000 room, is) refl
+turn_is quiet number w next e h room is = rw (lt-ltb w.events MAX_EVENTS room, is) refl
 
-pub event_taken : {taken0 taken1 : Option (List ℕ)} {rose : Type 0} (quiet : Bool) (number count : ℕ) (w next : World) (e : Event) (h : Happenings) (r : Result (Unit {0}) Exit) → count ≡ w.events → w.events < 50000 → step w e ≡ Ok (next, h)
-    → Told taken0 taken1 rose (text_of quiet (count + 1) next h) r → Turned {M = Playing} taken0 taken1 rose (record { quiet = quiet; world = w }) (record { quiet = quiet; world = next }) (turn_by quiet number (reading_taking w (Reads e))) r
-event_taken {taken0} {taken1} {rose} quiet number count w next e h r counts room is t =
-    subst (λ (turn : Turn Playing). Turned {M = Playing} taken0 taken1 rose (record { quiet = quiet; world = w }) (record { quiet = quiet; world = next }) turn r) (sym (turn_is quiet number w next e h room is))
-    (subst (λ n. Turned {M = Playing} taken0 taken1 rose (record { quiet = quiet; world = w }) (record { quiet = quiet; world = next }) (Takes (record { quiet = quiet; world = next }) (text_of quiet (n + 1) next h)) r) counts
+pub event_taken : {old new : SinkState} (quiet : Bool) (number count : ℕ) (w next : World) (e : Event) (h : Happenings) (r : Result (Unit {0}) StopReason) → count ≡ w.events → w.events < MAX_EVENTS → step w e ≡ Ok (next, h)
+    → Told old new (text_of quiet (count + 1) next h) r → Turned {M = Playing} old new (record { quiet = quiet; world = w }) (record { quiet = quiet; world = next }) (turn_by quiet number (reading_taking w (Reads e))) r
+event_taken {old} {new} quiet number count w next e h r counts room is t =
+    subst (λ (turn : Turn Playing). Turned {M = Playing} old new (record { quiet = quiet; world = w }) (record { quiet = quiet; world = next }) turn r) (sym (turn_is quiet number w next e h room is))
+    (subst (λ n. Turned {M = Playing} old new (record { quiet = quiet; world = w }) (record { quiet = quiet; world = next }) (Takes (record { quiet = quiet; world = next }) (text_of quiet (n + 1) next h)) r) counts
     (taken (text_of quiet (count + 1) next h) r t (record { quiet = quiet; world = w }) (record { quiet = quiet; world = next })))
 
 -- what a buffer has that was emptied, where the text was appended

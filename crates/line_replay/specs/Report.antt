@@ -6,6 +6,7 @@ use Rattle.line_driver.specs.Outcomes.{Turn, Skips, Takes, Stops, Outcome, outco
 use Rattle.line_rules.specs.declared.event.Event.{Event}
 use Rattle.line_rules.specs.declared.event.StepFault.TheVariants as faults
 use Rattle.line_world.specs.declared.world.Flight.{Flight}
+use Rattle.line_world.specs.declared.world.TheConstants.{MAX_EVENTS}
 use Rattle.line_world.specs.Worlds.{World, Step, start}
 use Rattle.line_world.specs.Steps.{step}
 use Rattle.line_world.specs.Runs.{Entry}
@@ -33,7 +34,8 @@ step_taking w event (Err faults.Memory) = Skipped
 abbrev pub reading_taking : World → Reading → Taking
 reading_taking w Quiet = Skipped
 reading_taking w NoForm = Refused reasons.Form
-reading_taking w (Reads event) = if nat_lt w.events 50000 then step_taking w event (step w event) else Refused reasons.Events
+reading_taking w (Reads event) =
+    if nat_lt w.events MAX_EVENTS then step_taking w event (step w event) else Refused reasons.Events
 
 -- the reasons of a bad line, in their order
 unfoldable pub taking : World → Content → Taking

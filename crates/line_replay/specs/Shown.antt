@@ -88,6 +88,6 @@ pub show_stops : (frames number : ℕ) → IsStop (show_turn frames number TooMu
 unfolding show_turn
 show_stops frames number = tt
 
--- the shown text, and how it ends
-abbrev pub shown : List ℕ → Bool → Outcome ℕ
-shown octets ended = outcome_of show_turn frames_text 0 octets ended
+-- what showing lines does: its text, and how it ends
+abbrev pub show_outcome : List ℕ → Bool → Outcome ℕ
+show_outcome octets ended = outcome_of show_turn frames_text 0 octets ended

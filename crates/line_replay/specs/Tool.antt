@@ -1,18 +1,20 @@
 -- What the tool's call says.
-use Rattle.std.specs.Prelude.{◌≡◌, ℕ, ◌<◌, Bool, true, false, ◌&&◌, List, [], ◌∷◌, ◌++◌, String, IsTrue, Some, None, codes, string_bytes, bytes_eq, if◌then◌else◌}
+use Rattle.std.specs.Prelude.{◌≡◌, ℕ, ◌<◌, Bool, true, false, ◌&&◌, List, [], ◌∷◌, ◌++◌, length, String, Some, None, codes, string_bytes, bytes_eq, if◌then◌else◌}
 use Rattle.std.specs.declared.option.Option.{Option}
 use Rattle.std.specs.declared.alloc.Global.{Global}
-use Rattle.std.specs.Io.KnownBytes.{Consumes, Appends}
-use Rattle.plc_base.specs.Streams.{IsPrefixOf}
+use Rattle.std.specs.Io.KnownBytes.{Appends}
+use Rattle.plc_base.specs.Streams.{SourceState, SinkState, SinkFaults, SinkRose, IsPrefixOf}
 use Rattle.line_driver.specs.declared.machine.Exit.{Exit}
 use Rattle.line_driver.specs.declared.machine.Exit.TheVariants as exits
-use Rattle.line_driver.specs.Outcomes.{Outcome, Ending, Bad, Ended, Open, StopsShortOf}
+use Rattle.line_driver.specs.Outcomes.{Outcome}
+use Rattle.line_driver.specs.Clauses.{Drives}
 use Rattle.line_world.specs.Worlds.{start}
 use Rattle.line_world.specs.Runs.{Entry, IsSafe, IsForgedRight, IsCounted, HaveNewNonces, IsRestarting, CountsRight}
 use Rattle.line_replay.specs.declared.tool.Command.{Command}
 use Rattle.line_replay.specs.declared.tool.Command.TheVariants.{Replay, Show, Vectors}
 use Rattle.line_replay.specs.declared.status.Status.{Status}
 use Rattle.line_replay.specs.declared.status.Status.TheVariants as status
+use Rattle.line_replay.specs.Shown.{show_outcome}
 use Rattle.line_replay.specs.Report.{is_forged, outcome, report, entries, entries_text, last_text, forged_in, IsQuieted}
 
 -- the command that words name, if they are of a form
@@ -23,7 +25,10 @@ command_of (word ∷ []) =
     else (if bytes_eq (string_bytes word) (codes "show") then Some Show
     else (if bytes_eq (string_bytes word) (codes "vectors") then Some Vectors
     else None))
-command_of (word ∷ option ∷ []) = if bytes_eq (string_bytes word) (codes "replay") && bytes_eq (string_bytes option) (codes "-q") then Some (Replay true) else None
+command_of (word ∷ option ∷ []) =
+    if bytes_eq (string_bytes word) (codes "replay") && bytes_eq (string_bytes option) (codes "-q")
+    then Some (Replay true)
+    else None
 command_of (word ∷ option ∷ other ∷ words) = None
 
 -- the status of a run over lines, which has seen a forged event or not
@@ -35,34 +40,20 @@ status_of exits.Memory forged = status.Memory
 status_of exits.ReadFault forged = status.ReadFault
 status_of exits.WriteFault forged = status.WriteFault
 
--- a script has ended, in a state with this property
-abbrev pub EndsIn : {M : Type 0} → Ending M → (M → Type 0) → Type 0
-EndsIn (Ended last) P = P last
-EndsIn (Bad number behind) P = ⊥
-EndsIn Open P = ⊥
-
--- Why a status comes where lines are read, whose outcome is given: over the octets b that the source gave and the text w that the
--- sink took. At a bad line, at most `ahead` octets of b stand behind it. A test of the last state tells Fine and Forged apart.
-abbrev pub Comes : {M : Type 0} → (M → Bool) → (List ℕ → Bool → Outcome M) → ℕ → Bool → List ℕ → List ℕ → Type 0 → Type 0 → Status → Type 0
-Comes forged outcome ahead ended b w source_rose sink_rose status.Fine = IsTrue ended × EndsIn (outcome b true).ending (λ last. forged last ≡ false) × (w ≡ (outcome b true).text)
-Comes forged outcome ahead ended b w source_rose sink_rose status.Forged = IsTrue ended × EndsIn (outcome b true).ending (λ last. forged last ≡ true) × (w ≡ (outcome b true).text)
-Comes forged outcome ahead ended b w source_rose sink_rose status.BadScript = StopsShortOf ahead (outcome b ended).ending × (w ≡ (outcome b ended).text)
-Comes forged outcome ahead ended b w source_rose sink_rose status.ReadFault = source_rose × ((outcome b false).ending ≡ Open) × (w ≡ (outcome b false).text)
-Comes forged outcome ahead ended b w source_rose sink_rose status.WriteFault = sink_rose × IsPrefixOf w (outcome b ended).text
-Comes forged outcome ahead ended b w source_rose sink_rose status.Memory = IsPrefixOf w (outcome b ended).text
-Comes forged outcome ahead ended b w source_rose sink_rose status.Usage = ⊥
-
--- What reading lines did: what the source gave, what the sink took, and why it ended so.
-pub record Ran {M : Type 0} (forged : M → Bool) (outcome : List ℕ → Bool → Outcome M) (ahead : ℕ) (left0 left1 taken0 taken1 : Option (List ℕ)) (ended : Bool) (source_rose sink_rose : Type 0) (result : Status) : Type 0 where
-  pub b : List ℕ
-  pub w : List ℕ
-  pub gave : Consumes left0 left1 b
-  pub wrote : Appends taken0 taken1 w
-  pub comes : Comes forged outcome ahead ended b w source_rose sink_rose result
+-- What reading lines did: how the run ended, the last state where it came to the end of input, and the status of both.
+pub record Ran {M : Type 0} (forged : M → Bool) (outcome : List ℕ → Bool → Outcome M) (source0 source1 : SourceState) (sink0 sink1 : SinkState) (result : Status) : Type 0 where
+  pub exit : Exit
+  pub last : M
+  pub drives : Drives outcome last source0 source1 sink0 sink1 exit
+  pub status : result ≡ status_of exit (forged last)
 
 -- no frame that is shown is forged
 abbrev pub none_forged : ℕ → Bool
 none_forged frames = false
+
+-- What showing frames did.
+abbrev pub Shows : SourceState → SourceState → SinkState → SinkState → Status → Type 0
+Shows source0 source1 sink0 sink1 result = Ran none_forged show_outcome source0 source1 sink0 sink1 result
 
 -- a status says of a run whether an event of it is forged
 abbrev pub Names : Status → ℕ → Type 0
@@ -94,28 +85,31 @@ pub record Holds (entries : List Entry) : Type 0 where
   pub counts : CountsRight start entries
 
 -- What a replay did: the same, and what holds of its run.
-pub record Replays (quiet : Bool) (ahead : ℕ) (left0 left1 taken0 taken1 : Option (List ℕ)) (ended : Bool) (source_rose sink_rose : Type 0) (result : Status) : Type 0 where
-  pub ran : Ran is_forged (outcome quiet) ahead left0 left1 taken0 taken1 ended source_rose sink_rose result
+pub record Replays (quiet : Bool) (source0 source1 : SourceState) (sink0 sink1 : SinkState) (result : Status) : Type 0 where
+  pub ran : Ran is_forged (outcome quiet) source0 source1 sink0 sink1 result
   -- the report is the lines of the run's entries, and then the last line
-  pub by_entries : (e : Bool) → report quiet ran.b e ≡ entries_text quiet (entries ran.b e) ++ last_text ran.b e
+  pub by_entries : (e : Bool)
+      → report quiet ran.drives.b e ≡ entries_text quiet (entries ran.drives.b e) ++ last_text ran.drives.b e
   -- the quiet report is the other one without the lines of the flights
-  pub quieted : (e : Bool) → IsQuieted (report false ran.b e) (report true ran.b e)
-  pub holds : (e : Bool) → Holds (entries ran.b e)
+  pub quieted : (e : Bool) → IsQuieted (report false ran.drives.b e) (report true ran.drives.b e)
+  pub holds : (e : Bool) → Holds (entries ran.drives.b e)
   -- the status names a forged event exactly where there is one
-  pub named : Names result (forged_in (entries ran.b true))
+  pub named : Names result (forged_in (entries ran.drives.b true))
 
--- Why a status comes where one text is written and nothing is read: all of it was written, and the status is the one for that; or
--- the sink failed, and a front of it was written.
-abbrev pub TellsBy : List ℕ → Status → List ℕ → Type 0 → Status → Type 0
-TellsBy text done w sink_rose status.Fine = (done ≡ status.Fine) × (w ≡ text)
-TellsBy text done w sink_rose status.Usage = (done ≡ status.Usage) × (w ≡ text)
-TellsBy text done w sink_rose status.WriteFault = sink_rose × IsPrefixOf w text
-TellsBy text done w sink_rose status.BadScript = ⊥
-TellsBy text done w sink_rose status.Forged = ⊥
-TellsBy text done w sink_rose status.Memory = ⊥
-TellsBy text done w sink_rose status.ReadFault = ⊥
+-- Why a status comes where one text is written and nothing is read: all of it was written, and the status is the one for that;
+-- or the sink failed, and a prefix of it was written.
+abbrev pub TellsBy : List ℕ → Status → List ℕ → SinkState → SinkState → Status → Type 0
+TellsBy text done w sink0 sink1 status.Fine = (done ≡ status.Fine) × (w ≡ text)
+TellsBy text done w sink0 sink1 status.Usage = (done ≡ status.Usage) × (w ≡ text)
+TellsBy text done w sink0 sink1 status.WriteFault = SinkRose sink0 sink1 × IsPrefixOf w text
+TellsBy text done w sink0 sink1 status.BadScript = ⊥
+TellsBy text done w sink0 sink1 status.Forged = ⊥
+TellsBy text done w sink0 sink1 status.Memory = ⊥
+TellsBy text done w sink0 sink1 status.ReadFault = ⊥
 
-pub record Tells (text : List ℕ) (done : Status) (taken0 taken1 : Option (List ℕ)) (sink_rose : Type 0) (result : Status) : Type 0 where
+-- What the writing of one text did.
+pub record Tells (text : List ℕ) (done : Status) (sink0 sink1 : SinkState) (result : Status) : Type 0 where
   pub w : List ℕ
-  pub wrote : Appends taken0 taken1 w
-  pub by : TellsBy text done w sink_rose result
+  pub wrote : Appends sink0.taken sink1.taken w
+  pub by : TellsBy text done w sink0 sink1 result
+  pub faults : SinkFaults sink0 sink1 (length text)

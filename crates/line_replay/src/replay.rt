@@ -1,6 +1,5 @@
 //! A world that takes the lines of a script and reports what they do.
-ghost use Rattle.std.specs.Prelude.{◌≡◌, ◌≤◌, ◌++◌, OnOk, string_bytes};
-ghost use Rattle.plc_base.specs.Causes.{Rose};
+ghost use Rattle.std.specs.Prelude.{◌≡◌, ◌++◌, OnOk, string_bytes};
 ghost use Rattle.line_driver.specs.Clauses.{Turned};
 ghost use Rattle.line_world.specs.Worlds.{start};
 ghost use Rattle.line_replay.specs.declared.reading.Reading.TheVariants.{Reads};
@@ -9,7 +8,7 @@ ghost use Rattle.line_replay.specs.Report.{Playing, is_forged, reading_taking, t
 
 use crate::reading::{LINE_OCTETS, Reading, read_line};
 use crate::report::{Reason, end_text, push_happened, push_sent, refuse};
-use line_driver::{Exit, LineKind, LineMachine, tell, tell_made};
+use line_driver::{LineKind, LineMachine, StopReason, tell, tell_made};
 use line_rules::{Event, Happenings, StepFault};
 use line_world::{MAX_EVENTS, World};
 use plc_base::{FrameBuf, Sink};
@@ -22,7 +21,7 @@ struct Player {
     alloc: Global,
     quiet: bool,
     world: World,
-    // Where the payload stands of the frame that was opened last.
+    // Where the payload is of the frame that was opened last.
     payload: FrameBuf,
     // The report of the event that was taken last.
     text: String,
@@ -45,7 +44,9 @@ fn push_entry(
     number: u32,
     happened: &Happenings<'_>,
 ) -> Result<(), AllocError>
-    ensures { OnOk result (string_bytes text.new ≡ string_bytes text.old ++ (happened_text number happened.now ++ sent_text quiet world.now happened.now.first_flight)) }
+    ensures { OnOk result (string_bytes text.new
+        ≡ string_bytes text.old
+        ++ (happened_text number happened.now ++ sent_text quiet world.now happened.now.first_flight)) }
 {
     push_happened(text, alloc, number, happened)?;
     push_sent(text, alloc, quiet, world, happened.first_flight)
@@ -59,9 +60,9 @@ impl Player {
         number: u32,
         event: &Event<'_>,
         sink: &mut K,
-    ) -> Result<(), Exit>
-        ensures turned { Turned (K.taken sink.old) (K.taken sink.new) (Rose (K.faults sink.old) (K.faults sink.new)) self.old self.new (turn_by self.old.quiet number (reading_taking self.old.world (Reads event.now))) result }
-        ensures later { K.faults sink.old ≤ K.faults sink.new }
+    ) -> Result<(), StopReason>
+        ensures { Turned (K.state sink.old) (K.state sink.new) self.old self.new
+            (turn_by self.old.quiet number (reading_taking self.old.world (Reads event.now))) result }
     {
         let taken = self.world.counts().events;
         if taken >= MAX_EVENTS {
@@ -69,7 +70,7 @@ impl Player {
         }
         let happened = match self.world.step(event, &mut self.payload) {
             Ok(happened) => happened,
-            Err(StepFault::Memory) => return Err(Exit::Memory),
+            Err(StepFault::Memory) => return Err(StopReason::Memory),
             Err(StepFault::Setup) => return refuse(self.alloc, number, Reason::Setup, sink),
             Err(StepFault::Node) => return refuse(self.alloc, number, Reason::Node, sink),
             Err(StepFault::Flight) => return refuse(self.alloc, number, Reason::Flight, sink),
@@ -92,7 +93,7 @@ impl Player {
 pub struct Replay {
     alloc: Global,
     player: Player,
-    // Where the octets stand that the line holds in hexadecimal.
+    // Where the octets are that the line holds in hexadecimal.
     space: [u8; LINE_OCTETS],
 }
 
@@ -144,7 +145,7 @@ impl LineMachine for Replay {
         kind: LineKind,
         line: &[u8],
         sink: &mut K,
-    ) -> Result<(), Exit> {
+    ) -> Result<(), StopReason> {
         let alloc = self.alloc;
         match kind {
             LineKind::TooMuch => refuse(alloc, number, Reason::Input, sink),
@@ -157,7 +158,7 @@ impl LineMachine for Replay {
         }
     }
 
-    fn finish<K: Sink>(&self, sink: &mut K) -> Result<(), Exit> {
+    fn finish<K: Sink>(&self, sink: &mut K) -> Result<(), StopReason> {
         tell(sink, end_text(self.player.alloc, &self.player.world))
     }
 }

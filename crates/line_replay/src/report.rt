@@ -1,10 +1,9 @@
 //! The texts of a report.
-ghost use Rattle.std.specs.Prelude.{◌≡◌, ◌≤◌, ◌+◌, ◌-◌, ◌++◌, length, IfOk, OnOk, string_bytes, codes, Some};
-ghost use Rattle.plc_base.specs.Causes.{Rose};
+ghost use Rattle.std.specs.Prelude.{◌≡◌, ◌+◌, ◌-◌, ◌++◌, length, IfOk, OnOk, string_bytes, codes, Some};
 ghost use Rattle.line_driver.specs.Clauses.{StopsWith};
 ghost use Rattle.line_replay.specs.Texts.{answer_word, verdict_word, reason_word, answer_text, up_text, forged_text, happened_text, fly_text, flies_text, sent_text, bad_text, end_text};
 
-use line_driver::{Exit, stop};
+use line_driver::{StopReason, stop};
 use line_rules::{Answer, Handed, Happenings};
 use line_world::World;
 use plc_base::Sink;
@@ -254,7 +253,8 @@ pub fn push_sent(
 }
 
 fn push_flies(text: &mut String, alloc: Global, world: &World, first: u32) -> Result<(), AllocError>
-    ensures { OnOk result (string_bytes text.new ≡ string_bytes text.old ++ flies_text world.now first (length world.now.flights + 1 - first)) }
+    ensures { OnOk result (string_bytes text.new
+        ≡ string_bytes text.old ++ flies_text world.now first (length world.now.flights + 1 - first)) }
 {
     let last = world.counts().flights;
     for number in u64::from(first)..u64::from(last) + 1 {
@@ -287,9 +287,13 @@ pub fn end_text(alloc: Global, world: &World) -> Result<String, AllocError>
 }
 
 /// Reports a bad line, at which the run stops.
-pub fn refuse<K: Sink>(alloc: Global, number: u32, reason: Reason, sink: &mut K) -> Result<(), Exit>
-    ensures stops { StopsWith (K.taken sink.old) (K.taken sink.new) (Rose (K.faults sink.old) (K.faults sink.new)) (bad_text number reason) result }
-    ensures later { K.faults sink.old ≤ K.faults sink.new }
+pub fn refuse<K: Sink>(
+    alloc: Global,
+    number: u32,
+    reason: Reason,
+    sink: &mut K,
+) -> Result<(), StopReason>
+    ensures { StopsWith (K.state sink.old) (K.state sink.new) (bad_text number reason) result }
 {
     stop(sink, bad_text(alloc, number, reason))
 }

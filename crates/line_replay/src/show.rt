@@ -5,7 +5,7 @@ ghost use Rattle.mac_frames.specs.Faults.{frame_fault};
 
 use crate::reading::{LINE_OCTETS, hex_octets};
 use crate::report::{Reason, refuse};
-use line_driver::{Exit, LineKind, LineMachine, tell};
+use line_driver::{LineKind, LineMachine, StopReason, tell};
 use mac_frames::{FrameFault, FrameFaultKind, MacHead, read_frame};
 use plc_base::{Eui, OctetRef, Sink};
 use std::alloc::{AllocError, Global};
@@ -184,7 +184,7 @@ impl LineMachine for Show {
         kind: LineKind,
         line: &[u8],
         sink: &mut K,
-    ) -> Result<(), Exit> {
+    ) -> Result<(), StopReason> {
         match kind {
             LineKind::TooMuch => refuse(self.alloc, number, Reason::Input, sink),
             LineKind::Long => refuse(self.alloc, number, Reason::Long, sink),
@@ -194,7 +194,7 @@ impl LineMachine for Show {
                 FrameLine::Reads(octets) => {
                     // No input has so many lines.
                     let Some(frames) = self.frames.checked_add(1) else {
-                        return Err(Exit::Memory);
+                        return Err(StopReason::Memory);
                     };
                     self.frames = frames;
                     tell(sink, shown_text(self.alloc, number, octets.octets()))
@@ -203,7 +203,7 @@ impl LineMachine for Show {
         }
     }
 
-    fn finish<K: Sink>(&self, sink: &mut K) -> Result<(), Exit> {
+    fn finish<K: Sink>(&self, sink: &mut K) -> Result<(), StopReason> {
         tell(sink, frames_text(self.alloc, self.frames))
     }
 }

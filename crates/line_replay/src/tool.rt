@@ -1,16 +1,15 @@
 //! All that the program does.
 ghost use Rattle.std.specs.Prelude.{◌≡◌, ◌≤◌, ◌⊎◌, Bool, true, Some, None};
 ghost use Rattle.std.specs.Io.KnownBytes.{IsAtEnd};
-ghost use Rattle.plc_base.specs.Causes.{Rose};
-ghost use Rattle.line_replay.specs.Tool.{Ran, Replays, Tells, command_of, status_of, none_forged, is_whole};
-ghost use Rattle.line_replay.specs.Shown.{shown};
+ghost use Rattle.plc_base.specs.Streams.{SourceFaults, SourceRose, SinkRose};
+ghost use Rattle.line_replay.specs.Tool.{Replays, Shows, Tells, command_of, status_of, is_whole};
 ghost use Rattle.line_replay.specs.Texts.{usage_text};
 ghost use Rattle.standard_vectors.specs.VectorsText.{vectors_text};
 
 use crate::replay::Replay;
 use crate::show::Show;
 use crate::status::Status;
-use line_driver::{Exit, WINDOW, run};
+use line_driver::{Exit, run};
 use line_world::{
     counters_only_rise, counts_are_right, every_run_is_safe, forged_events_are_told, nonces_differ,
     restarts_succeed,
@@ -35,13 +34,13 @@ fn status_of(exit: Exit, forged: bool) -> Status
 
 /// Reads a script from the source, and writes its report to the sink: a quiet one without the octets of the flights.
 fn replay<S: Source, K: Sink>(alloc: Global, quiet: bool, source: &mut S, sink: &mut K) -> Status
-    ensures replays { Replays quiet WINDOW (S.left source.old) (S.left source.new) (K.taken sink.old) (K.taken sink.new) (S.ended source.new)
-        (Rose (S.faults source.old) (S.faults source.new)) (Rose (K.faults sink.old) (K.faults sink.new)) result }
-    ensures whole { is_whole result ≡ true → IsAtEnd (S.left source.new) }
-    ensures read { result ≡ Status.ReadFault → Rose (S.faults source.old) (S.faults source.new) }
-    ensures write { result ≡ Status.WriteFault → Rose (K.faults sink.old) (K.faults sink.new) }
-    ensures source { S.faults source.old ≤ S.faults source.new }
-    ensures sink { K.faults sink.old ≤ K.faults sink.new }
+    ensures replays { Replays quiet (S.state source.old) (S.state source.new)
+        (K.state sink.old) (K.state sink.new) result }
+    ensures whole { is_whole result ≡ true → IsAtEnd ((S.state source.new).left) }
+    ensures read { result ≡ Status.ReadFault → SourceRose (S.state source.old) (S.state source.new) }
+    ensures write { result ≡ Status.WriteFault → SinkRose (K.state sink.old) (K.state sink.new) }
+    ensures source { SourceFaults (S.state source.old) (S.state source.new) }
+    ensures sink { (K.state sink.old).faults ≤ (K.state sink.new).faults }
 {
     every_run_is_safe();
     forged_events_are_told();
@@ -56,13 +55,12 @@ fn replay<S: Source, K: Sink>(alloc: Global, quiet: bool, source: &mut S, sink: 
 
 /// Reads frames from the source, and writes to the sink what each is.
 fn show<S: Source, K: Sink>(alloc: Global, source: &mut S, sink: &mut K) -> Status
-    ensures shows { Ran none_forged shown WINDOW (S.left source.old) (S.left source.new) (K.taken sink.old) (K.taken sink.new) (S.ended source.new)
-        (Rose (S.faults source.old) (S.faults source.new)) (Rose (K.faults sink.old) (K.faults sink.new)) result }
-    ensures whole { is_whole result ≡ true → IsAtEnd (S.left source.new) }
-    ensures read { result ≡ Status.ReadFault → Rose (S.faults source.old) (S.faults source.new) }
-    ensures write { result ≡ Status.WriteFault → Rose (K.faults sink.old) (K.faults sink.new) }
-    ensures source { S.faults source.old ≤ S.faults source.new }
-    ensures sink { K.faults sink.old ≤ K.faults sink.new }
+    ensures shows { Shows (S.state source.old) (S.state source.new) (K.state sink.old) (K.state sink.new) result }
+    ensures whole { is_whole result ≡ true → IsAtEnd ((S.state source.new).left) }
+    ensures read { result ≡ Status.ReadFault → SourceRose (S.state source.old) (S.state source.new) }
+    ensures write { result ≡ Status.WriteFault → SinkRose (K.state sink.old) (K.state sink.new) }
+    ensures source { SourceFaults (S.state source.old) (S.state source.new) }
+    ensures sink { (K.state sink.old).faults ≤ (K.state sink.new).faults }
 {
     let mut show = Show::new(alloc);
     let exit = run(alloc, &mut show, source, sink);
@@ -72,8 +70,7 @@ fn show<S: Source, K: Sink>(alloc: Global, source: &mut S, sink: &mut K) -> Stat
 /// Writes a text, and answers `done` where all of it was written.
 fn tell<K: Sink>(sink: &mut K, text: &[u8], done: Status) -> Status
     requires { (done ≡ Status.Fine) ⊎ (done ≡ Status.Usage) }
-    ensures tells { Tells text.now done (K.taken sink.old) (K.taken sink.new) (Rose (K.faults sink.old) (K.faults sink.new)) result }
-    ensures later { K.faults sink.old ≤ K.faults sink.new }
+    ensures { Tells text.now done (K.state sink.old) (K.state sink.new) result }
 {
     match write_all(sink, text) {
         Ok(()) => done,
@@ -84,8 +81,8 @@ fn tell<K: Sink>(sink: &mut K, text: &[u8], done: Status) -> Status
 /// The commands that the program has.
 #[derive(Clone, Copy, Debug, PartialEq, Eq)]
 pub enum Command {
-    /// `replay` and `replay -q`: runs a script and reports what the line did, with the octets of the flights or, where it is quiet,
-    /// without them.
+    /// `replay` and `replay -q`: runs a script and reports what the line did, with the octets of the flights or, where it is
+    /// quiet, without them.
     Replay {
         /// Whether the octets of the flights are left out.
         quiet: bool,
@@ -115,34 +112,43 @@ const USAGE: &[u8; 58] = b"usage: line_replay replay [-q] | show | vectors | dri
 
 /// All that the program does, with the words after its name.
 ///
-/// `replay` reads a script and writes what its line did, `replay -q` the same without the octets of the flights. `show` reads frames in hexadecimal and writes what each is. `vectors`
-/// writes what the ciphers make of known inputs. Other words write the usage line. These two read nothing, and never answer Memory.
+/// `replay` reads a script and writes what its line did, `replay -q` the same without the octets of the flights. `show` reads
+/// frames in hexadecimal and writes what each is. `vectors` writes what the ciphers make of known inputs. Other words write the
+/// usage line. These two read nothing, and never answer Memory.
+///
+/// Where no read of the source and no write of the sink is to fail, and the sink has room for the whole text, neither count of
+/// faults changes, so that neither fault comes.
 pub fn run_tool<S: Source, K: Sink>(
     alloc: Global,
     words: &[String],
     source: &mut S,
     sink: &mut K,
 ) -> Status
-    // What was read and written, why this status came, and what holds of the run: up to its first forged event every datagram that was
-    // handed up was sent to that node with the same octets, none is handed up twice, a meter holds only group keys that were issued to
-    // it, and no table passes its size; in every run the counters of a node's flights rise, and no two flights have one nonce.
-    ensures replays { (quiet : Bool) → command_of words.now ≡ Some (Command.Replay quiet) → Replays quiet WINDOW (S.left source.old) (S.left source.new) (K.taken sink.old) (K.taken sink.new) (S.ended source.new)
-        (Rose (S.faults source.old) (S.faults source.new)) (Rose (K.faults sink.old) (K.faults sink.new)) result }
+    // What was read and written, why this status came, and what holds of the run: up to its first forged event every datagram
+    // that was handed up was sent to that node with the same octets, none is handed up twice, a meter holds only group keys that
+    // were issued to it, and no table passes its size; in every run the counters of a node's flights rise, and no two flights
+    // have one nonce.
+    ensures replays { (quiet : Bool) → command_of words.now ≡ Some (Command.Replay quiet)
+        → Replays quiet (S.state source.old) (S.state source.new) (K.state sink.old) (K.state sink.new) result }
     // What was read and written of frames, and why this status came.
-    ensures shows { command_of words.now ≡ Some Command.Show → Ran none_forged shown WINDOW (S.left source.old) (S.left source.new) (K.taken sink.old) (K.taken sink.new) (S.ended source.new)
-        (Rose (S.faults source.old) (S.faults source.new)) (Rose (K.faults sink.old) (K.faults sink.new)) result }
+    ensures shows { command_of words.now ≡ Some Command.Show
+        → Shows (S.state source.old) (S.state source.new) (K.state sink.old) (K.state sink.new) result }
     // What ends Fine or Forged was read whole.
-    ensures whole_script { (quiet : Bool) → command_of words.now ≡ Some (Command.Replay quiet) → is_whole result ≡ true → IsAtEnd (S.left source.new) }
-    ensures whole_frames { command_of words.now ≡ Some Command.Show → is_whole result ≡ true → IsAtEnd (S.left source.new) }
+    ensures whole_script { (quiet : Bool) → command_of words.now ≡ Some (Command.Replay quiet)
+        → is_whole result ≡ true → IsAtEnd ((S.state source.new).left) }
+    ensures whole_frames { command_of words.now ≡ Some Command.Show
+        → is_whole result ≡ true → IsAtEnd ((S.state source.new).left) }
     // The vectors are those of the definitions, and nothing is read for them.
-    ensures vectors { command_of words.now ≡ Some Command.Vectors → (source.new ≡ source.old) × Tells vectors_text Status.Fine (K.taken sink.old) (K.taken sink.new) (Rose (K.faults sink.old) (K.faults sink.new)) result }
+    ensures vectors { command_of words.now ≡ Some Command.Vectors
+        → (source.new ≡ source.old) × Tells vectors_text Status.Fine (K.state sink.old) (K.state sink.new) result }
     // Other words write the usage line, and nothing is read.
-    ensures usage { command_of words.now ≡ None → (source.new ≡ source.old) × Tells usage_text Status.Usage (K.taken sink.old) (K.taken sink.new) (Rose (K.faults sink.old) (K.faults sink.new)) result }
+    ensures usage { command_of words.now ≡ None
+        → (source.new ≡ source.old) × Tells usage_text Status.Usage (K.state sink.old) (K.state sink.new) result }
     // A fault has its cause outside.
-    ensures read { result ≡ Status.ReadFault → Rose (S.faults source.old) (S.faults source.new) }
-    ensures write { result ≡ Status.WriteFault → Rose (K.faults sink.old) (K.faults sink.new) }
-    ensures source { S.faults source.old ≤ S.faults source.new }
-    ensures sink { K.faults sink.old ≤ K.faults sink.new }
+    ensures read { result ≡ Status.ReadFault → SourceRose (S.state source.old) (S.state source.new) }
+    ensures write { result ≡ Status.WriteFault → SinkRose (K.state sink.old) (K.state sink.new) }
+    ensures source { SourceFaults (S.state source.old) (S.state source.new) }
+    ensures sink { (K.state sink.old).faults ≤ (K.state sink.new).faults }
 {
     match command_of(words) {
         Some(Command::Replay { quiet }) => replay(alloc, quiet, source, sink),

@@ -1,5 +1,6 @@
-use Rattle.std.proofs.Common.{None, Some, arith}
+use Rattle.std.proofs.Common.{None, Some, sym, subst, arith}
 use Rattle.std.proofs.lemmas.Bool.{both_ways}
+use Rattle.line_driver.specs.Clauses.{Drives}
 use Rattle.line_driver.proofs.Follow.{so_far_none, next_at, so_far_more, advanced, ends_at_line, ends_fine, ends_short, ends_unread}
 use Rattle.line_driver.proofs.machine.follow.Goals as goal
 
@@ -8,12 +9,12 @@ loop-machine-init g c = record {
   so_far = so_far_none _ _ _ _ _ _ _ _ _ c.requires.seen c.requires.count c.requires.window;
   over = λ ended. absurd (both_ways _ c.requires.going ended);
   within = omega arith;
-  source_later = omega arith;
-  sink_later = omega arith;
 }
 
 pub returns-in-Err-clause-drives : goal.returns-in-Err-clause-drives
-returns-in-Err-clause-drives g c = ends_unread _ _ _ g.met.M.LineMachine.stops c.loop-machine.invariant.so_far c.in-Err.ensures.next 8192 _ _ _ (omega (arith, c.loop-machine.invariant.source_later, c.in-Err.ensures.cause.failed))
+returns-in-Err-clause-drives g c =
+    let read = c.in-Err.ensures.faults in
+    ends_unread _ _ _ g.met.M.LineMachine.stops c.loop-machine.invariant.so_far c.in-Err.ensures.next read.faults read.failed
 
 pub returns-in-Ok-clause-drives : goal.returns-in-Ok-clause-drives
 returns-in-Ok-clause-drives g c =
@@ -24,60 +25,47 @@ returns-in-Ok-clause-drives g c =
     g.met.M.LineMachine.stops
     c.loop-machine.invariant.so_far
     (next_at c.in-Ok-None.ensures.next None c.in-Ok-None.field-0-is)
-    8192
-    _
     (λ ended. (c.in-Ok-None.ensures.over c.loop-machine.invariant.over ended).0)
-    _
-    _
-    c.in-Ok.ensures.told
+    c.in-Ok-None.ensures.faults.faults
+    c.in-Ok.ensures
 
 pub returns-in-Err-finish-clause-drives : goal.returns-in-Err-finish-clause-drives
 returns-in-Err-finish-clause-drives g c =
-    ends_short
+    subst (Drives _ _ _ _ _ _) (sym c.from.ensures) (ends_short
     _
     _
     _
     g.met.M.LineMachine.stops
     c.loop-machine.invariant.so_far
     (next_at c.in-Ok-None.ensures.next None c.in-Ok-None.field-0-is)
-    8192
-    _
     (λ ended. (c.in-Ok-None.ensures.over c.loop-machine.invariant.over ended).0)
-    _
-    _
-    c.in-Err-finish.end
-    (λ rose. omega (arith, rose, c.loop-machine.invariant.sink_later))
-    c.in-Err-finish.ensures.told
+    c.in-Ok-None.ensures.faults.faults
+    c.in-Err-finish.reason
+    c.in-Err-finish.ensures)
 
 pub loop-machine-smaller : goal.loop-machine-smaller
 loop-machine-smaller g c =
-    let more = advanced _ _ _ g.met.M.LineMachine.stops c.loop-machine.invariant.so_far (next_at c.in-Ok-Some.ensures.next (Some c.in-Ok-Some.kind) c.in-Ok-Some.field-0-is) c.in-Ok-take_line.ensures.turned in omega (arith, more.0, more.1)
+    let more = advanced _ _ _ g.met.M.LineMachine.stops c.loop-machine.invariant.so_far (next_at c.in-Ok-Some.ensures.next (Some c.in-Ok-Some.kind) c.in-Ok-Some.field-0-is) c.in-Ok-take_line.ensures in omega (arith, more.0, more.1)
 
 pub loop-machine-preserved : goal.loop-machine-preserved
 loop-machine-preserved g c =
     let n = next_at c.in-Ok-Some.ensures.next (Some c.in-Ok-Some.kind) c.in-Ok-Some.field-0-is in record {
-      so_far = so_far_more _ _ _ g.met.M.LineMachine.stops c.loop-machine.invariant.so_far n c.in-Ok-take_line.ensures.turned;
+      so_far = so_far_more _ _ _ g.met.M.LineMachine.stops c.loop-machine.invariant.so_far n c.in-Ok-Some.ensures.faults.faults c.in-Ok-take_line.ensures;
       over = c.in-Ok-Some.ensures.over c.loop-machine.invariant.over;
-      within = (advanced _ _ _ g.met.M.LineMachine.stops c.loop-machine.invariant.so_far n c.in-Ok-take_line.ensures.turned).1;
-      source_later = omega (arith, c.loop-machine.invariant.source_later, c.in-Ok-Some.ensures.cause.later);
-      sink_later = omega (arith, c.loop-machine.invariant.sink_later, c.in-Ok-take_line.ensures.later);
+      within = (advanced _ _ _ g.met.M.LineMachine.stops c.loop-machine.invariant.so_far n c.in-Ok-take_line.ensures).1;
     }
 
 pub returns-in-Err-take_line-clause-drives : goal.returns-in-Err-take_line-clause-drives
 returns-in-Err-take_line-clause-drives g c =
-    ends_at_line
+    subst (Drives _ _ _ _ _ _) (sym c.from-in-Err-take_line.ensures) (ends_at_line
     _
     _
     _
     g.met.M.LineMachine.stops
     c.loop-machine.invariant.so_far
     (next_at c.in-Ok-Some.ensures.next (Some c.in-Ok-Some.kind) c.in-Ok-Some.field-0-is)
-    8192
-    _
     (λ ended. (c.in-Ok-Some.ensures.over c.loop-machine.invariant.over ended).0)
-    _
-    _
-    c.in-Err-take_line.end
+    c.in-Err-take_line.reason
     c.next_line.new.self.bounded
-    (λ rose. omega (arith, rose, c.loop-machine.invariant.sink_later))
-    c.in-Err-take_line.ensures.turned
+    c.in-Ok-Some.ensures.faults.faults
+    c.in-Err-take_line.ensures)

@@ -5,11 +5,9 @@ use Rattle.line_driver.proofs.machine.follow.Given as goal
 
 abbrev pub invariant-loop-machine : goal.invariant-loop-machine
 invariant-loop-machine g l = record {
-  so_far : SoFar g.M.LineMachine.turn g.M.LineMachine.end_text l.fn.machine (g.S.Source.left l.fn.source) (g.S.Source.left l.source) (g.K.Sink.taken l.fn.sink) (g.K.Sink.taken l.sink) l.machine l.input.seen l.input.count l.input.window.ahead l.input.ended;
-  over : IsTrue l.input.ended → IsOver (g.S.Source.ended l.source) (g.S.Source.left l.source);
+  so_far : SoFar g.M.LineMachine.turn g.M.LineMachine.end_text l.fn.machine (g.S.Source.state l.fn.source) (g.S.Source.state l.source) (g.K.Sink.state l.fn.sink) (g.K.Sink.state l.sink) l.machine l.input.seen l.input.count l.input.window.ahead l.input.ended;
+  over : IsTrue l.input.ended → IsOver (g.S.Source.state l.source);
   within : l.input.seen ≤ 67108864;
-  source_later : g.S.Source.faults l.fn.source ≤ g.S.Source.faults l.source;
-  sink_later : g.K.Sink.faults l.fn.sink ≤ g.K.Sink.faults l.sink;
 }
 
 abbrev pub decreases-loop-machine : goal.decreases-loop-machine

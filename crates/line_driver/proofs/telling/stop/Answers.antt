@@ -5,4 +5,4 @@ pub returns-in-Ok-clause-stops : goal.returns-in-Ok-clause-stops
 returns-in-Ok-clause-stops g c = λ t is. told_stop t c.in-Ok.field-0 (c.in-Ok.ensures.told t is)
 
 pub returns-in-Err-clause-stops : goal.returns-in-Err-clause-stops
-returns-in-Err-clause-stops g c = λ t is. told_short t c.in-Err.exit (c.in-Err.ensures.told t is)
+returns-in-Err-clause-stops g c = λ t is. told_short t c.in-Err.reason (c.in-Err.ensures.told t is)

@@ -1,21 +1,27 @@
 use Rattle.std.proofs.Common.{refl, false}
-use Rattle.line_replay.proofs.Running.{ran_of, whole_of, read_cause, write_cause}
-use Rattle.line_replay.specs.Shown.{show_turn, frames_text, shown}
+use Rattle.line_replay.proofs.Running.{ran_of, whole_exit, read_cause, write_cause}
+use Rattle.line_replay.specs.Shown.{show_outcome}
 use Rattle.line_replay.specs.Tool.{none_forged}
 use Rattle.line_replay.proofs.tool.show.Goals as goal
 
 pub returns-clause-shows : goal.returns-clause-shows
-returns-clause-shows g c = ran_of none_forged show_turn frames_text 0 c.run-exit.new.machine c.run-exit.result false c.status_of.result c.status_of.ensures refl (rw c.new-show.ensures at c.run-exit.ensures.drives)
+returns-clause-shows g c = ran_of none_forged show_outcome c.run-exit.result c.run-exit.new.machine false c.status_of.result c.status_of.ensures refl (rw c.new-show.ensures at c.run-exit.ensures.drives)
 
 pub returns-clause-whole : goal.returns-clause-whole
-returns-clause-whole g c = λ whole. c.run-exit.ensures.whole (whole_of c.run-exit.result false c.status_of.result c.status_of.ensures whole)
+returns-clause-whole g c = λ whole. c.run-exit.ensures.whole (whole_exit c.run-exit.result false c.status_of.result c.status_of.ensures whole)
 
 pub returns-clause-read : goal.returns-clause-read
 returns-clause-read g c =
-    let ran = ran_of none_forged show_turn frames_text 0 c.run-exit.new.machine c.run-exit.result false c.status_of.result c.status_of.ensures refl (rw c.new-show.ensures at c.run-exit.ensures.drives) in
-    λ is. read_cause none_forged shown _ c.status_of.result ran is
+    let ran = ran_of none_forged show_outcome c.run-exit.result c.run-exit.new.machine false c.status_of.result c.status_of.ensures refl (rw c.new-show.ensures at c.run-exit.ensures.drives) in
+    λ is. read_cause ran is
 
 pub returns-clause-write : goal.returns-clause-write
 returns-clause-write g c =
-    let ran = ran_of none_forged show_turn frames_text 0 c.run-exit.new.machine c.run-exit.result false c.status_of.result c.status_of.ensures refl (rw c.new-show.ensures at c.run-exit.ensures.drives) in
-    λ is. write_cause none_forged shown _ c.status_of.result ran is
+    let ran = ran_of none_forged show_outcome c.run-exit.result c.run-exit.new.machine false c.status_of.result c.status_of.ensures refl (rw c.new-show.ensures at c.run-exit.ensures.drives) in
+    λ is. write_cause ran is
+
+pub returns-clause-source : goal.returns-clause-source
+returns-clause-source g c = c.run-exit.ensures.drives.source
+
+pub returns-clause-sink : goal.returns-clause-sink
+returns-clause-sink g c = c.run-exit.ensures.drives.sink_later

@@ -1,6 +1,7 @@
 use Rattle.std.proofs.Common.{◌+◌, ◌-◌, ◌≤◌, refl, ap, ◌∙◌, arith, drop, length, length-drop}
 use Rattle.std.proofs.lemmas.List.{nil_from_length}
 use Rattle.std.proofs.lemmas.Result.{err_from_is_err_and}
+use Rattle.plc_base.proofs.SourceLemmas.{no_reads, both_reads}
 use Rattle.line_driver.specs.Windows.{Window}
 use Rattle.line_driver.proofs.Taking.{taking_none, taking_shed, taking_more, shed_clear, clear_front, found_line, found_too_much, found_at_end, found_failure}
 use Rattle.line_driver.proofs.input.Input.next_line.Goals as goal
@@ -15,7 +16,7 @@ loop-at-init g c = record {
   within = omega (arith, c.requires);
   none = tt;
   over = λ was. was;
-  cause = omega arith;
+  faults = no_reads _;
 }
 
 pub returns-in-Feed-clause-next : goal.returns-in-Feed-clause-next
@@ -88,7 +89,7 @@ loop-at-preserved g c =
     let room : c.loop-at.self.seen + length c.loop-at.self.window.ahead ≤ 67108864 = omega (arith, found.0, c.loop-at.invariant.within) in
     let shed = c.shed-long.ensures.shed in
     let clear = shed_clear c.loop-at.self.seen c.shed-long.new.self.seen c.loop-at.self.window.ahead c.shed-long.new.self.window.ahead c.loop-at.long c.shed-long.result found.1 room shed in
-    let given = c.in_ok-refill.ensures.given in
+    let given = c.in_ok-refill.ensures.refills.given in
     let front = clear_front c.shed-long.new.self.window.ahead c.refill.new.self.window.ahead given.octets given.grown clear.0 in
     let there = c.len-clear.ensures.len in record {
       taking = rw c.in_ok-refill.ensures.seen (taking_more (taking_shed c.loop-at.invariant.taking c.shed-long.new.self.seen c.shed-long.new.self.window.ahead c.shed-long.result found.1 room shed) c.if-self.false given);
@@ -98,8 +99,8 @@ loop-at-preserved g c =
       inside = rw there front.1;
       within = rw (there, c.in_ok-refill.ensures.seen) clear.1;
       none = rw there front.0;
-      over = λ was. c.in_ok-refill.ensures.over;
-      cause = omega (arith, c.loop-at.invariant.cause, c.in_ok-refill.ensures.cause.later);
+      over = λ was. c.in_ok-refill.ensures.refills.over;
+      faults = both_reads c.loop-at.invariant.faults c.in_ok-refill.ensures.refills.faults.faults;
     }
 
 pub returns-in_err-refill-clause-next : goal.returns-in_err-refill-clause-next
@@ -109,4 +110,4 @@ returns-in_err-refill-clause-next g c =
     let shed = c.shed-long.ensures.shed in
     let clear = shed_clear c.loop-at.self.seen c.shed-long.new.self.seen c.loop-at.self.window.ahead c.shed-long.new.self.window.ahead c.loop-at.long c.shed-long.result found.1 room shed in
     let p = err_from_is_err_and c.from_residual.result c.from_residual.ensures.1 in
-    rw p.1 (found_failure (taking_shed c.loop-at.invariant.taking c.shed-long.new.self.seen c.shed-long.new.self.window.ahead c.shed-long.result found.1 room shed) p.0 _ _ _ _ _ c.if-self.false clear.0 clear.1 c.in_err-refill.ensures.err.2)
+    rw p.1 (found_failure (taking_shed c.loop-at.invariant.taking c.shed-long.new.self.seen c.shed-long.new.self.window.ahead c.shed-long.result found.1 room shed) p.0 _ _ _ _ _ c.if-self.false clear.0 clear.1 c.in_err-refill.ensures.refills.kept.2)

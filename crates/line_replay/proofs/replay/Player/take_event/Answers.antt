@@ -3,8 +3,8 @@ use Rattle.line_replay.specs.Texts.{happened_text, sent_text}
 use Rattle.line_replay.proofs.Turning.{event_taken, made_so}
 use Rattle.line_replay.proofs.replay.Player.take_event.Goals as goal
 
-pub returns-clause-turned : goal.returns-clause-turned
-returns-clause-turned g c =
+pub returns : goal.returns
+returns g c =
     rw (← c.self.view_is) (event_taken
     c.self.inside.quiet
     c.args.number
