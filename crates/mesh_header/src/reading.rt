@@ -1,7 +1,9 @@
 //! Reads units.
 ghost use Rattle.std.specs.Prelude.{◌≡◌, ◌≤◌, ◌<◌, ◌∷◌, List, [], length, IfOk, MatchResult, Some, None, Ok};
+ghost use Rattle.std.specs.Result.{result_ok};
 ghost use Rattle.plc_base.specs.Fields.{octet, after};
-ghost use Rattle.mesh_header.specs.Grammar.{Spells};
+ghost use Rattle.mesh_header.specs.Grammar.{Spells, spelled_length};
+ghost use Rattle.mesh_header.specs.Reading.{unit_in};
 ghost use Rattle.mesh_header.specs.Faults.{unit_fault};
 ghost use Rattle.mesh_header.specs.declared.unit.Unit.{Unit};
 
@@ -46,6 +48,9 @@ pub fn read_unit(octets: &[u8]) -> Result<Unit, UnitFault>
     requires { length octets.now ≤ 400 }
     // What is read is spelled so.
     ensures found { IfOk result (λ unit. Spells unit octets.now) }
+    // What is read is the unit that stands in the octets, if they are one.
+    ensures value { unit_in octets.now ≡ result_ok result }
+    ensures length { IfOk result (λ unit. spelled_length unit ≡ length octets.now) }
     // What is spelled so is read.
     ensures only { (unit : Unit) → Spells unit octets.now → result ≡ Ok unit }
     // A fault is the first one.
