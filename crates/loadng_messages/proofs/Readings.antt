@@ -9,7 +9,7 @@ use Rattle.plc_base.specs.Faults.{◌then◌, fault_at, cut_off, address_fault}
 use Rattle.plc_base.specs.Fields.{AreOctets, after, octet, two}
 use Rattle.plc_base.specs.declared.fields.Fault.{Fault}
 use Rattle.plc_base.proofs.Faults.{then_none, when_none, is_whole, is_node, read_by, not_read, read_from}
-use Rattle.plc_base.proofs.Places.{after_all, first_is, two_behind, two_low, two_stands}
+use Rattle.plc_base.proofs.Places.{after_all, first_is, two_behind, two_low, two_then}
 use Rattle.loadng_messages.specs.declared.fault.MessageFaultKind.{MessageFaultKind}
 use Rattle.loadng_messages.specs.declared.fault.MessageFaultKind.TheVariants.{Short, Kind, Address}
 use Rattle.loadng_messages.specs.declared.message.Message.{Message}
@@ -63,10 +63,6 @@ ends : (end : ℕ) (octets : List ℕ) → long end octets ≡ None → after en
 unfolding long
 ends end octets e = after_all end octets (ltb-false _ _ (when_none _ _ e))
 
--- a field and what follows it, of octets that go on
-field_then : (at : ℕ) (octets : List ℕ) → AreOctets octets → at + 2 ≤ length octets → after at octets ≡ big_bytes 2 (two at octets) ++ after (at + 2) octets
-field_then at octets fits whole = (two_stands at octets whole fits).parts
-
 first_then : (octets : List ℕ) → 0 < length octets → octets ≡ octet 0 octets ∷ after 1 octets
 unfolding octet
 first_then octets some = first_is octets some
@@ -89,10 +85,10 @@ route_is octets fits e =
     let o = is_node Short Address 5 octets c.0 in
     let t = is_node Short Address 7 octets d.0 in
     let e0 = first_then octets (omega arith) in
-    let e1 = field_then 1 octets fits n.0 in
-    let e2 = field_then 3 octets fits (is_whole Short 5 octets b.0) in
-    let e3 = field_then 5 octets fits o.0 in
-    let e4 = field_then 7 octets fits t.0 in
+    let e1 = two_then 1 octets fits n.0 in
+    let e2 = two_then 3 octets fits (is_whole Short 5 octets b.0) in
+    let e3 = two_then 5 octets fits o.0 in
+    let e4 = two_then 7 octets fits t.0 in
     let e5 : after 9 octets ≡ [] = ends 9 octets d.1 in
     record { number = n.1; cost = two_low 3 octets fits; origin = o.1; last = t.1; spelled = cc (e0, e1, e2, e3, e4, e5) }
 
@@ -104,8 +100,8 @@ error_is octets fits e =
     let l = is_node Short Address 1 octets a.0 in
     let t = is_node Short Address 3 octets b.0 in
     let e0 = first_then octets (omega arith) in
-    let e1 = field_then 1 octets fits l.0 in
-    let e2 = field_then 3 octets fits t.0 in
+    let e1 = two_then 1 octets fits l.0 in
+    let e2 = two_then 3 octets fits t.0 in
     let e3 : after 5 octets ≡ [] = ends 5 octets b.1 in
     (l.1, t.1, cc (e0, e1, e2, e3))
 

@@ -3,14 +3,13 @@ use Rattle.std.proofs.Common.{◌≡◌, ◌≢◌, ℕ, ◌+◌, ◌-◌, ◌*�
 use Rattle.std.specs.Prelude.{IfOk, MatchResult, nat_lt, ◌&&◌}
 use Rattle.std.specs.Result.{result_ok}
 use Rattle.std.proofs.lemmas.Bool.{cases_lt, eqb-true, eqb-false, ltb-true, ltb-false, lt-ltb, and_parts, or_parts}
-use Rattle.std.proofs.lemmas.List.{length-drop}
 use Rattle.std.proofs.lemmas.Grind.{common_steps}
 use Rattle.byteorder.specs.Endian.{big_bytes}
 use Rattle.plc_base.specs.Faults.{◌then◌, ◌when◌, fault_at, cut_off, address_fault}
 use Rattle.plc_base.specs.Fields.{AreOctets, octet, two, after}
 use Rattle.plc_base.specs.declared.fields.Fault.{Fault}
 use Rattle.plc_base.proofs.Faults.{then_none, when_none, is_whole, is_node, read_by, not_read, read_from}
-use Rattle.plc_base.proofs.Places.{octet_behind, octet_past, octet_stands, octet_low, two_behind, two_past, two_low, two_stands, two_high, after_past, first_is}
+use Rattle.plc_base.proofs.Places.{octet_behind, octet_past, one_then, two_then, length-after, octet_low, two_behind, two_past, two_low, two_high, after_past, first_is}
 use Rattle.mesh_header.specs.declared.fault.UnitFaultKind.{UnitFaultKind}
 use Rattle.mesh_header.specs.declared.fault.UnitFaultKind.TheVariants.{Empty, Dispatch, AddressKind, HopForm, Short, PieceForm, Address}
 use Rattle.mesh_header.specs.declared.unit.Mesh.{Mesh}
@@ -156,20 +155,9 @@ first_then : (octets : List ℕ) → 0 < length octets → octets ≡ octet 0 oc
 unfolding octet
 first_then octets some = first_is octets some
 
-one_then : (at : ℕ) (octets : List ℕ) → at + 1 ≤ length octets → after at octets ≡ octet at octets ∷ after (at + 1) octets
-unfolding octet
-one_then at octets whole = (octet_stands at octets whole).1.parts
-
 octet_then : (at : ℕ) (octets : List ℕ) → octet_fault at octets ≡ None → (at + 1 ≤ length octets) × (after at octets ≡ octet at octets ∷ after (at + 1) octets)
 unfolding octet_fault
 octet_then at octets e = let whole = is_whole Short (at + 1) octets e in (whole, one_then at octets whole)
-
-two_then : (at : ℕ) (octets : List ℕ) → AreOctets octets → at + 2 ≤ length octets → after at octets ≡ big_bytes 2 (two at octets) ++ after (at + 2) octets
-two_then at octets fits whole = (two_stands at octets whole fits).parts
-
-length-after : (at : ℕ) (octets : List ℕ) → length (after at octets) ≡ length octets - at
-unfolding after
-length-after at octets = length-drop at octets
 
 -- the low part of two octets above a base
 above_base : (base at : ℕ) (octets : List ℕ) → AreOctets octets → base ≤ octet at octets * 256 → base ≤ two at octets

@@ -167,3 +167,27 @@ after_past front rest k = sym (drop-drop k (length front) (front ++ rest)) ∙ a
 pub two_past : (front rest : List ℕ) (k : ℕ) → two (length front + k) (front ++ rest) ≡ two k rest
 unfolding two
 two_past front rest k = ap (big_number 2) (sym (drop-drop k (length front) (front ++ rest)) ∙ ap (drop k) (drop-append_seam front rest))
+
+-- a field and what follows it, where it is whole
+pub one_then : (at : ℕ) (octets : List ℕ) → at + 1 ≤ length octets → after at octets ≡ octet at octets ∷ after (at + 1) octets
+unfolding octet
+one_then at octets whole = (octet_stands at octets whole).1.parts
+
+pub two_then : (at : ℕ) (octets : List ℕ) → AreOctets octets → at + 2 ≤ length octets → after at octets ≡ big_bytes 2 (two at octets) ++ after (at + 2) octets
+two_then at octets fits whole = (two_stands at octets whole fits).parts
+
+pub length-part : (at n : ℕ) (octets : List ℕ) → at + n ≤ length octets → length (part at n octets) ≡ n
+unfolding part
+length-part at n octets whole = length-take-le n (drop at octets) (omega (arith, length-drop at octets))
+
+pub part_then : (at n : ℕ) (octets : List ℕ) → at + n ≤ length octets → after at octets ≡ part at n octets ++ after (at + n) octets
+part_then at n octets whole = (part_stands at n octets whole).parts ∙ ap (λ (m : ℕ). part at n octets ++ after (at + m) octets) (length-part at n octets whole)
+
+pub length-after : (at : ℕ) (octets : List ℕ) → length (after at octets) ≡ length octets - at
+unfolding after
+length-after at octets = length-drop at octets
+
+-- an octet that stands further on
+pub octet_after : (at k : ℕ) (octets : List ℕ) → slice_index (after at octets) k ≡ octet (at + k) octets
+unfolding octet after
+octet_after at k octets = get_or-drop at octets k 0

@@ -1,5 +1,5 @@
 -- The first fault of octets, from the left: the words that each format's table of faults is written in.
-use Rattle.std.specs.Prelude.{◌≡◌, ℕ, ◌+◌, Bool, List, length, Option, Some, None, Result, MatchResult, nat_lt, if◌then◌else◌}
+use Rattle.std.specs.Prelude.{◌≡◌, ℕ, ◌+◌, Bool, List, length, Option, Some, None, Result, MatchOption, MatchResult, true, false, nat_lt, if◌then◌else◌}
 use Rattle.plc_base.specs.Addresses.{is_address}
 use Rattle.plc_base.specs.Fields.{two}
 use Rattle.plc_base.specs.declared.fields.Fault.{Fault}
@@ -35,3 +35,11 @@ address_fault short no_node at octets = cut_off short (at + 2) octets then fault
 -- A value with this property is read where there is no fault, and else the fault is answered.
 abbrev pub ReadsUnless : {V F : Type 0} → Option F → Result V F → (V → Type 0) → Type 0
 ReadsUnless fault result property = MatchResult result (λ value. (fault ≡ None) × property value) (λ e. fault ≡ Some e)
+
+-- The same by a test: a value with this property is read where the test holds, and else none.
+abbrev pub ReadsWhen : {V : Type 0} → Bool → Option V → (V → Type 0) → Type 0
+ReadsWhen test result property = MatchOption result (test ≡ false) (λ value. (test ≡ true) × property value)
+
+-- The same where else this fault is answered.
+abbrev pub ReadsOr : {V F : Type 0} → F → Bool → Result V F → (V → Type 0) → Type 0
+ReadsOr fault test result property = MatchResult result (λ value. (test ≡ true) × property value) (λ e. (test ≡ false) × (e ≡ fault))
