@@ -8,7 +8,7 @@ use crate::head::MacHead;
 use crate::reading::RawFrame;
 use crate::writing::write_header;
 use aes_modes::{Aes, BadTag, ccm_open, ccm_seal};
-use plc_base::{FrameBuf, Short};
+use plc_base::{FrameBuf, Short, four_octets, two_octets};
 
 // How many octets a tag has.
 const TAG: usize = 4;
@@ -20,9 +20,9 @@ const PAYLOAD: usize = 381;
 fn nonce(pan: u16, from: Short, counter: u32) -> [u8; 13]
     ensures { result ≡ nonce pan from counter }
 {
-    let [p0, p1] = pan.to_be_bytes();
-    let [s0, s1] = from.number().to_be_bytes();
-    let [c0, c1, c2, c3] = counter.to_be_bytes();
+    let [p0, p1] = two_octets(pan);
+    let [s0, s1] = two_octets(from.number());
+    let [c0, c1, c2, c3] = four_octets(counter);
     [p0, p1, 0x00, 0xFF, 0xFE, 0x00, s0, s1, c0, c1, c2, c3, 0x05]
 }
 

@@ -1,4 +1,4 @@
-//! Reads fields at their places.
+//! Reads fields at their places; the octets of numbers.
 ghost use Rattle.std.specs.Prelude.{◌≡◌, ◌≤◌, ◌<◌, ◌+◌, ◌/◌, ◌∷◌, List, [], length, reverse, MatchResult};
 ghost use Rattle.byteorder.specs.Endian.{big_bytes, little_bytes};
 ghost use Rattle.plc_base.specs.Addresses.{IsAddress};
@@ -171,4 +171,22 @@ pub fn address_at<K: FaultKind>(octets: &[u8], at: usize, no_node: K) -> Result<
         None => Err(Fault::at(no_node, at)),
         Some(address) => Ok(address),
     }
+}
+
+/// The two octets of a number, the highest first.
+pub fn two_octets(number: u16) -> [u8; 2]
+    ensures { result ≡ big_bytes 2 number }
+{
+    let mut octets = [0; 2];
+    BigEndian::write_u16(&mut octets, number);
+    octets
+}
+
+/// The four octets of a number, the highest first.
+pub fn four_octets(number: u32) -> [u8; 4]
+    ensures { result ≡ big_bytes 4 number }
+{
+    let mut octets = [0; 4];
+    BigEndian::write_u32(&mut octets, number);
+    octets
 }
