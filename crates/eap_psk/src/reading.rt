@@ -2,6 +2,7 @@
 ghost use Rattle.std.specs.Prelude.{◌≡◌, ◌<◌, ◌≤◌, ◌+◌, ◌*◌, ◌++◌, ℕ, Bool, length, true, false, IsTrue, MatchResult, Ok, Err, Some, None};
 ghost use Rattle.byteorder.specs.Endian.{big_bytes};
 ghost use Rattle.plc_base.specs.Fields.{after, octet, part};
+ghost use Rattle.joining_messages.specs.Reading.{grant_in};
 ghost use Rattle.eap_psk.specs.Messages.{First, granting_text, head};
 ghost use Rattle.eap_psk.specs.Faults.{same, is_granting, head_stands, is_first, is_second, is_third, is_fourth, first_fault};
 
@@ -94,7 +95,9 @@ pub(crate) struct FirstMessage {
 #[tactic(auto, unfolding(crate::specs::Faults::is_first), using(plc_base::proofs::Places::after_all))]
 pub(crate) fn first_of(packet: &[u8]) -> Result<FirstMessage, EapFault>
     ensures { MatchResult result
-        (λ x. (is_first packet.now ≡ true) × (x.head.identifier ≡ octet 1 packet.now) × (length x.head.rand_s.0 ≡ 16) × (length x.id_s.0 ≡ 8) × First x.head.identifier x.head.rand_s.0 x.id_s.0 packet.now)
+        (λ x. (is_first packet.now ≡ true) × (x.head.identifier ≡ octet 1 packet.now) × (length x.head.rand_s.0 ≡ 16)
+        × (length x.id_s.0 ≡ 8) × First x.head.identifier x.head.rand_s.0 x.id_s.0 packet.now
+        × (x.head.rand_s.0 ≡ part 6 16 packet.now) × (x.id_s.0 ≡ part 22 8 packet.now))
         (λ e. (is_first packet.now ≡ false) × (e ≡ EapFault.Form)) }
 {
     if packet.len() != 30 {
@@ -196,7 +199,7 @@ pub(crate) fn fourth_of(packet: &[u8]) -> Result<FourthMessage, EapFault>
 #[tactic(auto, unfolding(crate::specs::Faults::is_granting), using(plc_base::proofs::Places::after_none))]
 pub(crate) fn granting_of(text: &[u8]) -> Result<Grant, EapFault>
     ensures { MatchResult result
-        (λ grant. (is_granting text.now ≡ true) × (text.now ≡ granting_text grant))
+        (λ grant. (is_granting text.now ≡ true) × (text.now ≡ granting_text grant) × (grant_in (after 2 text.now) ≡ Some grant))
         (λ e. (is_granting text.now ≡ false) × (e ≡ EapFault.NoSuccess)) }
 {
     if text.len() < 2 {
