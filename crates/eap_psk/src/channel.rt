@@ -53,7 +53,9 @@ pub(crate) fn open_channel(
 ) -> Result<EapBuf, EapFault>
     requires { length sealed.now ≤ 128 }
     ensures { MatchResult result
-        (λ x. (same tag.now (channel_tag tek.now nonce header.now sealed.now) ≡ true) × (tag.now ≡ channel_tag tek.now nonce header.now sealed.now) × (x ≡ channel_text tek.now nonce sealed.now) × (length x ≡ length sealed.now))
+        (λ x. (same tag.now (channel_tag tek.now nonce header.now sealed.now) ≡ true)
+        × (tag.now ≡ channel_tag tek.now nonce header.now sealed.now)
+        × (x ≡ channel_text tek.now nonce sealed.now) × (length x ≡ length sealed.now))
         (λ e. (same tag.now (channel_tag tek.now nonce header.now sealed.now) ≡ false) × (e ≡ EapFault.BadChannel)) }
 {
     let mut buffer = [0; 128];

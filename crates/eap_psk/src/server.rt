@@ -82,7 +82,8 @@ impl Server {
         ensures next { IfOk result (λ next. next ≡ server_after self.now packet.now) }
         // What is taken is the second message of this session.
         ensures read { OnOk result (packet.now ≡ second_packet keys.now 1 (peer_of self.now (rand_p_in packet.now))) }
-        ensures written { OnOk result (out.new ≡ third_packet keys.now 2 (peer_of self.now (rand_p_in packet.now)) grant.now) }
+        ensures written { OnOk result
+            (out.new ≡ third_packet keys.now 2 (peer_of self.now (rand_p_in packet.now)) grant.now) }
         ensures tags { OnOk result (tags.new ≡ second_tags (peer_of self.now (rand_p_in packet.now)) grant.now) }
         ensures refused { OnErr result ((out.new ≡ []) × (tags.new ≡ no_tags)) }
     {
@@ -145,7 +146,8 @@ impl Server {
         // A fault is the first one.
         ensures exact { IfSome self.now.rand_p
             (λ rand_p. fourth_fault keys.now self.now rand_p.0 packet.now ≡ result_err result) }
-        ensures agreed { IfOk result (λ agreed. (agreed.rand_s ≡ self.now.rand_s) × (Some agreed.rand_p ≡ self.now.rand_p)) }
+        ensures agreed { IfOk result
+            (λ agreed. (agreed.rand_s ≡ self.now.rand_s) × (Some agreed.rand_p ≡ self.now.rand_p)) }
         // What is taken is the fourth message of this session.
         ensures read { IfOk result (λ agreed. packet.now ≡ fourth_packet keys.now 2 (peer_of self.now agreed.rand_p)) }
         ensures tags { IfOk result (λ agreed. tags.new ≡ fourth_tags (peer_of self.now agreed.rand_p)) }

@@ -87,7 +87,8 @@ fn key_at(octets: &[u8], at: usize, index: u8) -> Option<Key>
 #[tactic(auto, using(plc_base::proofs::Places::after_all))]
 fn grant_of(octets: &[u8]) -> Option<Grant>
     ensures found { IfSome result (λ grant. SpellsGrant grant octets.now) }
-    ensures exact { MatchOption result (is_parameter_list octets.now ≡ false) (λ _. is_parameter_list octets.now ≡ true) }
+    ensures exact { MatchOption result (is_parameter_list octets.now ≡ false)
+        (λ _. is_parameter_list octets.now ≡ true) }
 {
     let (address, active) = head_of(octets)?;
     let keys = if octets.len() == 26 {

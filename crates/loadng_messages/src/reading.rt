@@ -24,7 +24,8 @@ fn kind_of(octets: &[u8]) -> Result<u8, MessageFault>
 #[tactic(auto, unfolding(plc_base::specs::Faults::cut_off))]
 fn cost_at(octets: &[u8], at: usize) -> Result<u16, MessageFault>
     requires { at ≤ 9 }
-    ensures { ReadsUnless (cut_off MessageFaultKind.Short (at + 2) octets.now) result (λ x. Stands (big_bytes 2 x) at octets.now) }
+    ensures { ReadsUnless (cut_off MessageFaultKind.Short (at + 2) octets.now) result
+        (λ x. Stands (big_bytes 2 x) at octets.now) }
 {
     Ok(two_at(octets, at)?)
 }
@@ -55,7 +56,7 @@ fn end_at(octets: &[u8], end: usize) -> Result<(), MessageFault>
 // The message that the octets spell, or the first fault.
 fn message_of(octets: &[u8]) -> Result<Message, MessageFault>
     ensures found { IfOk result (λ message. Spells message octets.now) }
-    ensures exact { MatchResult result (λ message. message_fault octets.now ≡ None) (λ e. message_fault octets.now ≡ Some e) }
+    ensures exact { MatchResult result (λ _. message_fault octets.now ≡ None) (λ e. message_fault octets.now ≡ Some e) }
 {
     match kind_of(octets)? {
         1 => {
@@ -103,7 +104,7 @@ pub fn read_message(octets: &[u8]) -> Result<Message, MessageFault>
     // What is spelled so is read.
     ensures only { (message : Message) → Spells message octets.now → result ≡ Ok message }
     // A fault is the first one.
-    ensures exact { MatchResult result (λ message. message_fault octets.now ≡ None) (λ e. message_fault octets.now ≡ Some e) }
+    ensures exact { MatchResult result (λ _. message_fault octets.now ≡ None) (λ e. message_fault octets.now ≡ Some e) }
     // A spelling is of one value.
     ensures one_value { (a b : Message) → Spells a octets.now → Spells b octets.now → a ≡ b }
 {

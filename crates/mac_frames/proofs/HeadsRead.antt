@@ -1,5 +1,5 @@
 -- What is read off the octets of a frame is its head and its body.
-use Rattle.std.proofs.Common.{◌≡◌, ℕ, zero, suc, ◌+◌, ◌<◌, ◌≤◌, ◌^◌, Bool, true, false, List, [], ◌∷◌, ◌++◌, length, reverse, take, Result, Ok, Err, refl, sym, ◌∙◌, ap, arith}
+use Rattle.std.proofs.Common.{◌≡◌, ℕ, zero, suc, ◌+◌, ◌<◌, ◌≤◌, Bool, true, false, List, [], ◌∷◌, ◌++◌, length, reverse, take, Result, Ok, Err, refl, sym, ◌∙◌, ap, arith}
 use Rattle.std.specs.Prelude.{IfOk}
 use Rattle.std.proofs.lemmas.List.{length-append, length-reverse, reverse-reverse, append_assoc}
 use Rattle.std.proofs.Math.Seq.{take-append_seam}
@@ -14,7 +14,7 @@ use Rattle.mac_frames.specs.declared.reading.RawFrame.{RawFrame}
 use Rattle.mac_frames.specs.declared.head.MacHead.TheVariants.{Sealed, Up, Down}
 use Rattle.mac_frames.specs.Faults.{bits, is_sealed, has_modes}
 use Rattle.mac_frames.specs.Grammar.{IsHead, Frame, header, header_then, low_control, high_control}
-use Rattle.mac_frames.specs.Reading.{ack_in, version_in, head_by, head_in, body_in}
+use Rattle.mac_frames.specs.Reading.{ack_in, head_by, head_in, body_in}
 use Rattle.mac_frames.proofs.Headers.{header_then-append, length-header}
 
 low_sealed : (ack : Bool) (rest : List ℕ) → (is_sealed (low_control true ack ∷ rest) ≡ true) × (ack_in (low_control true ack ∷ rest) ≡ ack)

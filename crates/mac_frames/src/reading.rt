@@ -110,7 +110,8 @@ fn sealed_of(octets: &[u8], ack: bool, seq: u8, pan: u16) -> Result<MacHead, Fra
 #[tactic(auto, unfolding(crate::specs::Faults::up_fault, plc_base::specs::Faults::cut_off))]
 fn up_of(octets: &[u8], ack: bool, version: u8, seq: u8, pan: u16) -> Result<MacHead, FrameFault>
     requires version { version ≤ 1 }
-    requires there { octets.now ≡ low_control false ack ∷ high_control 2 version 3 ∷ seq ∷ little_bytes 2 pan ++ after 5 octets.now }
+    requires there { octets.now
+        ≡ low_control false ack ∷ high_control 2 version 3 ∷ seq ∷ little_bytes 2 pan ++ after 5 octets.now }
     ensures { ReadsUnless (up_fault octets.now) result
         (λ head. IsHead head × (15 ≤ length octets.now) × (octets.now ≡ header_then head (after 15 octets.now))
         × IsBody head (after 15 octets.now)) }
@@ -131,7 +132,8 @@ fn up_of(octets: &[u8], ack: bool, version: u8, seq: u8, pan: u16) -> Result<Mac
 #[tactic(auto, unfolding(crate::specs::Faults::down_fault, plc_base::specs::Faults::cut_off))]
 fn down_of(octets: &[u8], ack: bool, version: u8, seq: u8, pan: u16) -> Result<MacHead, FrameFault>
     requires version { version ≤ 1 }
-    requires there { octets.now ≡ low_control false ack ∷ high_control 3 version 2 ∷ seq ∷ little_bytes 2 pan ++ after 5 octets.now }
+    requires there { octets.now
+        ≡ low_control false ack ∷ high_control 3 version 2 ∷ seq ∷ little_bytes 2 pan ++ after 5 octets.now }
     ensures { ReadsUnless (down_fault octets.now) result
         (λ head. IsHead head × (15 ≤ length octets.now) × (octets.now ≡ header_then head (after 15 octets.now))
         × IsBody head (after 15 octets.now)) }
@@ -169,7 +171,8 @@ fn head_of(octets: &[u8]) -> Result<MacHead, FrameFault>
 // The frame that the octets are, or the first fault.
 fn frame_of<'a>(octets: &'a [u8]) -> Result<RawFrame<'a>, FrameFault>
     ensures found { IfOk result (λ raw. Frame raw.head raw.body.now octets.now) }
-    ensures parts { IfOk result (λ raw. (raw.header.now ≡ header raw.head) × (octets.now ≡ raw.header.now ++ raw.body.now)) }
+    ensures parts { IfOk result
+        (λ raw. (raw.header.now ≡ header raw.head) × (octets.now ≡ raw.header.now ++ raw.body.now)) }
     ensures front { IfOk result (λ raw. raw.header.now ≡ take 15 octets.now) }
     ensures exact { MatchResult result (λ raw. frame_fault octets.now ≡ None) (λ e. frame_fault octets.now ≡ Some e) }
 {
@@ -188,7 +191,8 @@ pub fn read_frame<'a>(octets: &'a [u8]) -> Result<RawFrame<'a>, FrameFault>
     // It is what stands at the places of its fields.
     ensures places { IfOk result (λ raw. (raw.head ≡ head_in octets.now) × (raw.body.now ≡ body_in octets.now)) }
     // The header and the body are the two parts of the octets.
-    ensures parts { IfOk result (λ raw. (raw.header.now ≡ header raw.head) × (octets.now ≡ raw.header.now ++ raw.body.now)) }
+    ensures parts { IfOk result
+        (λ raw. (raw.header.now ≡ header raw.head) × (octets.now ≡ raw.header.now ++ raw.body.now)) }
     ensures front { IfOk result (λ raw. raw.header.now ≡ take 15 octets.now) }
     // A fault is the first one.
     ensures exact { MatchResult result (λ raw. frame_fault octets.now ≡ None) (λ e. frame_fault octets.now ≡ Some e) }
@@ -196,7 +200,8 @@ pub fn read_frame<'a>(octets: &'a [u8]) -> Result<RawFrame<'a>, FrameFault>
     ensures only { (head : MacHead) (body : List ℕ) → Frame head body octets.now
         → IsOkAnd result (λ raw. (raw.head ≡ head) × (raw.body.now ≡ body)) }
     // A spelling is of one value.
-    ensures one_value { (a b : MacHead) (x y : List ℕ) → Frame a x octets.now → Frame b y octets.now → (a ≡ b) × (x ≡ y) }
+    ensures one_value { (a b : MacHead) (x y : List ℕ)
+        → Frame a x octets.now → Frame b y octets.now → (a ≡ b) × (x ≡ y) }
 {
     frame_of(octets)
 }

@@ -83,7 +83,8 @@ fn open_text(
     requires header { length header.now ≤ 400 }
     requires sealed { length sealed.now ≤ 381 }
     requires tag { length tag.now ≡ 4 }
-    ensures tag { IsOk result ↔ (tag.now ≡ ccm_tag 4 aes.now nonce.now header.now (ccm_text aes.now nonce.now sealed.now)) }
+    ensures tag { IsOk result
+        ↔ (tag.now ≡ ccm_tag 4 aes.now nonce.now header.now (ccm_text aes.now nonce.now sealed.now)) }
     ensures opened { OnOk result (out.new ≡ ccm_text aes.now nonce.now sealed.now) }
     ensures bad_tag { OnErr result (out.new ≡ []) }
     ensures fits { length out.new ≤ 381 }
@@ -109,11 +110,13 @@ pub fn open_frame(aes: &Aes, raw: &RawFrame<'_>, out: &mut FrameBuf) -> Result<(
     // What opens was sealed so.
     ensures opened { OnOk result (SealedFrame raw.now.head aes.now out.new (raw.now.header.now ++ raw.now.body.now)) }
     // What was sealed so opens.
-    ensures only { (payload : List ℕ) → SealedFrame raw.now.head aes.now payload (raw.now.header.now ++ raw.now.body.now)
+    ensures only { (payload : List ℕ)
+        → SealedFrame raw.now.head aes.now payload (raw.now.header.now ++ raw.now.body.now)
         → IsOk result × (out.new ≡ payload) }
     ensures bad_tag { OnErr result (out.new ≡ []) }
     // It is the payload that the key opens, if it opens one.
-    ensures exact { MatchResult result (λ _. opened_in aes.now raw.now.head raw.now.header.now raw.now.body.now ≡ Some out.new)
+    ensures exact { MatchResult result
+        (λ _. opened_in aes.now raw.now.head raw.now.header.now raw.now.body.now ≡ Some out.new)
         (λ _. opened_in aes.now raw.now.head raw.now.header.now raw.now.body.now ≡ None) }
     ensures fits { length out.new ≤ 381 }
 {
