@@ -8,8 +8,8 @@ use Rattle.plc_base.specs.declared.key.Rand.{Rand}
 use Rattle.joining_messages.specs.Grants.{IsGranted, grant_spelling}
 use Rattle.joining_messages.proofs.GrantLaws.{one_grant}
 use Rattle.eap_psk.specs.Keys.{channel, channel_text, mac_s}
-use Rattle.eap_psk.specs.Messages.{First, Third, head, third_head, granting_text}
-use Rattle.eap_psk.specs.Tags.{granting_tag}
+use Rattle.eap_psk.specs.Messages.{First, Third, head, third_head, fourth_head, granting_text}
+use Rattle.eap_psk.specs.Tags.{granting_tag, success_tag}
 use Rattle.eap_psk.proofs.Passing.{channel_back, channel_sealed}
 
 pub first_same : (i j : ℕ) (rand_s rand_s' id_s id_s' packet : List ℕ) → length rand_s ≡ 16 → length rand_s' ≡ 16
@@ -60,3 +60,12 @@ tags_same eui eui' i j rand_s rand_s' rand_p rand_p' g h hg hh e =
     let headers : third_head i rand_s.0 (length (granting_text g)) ≡ third_head j rand_s'.0 (length (granting_text h)) = cc (e) in
     let given : rand_s.0 ≡ rand_s'.0 = cc (headers) in
     (node, rand_same rand_s rand_s' given, chosen, texts_same g h hg hh texts)
+
+pub successes_same : (eui eui' : Eui) (i j : ℕ) (rand_s rand_s' rand_p rand_p' : Rand)
+    → success_tag eui i rand_s rand_p ≡ success_tag eui' j rand_s' rand_p' → (eui ≡ eui') × (rand_s ≡ rand_s') × (rand_p ≡ rand_p')
+successes_same eui eui' i j rand_s rand_s' rand_p rand_p' e =
+    let node : eui ≡ eui' = cc (e) in
+    let chosen : rand_p ≡ rand_p' = cc (e) in
+    let headers : fourth_head i rand_s.0 ≡ fourth_head j rand_s'.0 = cc (e) in
+    let given : rand_s.0 ≡ rand_s'.0 = cc (headers) in
+    (node, rand_same rand_s rand_s' given, chosen)

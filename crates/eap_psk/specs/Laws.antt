@@ -9,7 +9,7 @@ use Rattle.eap_psk.specs.declared.peer.Peer.{Peer}
 use Rattle.eap_psk.specs.Keys.{PairKeys, transient_key}
 use Rattle.eap_psk.specs.Messages.{First, Second, Third, Fourth, granting_text}
 use Rattle.eap_psk.specs.Faults.{rand_p_of, first_fault, second_fault, third_fault, fourth_fault}
-use Rattle.eap_psk.specs.Tags.{granting_tag}
+use Rattle.eap_psk.specs.Tags.{granting_tag, success_tag}
 
 -- a first message has no fault
 abbrev pub FirstIsTaken : Type 0
@@ -52,3 +52,11 @@ GrantingTagsAgree =
     (eui eui' : Eui) (i j : ℕ) (rand_s rand_s' rand_p rand_p' : Rand) (g h : Granted) → IsGranted g → IsGranted h
     → granting_tag eui i rand_s rand_p (granting_text g) ≡ granting_tag eui' j rand_s' rand_p' (granting_text h)
     → (eui ≡ eui') × (rand_s ≡ rand_s') × (rand_p ≡ rand_p') × (g ≡ h)
+
+-- The tag of a channel that says success names the node and both random values: where a server opened the tag that a peer made,
+-- both speak of one session.
+abbrev pub SuccessTagsAgree : Type 0
+SuccessTagsAgree =
+    (eui eui' : Eui) (i j : ℕ) (rand_s rand_s' rand_p rand_p' : Rand)
+    → success_tag eui i rand_s rand_p ≡ success_tag eui' j rand_s' rand_p'
+    → (eui ≡ eui') × (rand_s ≡ rand_s') × (rand_p ≡ rand_p')

@@ -5,14 +5,14 @@ ghost use Rattle.eap_psk.specs.Faults.{same};
 
 use crate::fault::EapFault;
 use aes_modes::{Aes, eax_open, eax_seal};
-use plc_base::EapBuf;
+use plc_base::{EapBuf, four_octets};
 
 // The nonce of EAX.
 #[tactic(auto, unfolding(crate::specs::Keys::nonce_block))]
 fn nonce_block(nonce: u32) -> [u8; 16]
     ensures { result ≡ nonce_block nonce }
 {
-    let [a, b, c, d] = nonce.to_be_bytes();
+    let [a, b, c, d] = four_octets(nonce);
     [0, 0, 0, 0, 0, 0, 0, 0, 0, 0, 0, 0, a, b, c, d]
 }
 
@@ -28,7 +28,7 @@ pub(crate) fn write_channel(tek: &Aes, nonce: u32, header: &[u8], text: &[u8], o
     let sealed = &mut buffer[..text.len()];
     sealed.copy_from_slice(text);
     let tag = eax_seal(tek, &nonce_block(nonce), header, sealed);
-    out.append(&nonce.to_be_bytes());
+    out.append(&four_octets(nonce));
     out.append(&tag);
     out.append(sealed);
 }
@@ -53,7 +53,9 @@ pub(crate) fn open_channel(
 ) -> Result<EapBuf, EapFault>
     requires { length sealed.now ≤ 128 }
     ensures { MatchResult result
-        (λ x. (same tag.now (channel_tag tek.now nonce header.now sealed.now) ≡ true) × (tag.now ≡ channel_tag tek.now nonce header.now sealed.now) × (x ≡ channel_text tek.now nonce sealed.now) × (length x ≡ length sealed.now))
+        (λ x. (same tag.now (channel_tag tek.now nonce header.now sealed.now) ≡ true)
+        × (tag.now ≡ channel_tag tek.now nonce header.now sealed.now)
+        × (x ≡ channel_text tek.now nonce sealed.now) × (length x ≡ length sealed.now))
         (λ e. (same tag.now (channel_tag tek.now nonce header.now sealed.now) ≡ false) × (e ≡ EapFault.BadChannel)) }
 {
     let mut buffer = [0; 128];

@@ -6,7 +6,7 @@
 //!
 //! [`Server`]: crate::Server
 //! [`Peer`]: crate::Peer
-ghost use Rattle.eap_psk.specs.Laws.{FirstIsTaken, FirstNamesTheSession, SecondIsTaken, ThirdIsTaken, ThirdGrantsOneThing, FourthIsTaken, GrantingTagsAgree};
+ghost use Rattle.eap_psk.specs.Laws.{FirstIsTaken, FirstNamesTheSession, SecondIsTaken, ThirdIsTaken, ThirdGrantsOneThing, FourthIsTaken, GrantingTagsAgree, SuccessTagsAgree};
 
 /// A first message is taken, and is of one session.
 pub fn first_is_taken()
@@ -33,4 +33,9 @@ pub fn fourth_is_taken()
 /// Two equal tags of channels that grant are of one node, of the same random values and of the same grant.
 pub fn granting_tags_agree()
     ensures { GrantingTagsAgree }
+{}
+
+/// Two equal tags of channels that say success are of one node and of the same random values.
+pub fn success_tags_agree()
+    ensures { SuccessTagsAgree }
 {}

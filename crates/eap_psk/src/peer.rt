@@ -1,10 +1,10 @@
 //! The joining node's end.
-ghost use Rattle.std.specs.Prelude.{◌≡◌, ◌≤◌, ◌+◌, ◌∷◌, [], length, Some, None, IfOk, OnErr, MatchResult};
-ghost use Rattle.plc_base.specs.Fields.{after, octet, part};
-ghost use Rattle.eap_psk.specs.Keys.{transient_key};
-ghost use Rattle.eap_psk.specs.Messages.{First, Second, Third, Fourth, granting_text};
+ghost use Rattle.std.specs.Prelude.{◌≡◌, [], Some, IfOk, OnOk, OnErr};
+ghost use Rattle.std.specs.Result.{result_err};
+ghost use Rattle.eap_psk.specs.Messages.{First};
+ghost use Rattle.eap_psk.specs.Sessions.{agreed_by, fourth_packet, granted_by, identifier_of, peer_for, second_packet, third_packet};
 ghost use Rattle.eap_psk.specs.Faults.{first_fault, third_fault};
-ghost use Rattle.eap_psk.specs.Tags.{no_tags, mac_p_tag, mac_s_tag, granting_tag, success_tag};
+ghost use Rattle.eap_psk.specs.Tags.{no_tags, first_tags, third_tags};
 
 use crate::channel::{open_channel, write_channel};
 use crate::fault::EapFault;
@@ -42,11 +42,12 @@ impl Peer {
         tags: &mut TagList,
     ) -> Result<Peer, EapFault>
         // A fault is the first one.
-        ensures exact { MatchResult result (λ _. first_fault packet.now ≡ None) (λ e. first_fault packet.now ≡ Some e) }
+        ensures exact { first_fault packet.now ≡ result_err result }
+        ensures peer { IfOk result (λ peer. peer ≡ peer_for eui rand_p packet.now) }
         // What is taken is a first message.
-        ensures read { IfOk result (λ peer. (peer.eui ≡ eui) × (peer.rand_p ≡ rand_p) × First (octet 1 packet.now) peer.rand_s.0 peer.id_s.0 packet.now) }
-        ensures written { IfOk result (λ peer. Second keys.now.ak (octet 1 packet.now) peer.rand_s.0 rand_p.0 peer.id_s.0 eui.0 out.new) }
-        ensures tags { IfOk result (λ peer. tags.new ≡ record { made = mac_p_tag eui peer.id_s peer.rand_s rand_p ∷ []; opened = [] }) }
+        ensures read { IfOk result (λ peer. First (identifier_of packet.now) peer.rand_s.0 peer.id_s.0 packet.now) }
+        ensures written { IfOk result (λ peer. out.new ≡ second_packet keys.now (identifier_of packet.now) peer) }
+        ensures tags { IfOk result (λ peer. tags.new ≡ first_tags peer) }
         ensures refused { OnErr result ((out.new ≡ []) × (tags.new ≡ no_tags)) }
     {
         out.clear();
@@ -79,15 +80,13 @@ impl Peer {
         tags: &mut TagList,
     ) -> Result<(Grant, Agreed), EapFault>
         // A fault is the first one.
-        ensures exact { MatchResult result (λ _. third_fault keys.now self.now packet.now ≡ None) (λ e. third_fault keys.now self.now packet.now ≡ Some e) }
+        ensures exact { third_fault keys.now self.now packet.now ≡ result_err result }
+        ensures grant { IfOk result (λ x. granted_by keys.now self.now packet.now ≡ Some x.0) }
         // What is taken is the third message of this session, with this grant.
-        ensures read { IfOk result (λ x. Third keys.now.ak (transient_key keys.now.kdk self.now.rand_p.0) (octet 1 packet.now) self.now.rand_s.0 self.now.rand_p.0 self.now.id_s.0 (granting_text x.0) packet.now) }
-        ensures agreed { IfOk result (λ x. x.1 ≡ record { rand_s = self.now.rand_s; rand_p = self.now.rand_p }) }
-        ensures written { IfOk result (λ x. Fourth (transient_key keys.now.kdk self.now.rand_p.0) (octet 1 packet.now) self.now.rand_s.0 out.new) }
-        ensures tags { IfOk result (λ x. tags.new ≡ record {
-          made = success_tag self.now.eui (octet 1 packet.now) self.now.rand_s self.now.rand_p ∷ [];
-          opened = mac_s_tag self.now.eui self.now.id_s self.now.rand_p ∷ granting_tag self.now.eui (octet 1 packet.now) self.now.rand_s self.now.rand_p (granting_text x.0) ∷ [];
-        }) }
+        ensures read { IfOk result (λ x. packet.now ≡ third_packet keys.now (identifier_of packet.now) self.now x.0) }
+        ensures agreed { IfOk result (λ x. x.1 ≡ agreed_by self.now) }
+        ensures written { OnOk result (out.new ≡ fourth_packet keys.now (identifier_of packet.now) self.now) }
+        ensures tags { IfOk result (λ x. tags.new ≡ third_tags self.now (identifier_of packet.now) x.0) }
         ensures refused { OnErr result ((out.new ≡ []) × (tags.new ≡ no_tags)) }
     {
         out.clear();

@@ -2,6 +2,7 @@
 ghost use Rattle.std.specs.Prelude.{◌≡◌, ◌<◌, ◌≤◌, ◌+◌, ◌*◌, ◌++◌, ℕ, Bool, length, true, false, IsTrue, MatchResult, Ok, Err, Some, None};
 ghost use Rattle.byteorder.specs.Endian.{big_bytes};
 ghost use Rattle.plc_base.specs.Fields.{after, octet, part};
+ghost use Rattle.joining_messages.specs.Reading.{grant_in};
 ghost use Rattle.eap_psk.specs.Messages.{First, granting_text, head};
 ghost use Rattle.eap_psk.specs.Faults.{same, is_granting, head_stands, is_first, is_second, is_third, is_fourth, first_fault};
 
@@ -20,7 +21,8 @@ fn is_same(a: &[u8], b: &[u8]) -> bool
 // The octets are these, or this is the fault.
 #[tactic(auto, using(crate::proofs::Same::same_is))]
 pub(crate) fn check_same(a: &[u8], b: &[u8], fault: EapFault) -> Result<(), EapFault>
-    ensures { MatchResult result (λ _. (same a.now b.now ≡ true) × (a.now ≡ b.now)) (λ e. (same a.now b.now ≡ false) × (e ≡ fault)) }
+    ensures { MatchResult result (λ _. (same a.now b.now ≡ true) × (a.now ≡ b.now))
+        (λ e. (same a.now b.now ≡ false) × (e ≡ fault)) }
 {
     if !is_same(a, b) {
         return Err(fault);
@@ -49,7 +51,8 @@ fn fields_of(packet: &[u8], code: u8, number: u8) -> Result<Fields, EapFault>
     requires number { number ≤ 3 }
     requires long { 22 ≤ length packet.now }
     ensures { MatchResult result
-        (λ x. (head_stands code number packet.now ≡ true) × (x.identifier ≡ octet 1 packet.now) × (x.rand_s.0 ≡ part 6 16 packet.now) × (length x.rand_s.0 ≡ 16)
+        (λ x. (head_stands code number packet.now ≡ true) × (x.identifier ≡ octet 1 packet.now)
+        × (x.rand_s.0 ≡ part 6 16 packet.now) × (length x.rand_s.0 ≡ 16)
         × (packet.now ≡ head code x.identifier (length packet.now) number x.rand_s.0 ++ after 22 packet.now))
         (λ e. (head_stands code number packet.now ≡ false) × (e ≡ EapFault.Form)) }
 {
@@ -70,7 +73,8 @@ fn head_of(packet: &[u8], code: u8, number: u8) -> Result<Head, EapFault>
     requires number { number ≤ 3 }
     requires long { 22 ≤ length packet.now }
     ensures { MatchResult result
-        (λ x. (head_stands code number packet.now ≡ true) × (x.identifier ≡ octet 1 packet.now) × (x.rand_s.0 ≡ part 6 16 packet.now) × (length x.rand_s.0 ≡ 16)
+        (λ x. (head_stands code number packet.now ≡ true) × (x.identifier ≡ octet 1 packet.now)
+        × (x.rand_s.0 ≡ part 6 16 packet.now) × (length x.rand_s.0 ≡ 16)
         × (x.octets ≡ part 0 22 packet.now) × (x.octets ≡ head code x.identifier (length packet.now) number x.rand_s.0)
         × (packet.now ≡ head code x.identifier (length packet.now) number x.rand_s.0 ++ after 22 packet.now))
         (λ e. (head_stands code number packet.now ≡ false) × (e ≡ EapFault.Form)) }
@@ -94,7 +98,9 @@ pub(crate) struct FirstMessage {
 #[tactic(auto, unfolding(crate::specs::Faults::is_first), using(plc_base::proofs::Places::after_all))]
 pub(crate) fn first_of(packet: &[u8]) -> Result<FirstMessage, EapFault>
     ensures { MatchResult result
-        (λ x. (is_first packet.now ≡ true) × (x.head.identifier ≡ octet 1 packet.now) × (length x.head.rand_s.0 ≡ 16) × (length x.id_s.0 ≡ 8) × First x.head.identifier x.head.rand_s.0 x.id_s.0 packet.now)
+        (λ x. (is_first packet.now ≡ true) × (x.head.identifier ≡ octet 1 packet.now) × (length x.head.rand_s.0 ≡ 16)
+        × (length x.id_s.0 ≡ 8) × First x.head.identifier x.head.rand_s.0 x.id_s.0 packet.now
+        × (x.head.rand_s.0 ≡ part 6 16 packet.now) × (x.id_s.0 ≡ part 22 8 packet.now))
         (λ e. (is_first packet.now ≡ false) × (e ≡ EapFault.Form)) }
 {
     if packet.len() != 30 {
@@ -117,7 +123,8 @@ pub(crate) struct SecondMessage {
 #[tactic(auto, unfolding(crate::specs::Faults::is_second), using(plc_base::proofs::Places::after_all))]
 pub(crate) fn second_of(packet: &[u8]) -> Result<SecondMessage, EapFault>
     ensures { MatchResult result
-        (λ x. (is_second packet.now ≡ true) × (x.rand_s.0 ≡ part 6 16 packet.now) × (x.rand_p.0 ≡ part 22 16 packet.now) × (x.mac_p ≡ part 38 16 packet.now) × (x.id_p.0 ≡ part 54 8 packet.now)
+        (λ x. (is_second packet.now ≡ true) × (x.rand_s.0 ≡ part 6 16 packet.now) × (x.rand_p.0 ≡ part 22 16 packet.now)
+        × (x.mac_p ≡ part 38 16 packet.now) × (x.id_p.0 ≡ part 54 8 packet.now)
         × (packet.now ≡ head 2 1 62 1 x.rand_s.0 ++ (x.rand_p.0 ++ (x.mac_p ++ x.id_p.0))))
         (λ e. (is_second packet.now ≡ false) × (e ≡ EapFault.Form)) }
 {
@@ -150,9 +157,13 @@ pub(crate) struct ThirdMessage {
 #[tactic(auto, unfolding(crate::specs::Faults::is_third))]
 pub(crate) fn third_of(packet: &[u8]) -> Result<ThirdMessage, EapFault>
     ensures { MatchResult result
-        (λ x. (is_third packet.now ≡ true) × (x.head.octets ≡ part 0 22 packet.now) × (x.head.octets ≡ head 1 x.head.identifier (length packet.now) 2 x.head.rand_s.0) × (58 ≤ length packet.now) × (length packet.now ≤ 128) × (x.head.identifier ≡ octet 1 packet.now)
-        × (x.head.rand_s.0 ≡ part 6 16 packet.now) × (length x.head.rand_s.0 ≡ 16) × (x.mac_s ≡ part 22 16 packet.now) × (x.tag ≡ part 42 16 packet.now)
-        × (packet.now ≡ head 1 x.head.identifier (length packet.now) 2 x.head.rand_s.0 ++ (x.mac_s ++ (big_bytes 4 0 ++ (x.tag ++ after 58 packet.now)))))
+        (λ x. (is_third packet.now ≡ true) × (x.head.octets ≡ part 0 22 packet.now)
+        × (x.head.octets ≡ head 1 x.head.identifier (length packet.now) 2 x.head.rand_s.0)
+        × (58 ≤ length packet.now) × (length packet.now ≤ 128) × (x.head.identifier ≡ octet 1 packet.now)
+        × (x.head.rand_s.0 ≡ part 6 16 packet.now) × (length x.head.rand_s.0 ≡ 16)
+        × (x.mac_s ≡ part 22 16 packet.now) × (x.tag ≡ part 42 16 packet.now)
+        × (packet.now ≡ head 1 x.head.identifier (length packet.now) 2 x.head.rand_s.0
+        ++ (x.mac_s ++ (big_bytes 4 0 ++ (x.tag ++ after 58 packet.now)))))
         (λ e. (is_third packet.now ≡ false) × (e ≡ EapFault.Form)) }
 {
     if packet.len() < 58 || packet.len() > 128 {
@@ -177,7 +188,9 @@ pub(crate) struct FourthMessage {
 #[tactic(auto, unfolding(crate::specs::Faults::is_fourth))]
 pub(crate) fn fourth_of(packet: &[u8]) -> Result<FourthMessage, EapFault>
     ensures { MatchResult result
-        (λ x. (is_fourth packet.now ≡ true) × (length packet.now ≡ 43) × (x.head.octets ≡ part 0 22 packet.now) × (x.head.octets ≡ head 2 2 43 3 x.head.rand_s.0) × (x.head.rand_s.0 ≡ part 6 16 packet.now) × (length x.head.rand_s.0 ≡ 16) × (x.tag ≡ part 26 16 packet.now)
+        (λ x. (is_fourth packet.now ≡ true) × (length packet.now ≡ 43) × (x.head.octets ≡ part 0 22 packet.now)
+        × (x.head.octets ≡ head 2 2 43 3 x.head.rand_s.0) × (x.head.rand_s.0 ≡ part 6 16 packet.now)
+        × (length x.head.rand_s.0 ≡ 16) × (x.tag ≡ part 26 16 packet.now)
         × (packet.now ≡ head 2 2 43 3 x.head.rand_s.0 ++ (big_bytes 4 1 ++ (x.tag ++ after 42 packet.now))))
         (λ e. (is_fourth packet.now ≡ false) × (e ≡ EapFault.Form)) }
 {
@@ -196,7 +209,8 @@ pub(crate) fn fourth_of(packet: &[u8]) -> Result<FourthMessage, EapFault>
 #[tactic(auto, unfolding(crate::specs::Faults::is_granting), using(plc_base::proofs::Places::after_none))]
 pub(crate) fn granting_of(text: &[u8]) -> Result<Grant, EapFault>
     ensures { MatchResult result
-        (λ grant. (is_granting text.now ≡ true) × (text.now ≡ granting_text grant))
+        (λ grant. (is_granting text.now ≡ true) × (text.now ≡ granting_text grant)
+        × (grant_in (after 2 text.now) ≡ Some grant))
         (λ e. (is_granting text.now ≡ false) × (e ≡ EapFault.NoSuccess)) }
 {
     if text.len() < 2 {

@@ -1,10 +1,10 @@
 //! The coordinator's end.
-ghost use Rattle.std.specs.Prelude.{◌≡◌, ◌≤◌, ◌↔◌, ◌+◌, ◌∷◌, [], length, Some, None, IsSome, IfOk, IfSome, OnOk, OnErr, MatchResult};
-ghost use Rattle.plc_base.specs.Fields.{after, octet, part};
-ghost use Rattle.eap_psk.specs.Keys.{transient_key, mac_p};
-ghost use Rattle.eap_psk.specs.Messages.{First, Second, Third, Fourth, granting_text};
-ghost use Rattle.eap_psk.specs.Faults.{rand_p_of, second_fault, fourth_fault};
-ghost use Rattle.eap_psk.specs.Tags.{no_tags, mac_p_tag, mac_s_tag, granting_tag, success_tag};
+ghost use Rattle.std.specs.Prelude.{◌≡◌, ◌↔◌, [], Some, None, IsSome, IfOk, IfSome, OnOk, OnErr};
+ghost use Rattle.std.specs.Result.{result_err};
+ghost use Rattle.eap_psk.specs.Messages.{First};
+ghost use Rattle.eap_psk.specs.Sessions.{agreed_by, fourth_packet, peer_of, rand_p_in, second_packet, server_after, third_packet};
+ghost use Rattle.eap_psk.specs.Faults.{second_fault, fourth_fault};
+ghost use Rattle.eap_psk.specs.Tags.{no_tags, second_tags, fourth_tags};
 
 use crate::channel::{open_channel, write_channel};
 use crate::fault::EapFault;
@@ -78,15 +78,13 @@ impl Server {
     ) -> Result<Server, EapFault>
         requires awaits { self.now.rand_p ≡ None }
         // A fault is the first one.
-        ensures exact { MatchResult result (λ _. second_fault keys.now self.now packet.now ≡ None) (λ e. second_fault keys.now self.now packet.now ≡ Some e) }
-        ensures next { IfOk result (λ next. next ≡ record self.now { rand_p = Some (record { 0 = rand_p_of packet.now }) }) }
+        ensures exact { second_fault keys.now self.now packet.now ≡ result_err result }
+        ensures next { IfOk result (λ next. next ≡ server_after self.now packet.now) }
         // What is taken is the second message of this session.
-        ensures read { OnOk result (Second keys.now.ak 1 self.now.rand_s.0 (rand_p_of packet.now) self.now.id_s.0 self.now.eui.0 packet.now) }
-        ensures written { OnOk result (Third keys.now.ak (transient_key keys.now.kdk (rand_p_of packet.now)) 2 self.now.rand_s.0 (rand_p_of packet.now) self.now.id_s.0 (granting_text grant.now) out.new) }
-        ensures tags { OnOk result (tags.new ≡ record {
-          made = mac_s_tag self.now.eui self.now.id_s (record { 0 = rand_p_of packet.now }) ∷ granting_tag self.now.eui 2 self.now.rand_s (record { 0 = rand_p_of packet.now }) (granting_text grant.now) ∷ [];
-          opened = mac_p_tag self.now.eui self.now.id_s self.now.rand_s (record { 0 = rand_p_of packet.now }) ∷ [];
-        }) }
+        ensures read { OnOk result (packet.now ≡ second_packet keys.now 1 (peer_of self.now (rand_p_in packet.now))) }
+        ensures written { OnOk result
+            (out.new ≡ third_packet keys.now 2 (peer_of self.now (rand_p_in packet.now)) grant.now) }
+        ensures tags { OnOk result (tags.new ≡ second_tags (peer_of self.now (rand_p_in packet.now)) grant.now) }
         ensures refused { OnErr result ((out.new ≡ []) × (tags.new ≡ no_tags)) }
     {
         out.clear();
@@ -146,11 +144,13 @@ impl Server {
     ) -> Result<Agreed, EapFault>
         requires awaits { IsSome self.now.rand_p }
         // A fault is the first one.
-        ensures exact { IfSome self.now.rand_p (λ rand_p. MatchResult result (λ _. fourth_fault keys.now self.now rand_p.0 packet.now ≡ None) (λ e. fourth_fault keys.now self.now rand_p.0 packet.now ≡ Some e)) }
-        ensures agreed { IfOk result (λ agreed. (agreed.rand_s ≡ self.now.rand_s) × (Some agreed.rand_p ≡ self.now.rand_p)) }
+        ensures exact { IfSome self.now.rand_p
+            (λ rand_p. fourth_fault keys.now self.now rand_p.0 packet.now ≡ result_err result) }
+        ensures agreed { IfOk result
+            (λ agreed. (agreed.rand_s ≡ self.now.rand_s) × (Some agreed.rand_p ≡ self.now.rand_p)) }
         // What is taken is the fourth message of this session.
-        ensures read { IfOk result (λ agreed. Fourth (transient_key keys.now.kdk agreed.rand_p.0) 2 self.now.rand_s.0 packet.now) }
-        ensures tags { IfOk result (λ agreed. tags.new ≡ record { made = []; opened = success_tag self.now.eui 2 self.now.rand_s agreed.rand_p ∷ [] }) }
+        ensures read { IfOk result (λ agreed. packet.now ≡ fourth_packet keys.now 2 (peer_of self.now agreed.rand_p)) }
+        ensures tags { IfOk result (λ agreed. tags.new ≡ fourth_tags (peer_of self.now agreed.rand_p)) }
         ensures refused { OnErr result (tags.new ≡ no_tags) }
     {
         self.take_fourth_with(self.rand_p.unwrap(), keys, packet, tags)
@@ -165,10 +165,10 @@ impl Server {
         packet: &[u8],
         tags: &mut TagList,
     ) -> Result<Agreed, EapFault>
-        ensures exact { MatchResult result (λ _. fourth_fault keys.now self.now rand_p.0 packet.now ≡ None) (λ e. fourth_fault keys.now self.now rand_p.0 packet.now ≡ Some e) }
-        ensures agreed { IfOk result (λ agreed. agreed ≡ record { rand_s = self.now.rand_s; rand_p = rand_p }) }
-        ensures read { OnOk result (Fourth (transient_key keys.now.kdk rand_p.0) 2 self.now.rand_s.0 packet.now) }
-        ensures tags { OnOk result (tags.new ≡ record { made = []; opened = success_tag self.now.eui 2 self.now.rand_s rand_p ∷ [] }) }
+        ensures exact { fourth_fault keys.now self.now rand_p.0 packet.now ≡ result_err result }
+        ensures agreed { IfOk result (λ agreed. agreed ≡ agreed_by (peer_of self.now rand_p)) }
+        ensures read { OnOk result (packet.now ≡ fourth_packet keys.now 2 (peer_of self.now rand_p)) }
+        ensures tags { OnOk result (tags.new ≡ fourth_tags (peer_of self.now rand_p)) }
         ensures refused { OnErr result (tags.new ≡ no_tags) }
     {
         *tags = TagList::new();

@@ -62,7 +62,7 @@ stands_true : (at x : ℕ) (octets : List ℕ) → at < length octets → octet 
 unfolding stands
 stands_true at x octets within is = grind (arith, common_steps)
 
-address_true : (at a : ℕ) (octets : List ℕ) → at + 1 < length octets → two at octets ≡ a → a < 0xFFFE → address_stands at octets ≡ true
+address_true : (at a : ℕ) (octets : List ℕ) → at + 1 < length octets → two at octets ≡ a → IsAddress a → address_stands at octets ≡ true
 unfolding address_stands
 address_true at a octets within is fits = grind (arith, common_steps)
 

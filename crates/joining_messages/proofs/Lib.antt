@@ -1,3 +1,5 @@
 pub mod Rests
-pub mod Laws
+pub mod Spellings
 pub mod GrantLaws
+pub mod Readings
+pub mod GrantReadings

@@ -1,7 +1,7 @@
 -- The parameter list of a grant, and the one spelling of each.
 use Rattle.std.specs.Prelude.{◌≡◌, ◌+◌, ℕ, Bool, false, List, [], ◌∷◌, ◌++◌, length, Option, Some, None, nat_lt, ◌==◌, ◌&&◌, if◌then◌else◌, ⊤}
 use Rattle.byteorder.specs.Endian.{big_bytes}
-use Rattle.plc_base.specs.Addresses.{IsAddress}
+use Rattle.plc_base.specs.Addresses.{IsAddress, is_address}
 use Rattle.plc_base.specs.Fields.{octet, two}
 use Rattle.plc_base.specs.Grant.{Granted, IsGrant}
 use Rattle.plc_base.specs.declared.key.Key.{Key}
@@ -38,7 +38,7 @@ unfoldable pub stands : ℕ → ℕ → List ℕ → Bool
 stands at x octets = nat_lt at (length octets) && octet at octets == x
 
 unfoldable pub address_stands : ℕ → List ℕ → Bool
-address_stands at octets = nat_lt (at + 1) (length octets) && nat_lt (two at octets) 0xFFFE
+address_stands at octets = nat_lt (at + 1) (length octets) && is_address (two at octets)
 
 unfoldable pub index_stands : ℕ → List ℕ → Bool
 index_stands at octets = nat_lt at (length octets) && nat_lt (octet at octets) 2

@@ -1,7 +1,5 @@
 //! Why octets are no joining message.
-ghost use Rattle.std.specs.Prelude.{◌≡◌};
-
-use plc_base::Ended;
+use plc_base::{Fault, FaultKind};
 use thiserror::Error;
 
 /// What is wrong, at the first place from the left where something is.
@@ -19,30 +17,12 @@ pub enum JoinFaultKind {
 }
 
 /// The first fault from the left of octets that are no joining message.
-#[derive(Clone, Copy, Debug, PartialEq, Eq, Drop, Error)]
-#[error("{kind}, at octet {place}")]
-pub struct JoinFault {
-    /// What is wrong.
-    pub kind: JoinFaultKind,
-    /// Where, counted from 0.
-    pub place: u16,
-}
+pub type JoinFault = Fault<JoinFaultKind>;
 
-pub(crate) fn fault(kind: JoinFaultKind, place: u16) -> JoinFault
-    ensures { result ≡ record { kind = kind; place = place } }
-{
-    JoinFault { kind, place }
-}
-
-impl From<Ended> for JoinFault {
+impl FaultKind for JoinFaultKind {
     ghost use Rattle.joining_messages.specs.declared.fault.JoinFaultKind.TheVariants.{Short};
 
-    ghost from_gives = { λ e f. f ≡ record { kind = Short; place = e.place } };
+    const SHORT: JoinFaultKind = JoinFaultKind::Short;
 
-    fn from(e: Ended) -> JoinFault {
-        JoinFault {
-            kind: JoinFaultKind::Short,
-            place: e.place,
-        }
-    }
+    ghost SHORT = { Short };
 }

@@ -2,8 +2,10 @@
 ghost use Rattle.std.specs.Prelude.{ℕ, ◌≡◌, ◌≤◌, ◌<◌, ◌+◌, ◌∷◌, ◌++◌, ◌↔◌, List, [], length, true, false, IsSome, IsTrue, IfSome, MatchOption, Some, None};
 ghost use Rattle.byteorder.specs.Endian.{big_bytes};
 ghost use Rattle.plc_base.specs.Addresses.{IsAddress};
+ghost use Rattle.plc_base.specs.Faults.{ReadsWhen};
 ghost use Rattle.plc_base.specs.Fields.{octet, after};
 ghost use Rattle.plc_base.specs.Grant.{Granted};
+ghost use Rattle.joining_messages.specs.Reading.{grant_in};
 ghost use Rattle.joining_messages.specs.Grants.{IsGranted, IsPlace, SpellsGrant, grant_spelling, key_then, stands, address_stands, index_stands, sixteen_stand, head_stands, key_stands, is_parameter_list};
 
 use plc_base::{EapBuf, Grant, Key, Short, octet_at, octets_at, two_at};
@@ -12,8 +14,8 @@ use plc_base::{EapBuf, Grant, Key, Short, octet_at, octets_at, two_at};
 #[tactic(auto, unfolding(crate::specs::Grants::stands))]
 fn expect(octets: &[u8], at: usize, octet: u8) -> Option<()>
     requires { at ≤ 100 }
-    ensures { MatchOption result (stands at octet octets.now ≡ false)
-        (λ _. (stands at octet octets.now ≡ true) × (after at octets.now ≡ octet ∷ after (at + 1) octets.now)) }
+    ensures { ReadsWhen (stands at octet octets.now) result
+        (λ _. (after at octets.now ≡ octet ∷ after (at + 1) octets.now)) }
 {
     if octet_at(octets, at).ok()? != octet {
         return None;
@@ -24,8 +26,8 @@ fn expect(octets: &[u8], at: usize, octet: u8) -> Option<()>
 #[tactic(auto, unfolding(crate::specs::Grants::address_stands))]
 fn address_at(octets: &[u8], at: usize) -> Option<Short>
     requires { at ≤ 100 }
-    ensures { MatchOption result (address_stands at octets.now ≡ false)
-        (λ x. (address_stands at octets.now ≡ true) × IsAddress x × (after at octets.now ≡ big_bytes 2 x ++ after (at + 2) octets.now)) }
+    ensures { ReadsWhen (address_stands at octets.now) result
+        (λ x. IsAddress x × (after at octets.now ≡ big_bytes 2 x ++ after (at + 2) octets.now)) }
 {
     Short::new(two_at(octets, at).ok()?)
 }
@@ -33,8 +35,8 @@ fn address_at(octets: &[u8], at: usize) -> Option<Short>
 #[tactic(auto, unfolding(crate::specs::Grants::index_stands))]
 fn index_at(octets: &[u8], at: usize) -> Option<u8>
     requires { at ≤ 100 }
-    ensures { MatchOption result (index_stands at octets.now ≡ false)
-        (λ x. (index_stands at octets.now ≡ true) × (x ≤ 1) × (x ≡ octet at octets.now) × (after at octets.now ≡ x ∷ after (at + 1) octets.now)) }
+    ensures { ReadsWhen (index_stands at octets.now) result
+        (λ x. (x ≤ 1) × (x ≡ octet at octets.now) × (after at octets.now ≡ x ∷ after (at + 1) octets.now)) }
 {
     let index = octet_at(octets, at).ok()?;
     if index > 1 {
@@ -46,8 +48,8 @@ fn index_at(octets: &[u8], at: usize) -> Option<u8>
 #[tactic(auto, unfolding(crate::specs::Grants::sixteen_stand))]
 fn sixteen_at(octets: &[u8], at: usize) -> Option<Key>
     requires { at ≤ 100 }
-    ensures { MatchOption result (sixteen_stand at octets.now ≡ false)
-        (λ key. (sixteen_stand at octets.now ≡ true) × (length key.0 ≡ 16) × (after at octets.now ≡ key.0 ++ after (at + 16) octets.now)) }
+    ensures { ReadsWhen (sixteen_stand at octets.now) result
+        (λ key. (length key.0 ≡ 16) × (after at octets.now ≡ key.0 ++ after (at + 16) octets.now)) }
 {
     Some(Key(octets_at(octets, at).ok()?))
 }
@@ -55,8 +57,9 @@ fn sixteen_at(octets: &[u8], at: usize) -> Option<Key>
 // The parameters of the address and of the active index.
 #[tactic(auto, unfolding(crate::specs::Grants::head_stands), using(plc_base::proofs::Places::after_none))]
 fn head_of(octets: &[u8]) -> Option<(Short, u8)>
-    ensures { MatchOption result (head_stands octets.now ≡ false)
-        (λ x. (head_stands octets.now ≡ true) × IsAddress x.0 × (x.1 ≤ 1) × (x.1 ≡ octet 6 octets.now) × (octets.now ≡ 1 ∷ 2 ∷ big_bytes 2 x.0 ++ (2 ∷ 1 ∷ x.1 ∷ after 7 octets.now))) }
+    ensures { ReadsWhen (head_stands octets.now) result
+        (λ x. IsAddress x.0 × (x.1 ≤ 1) × (x.1 ≡ octet 6 octets.now)
+        × (octets.now ≡ 1 ∷ 2 ∷ big_bytes 2 x.0 ++ (2 ∷ 1 ∷ x.1 ∷ after 7 octets.now))) }
 {
     expect(octets, 0, 1)?;
     expect(octets, 1, 2)?;
@@ -71,8 +74,8 @@ fn head_of(octets: &[u8]) -> Option<(Short, u8)>
 #[tactic(auto, unfolding(crate::specs::Grants::key_stands))]
 fn key_at(octets: &[u8], at: usize, index: u8) -> Option<Key>
     requires { at ≤ 50 }
-    ensures { MatchOption result (key_stands at index octets.now ≡ false)
-        (λ key. (key_stands at index octets.now ≡ true) × (length key.0 ≡ 16) × (after at octets.now ≡ 3 ∷ 0x11 ∷ index ∷ key.0 ++ after (at + 19) octets.now)) }
+    ensures { ReadsWhen (key_stands at index octets.now) result
+        (λ key. (length key.0 ≡ 16) × (after at octets.now ≡ 3 ∷ 0x11 ∷ index ∷ key.0 ++ after (at + 19) octets.now)) }
 {
     expect(octets, at, 3)?;
     expect(octets, at + 1, 0x11)?;
@@ -84,7 +87,8 @@ fn key_at(octets: &[u8], at: usize, index: u8) -> Option<Key>
 #[tactic(auto, using(plc_base::proofs::Places::after_all))]
 fn grant_of(octets: &[u8]) -> Option<Grant>
     ensures found { IfSome result (λ grant. SpellsGrant grant octets.now) }
-    ensures exact { MatchOption result (is_parameter_list octets.now ≡ false) (λ grant. is_parameter_list octets.now ≡ true) }
+    ensures exact { MatchOption result (is_parameter_list octets.now ≡ false)
+        (λ _. is_parameter_list octets.now ≡ true) }
 {
     let (address, active) = head_of(octets)?;
     let keys = if octets.len() == 26 {
@@ -110,6 +114,8 @@ fn grant_of(octets: &[u8]) -> Option<Grant>
 pub fn read_grant(octets: &[u8]) -> Option<Grant>
     // What is read is spelled so.
     ensures found { IfSome result (λ grant. SpellsGrant grant octets.now) }
+    // What is read is the grant that stands in the octets, if they are one.
+    ensures value { grant_in octets.now ≡ result }
     // What is spelled so is read.
     ensures only { (grant : Granted) → SpellsGrant grant octets.now → result ≡ Some grant }
     // The test says whether there is one.

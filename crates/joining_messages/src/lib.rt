@@ -8,6 +8,7 @@
 
 mod fault;
 mod granting;
+pub mod laws;
 mod message;
 mod reading;
 #[cfg(test)]

@@ -1,30 +1,33 @@
 //! Reads joining messages.
 ghost use Rattle.std.specs.Prelude.{◌≡◌, ◌≤◌, ◌<◌, ◌+◌, ◌∷◌, ◌++◌, List, [], length, IfOk, MatchResult, Some, None, Ok};
+ghost use Rattle.std.specs.Result.{result_ok};
 ghost use Rattle.plc_base.specs.Fields.{octet, after};
+ghost use Rattle.plc_base.specs.Faults.{ReadsUnless};
+ghost use Rattle.joining_messages.specs.Reading.{join_in};
 ghost use Rattle.joining_messages.specs.Messages.{IsBody, Spells, rest_of, code_of};
 ghost use Rattle.joining_messages.specs.Faults.{code_fault, eui_fault, join_rest_fault, challenge_rest_fault, accept_rest_fault, activate_rest_fault, no_rest_fault, rest_fault, join_fault};
 ghost use Rattle.joining_messages.specs.declared.message.JoinMessage.{JoinMessage};
 
-use crate::fault::{JoinFault, JoinFaultKind, fault};
+use crate::fault::{JoinFault, JoinFaultKind};
 use crate::message::{JoinBody, JoinMessage};
-use plc_base::{EapBuf, Eui, octet_at, octets_at, rest_at};
+use plc_base::{EapBuf, Eui, Fault, octet_at, octets_at, rest_at};
 
-#[tactic(auto, unfolding(crate::specs::Faults::code_fault, crate::specs::Faults::short, plc_base::specs::Faults::cut_off), using(plc_base::proofs::Places::after_none))]
+#[tactic(auto, unfolding(crate::specs::Faults::code_fault, plc_base::specs::Faults::cut_off), using(plc_base::proofs::Places::after_none))]
 fn code_at_front(octets: &[u8]) -> Result<u8, JoinFault>
-    ensures { MatchResult result (λ x. (code_fault octets.now ≡ None) × (0 < x) × (x ≤ 6) × (x ≡ octet 0 octets.now) × (octets.now ≡ x ∷ after 1 octets.now))
-        (λ e. code_fault octets.now ≡ Some e) }
+    ensures { ReadsUnless (code_fault octets.now) result
+        (λ x. (0 < x) × (x ≤ 6) × (x ≡ octet 0 octets.now) × (octets.now ≡ x ∷ after 1 octets.now)) }
 {
     let code = octet_at(octets, 0)?;
     if code == 0 || code > 6 {
-        return Err(fault(JoinFaultKind::Code, 0));
+        return Err(Fault::at(JoinFaultKind::Code, 0));
     }
     Ok(code)
 }
 
-#[tactic(auto, unfolding(crate::specs::Faults::eui_fault, crate::specs::Faults::short, plc_base::specs::Faults::cut_off))]
+#[tactic(auto, unfolding(crate::specs::Faults::eui_fault, plc_base::specs::Faults::cut_off))]
 fn eui_behind_the_code(octets: &[u8]) -> Result<Eui, JoinFault>
-    ensures { MatchResult result (λ x. (eui_fault octets.now ≡ None) × (9 ≤ length octets.now) × (length x.0 ≡ 8) × (after 1 octets.now ≡ x.0 ++ after 9 octets.now))
-        (λ e. eui_fault octets.now ≡ Some e) }
+    ensures { ReadsUnless (eui_fault octets.now) result
+        (λ x. (9 ≤ length octets.now) × (length x.0 ≡ 8) × (after 1 octets.now ≡ x.0 ++ after 9 octets.now)) }
 {
     Ok(Eui(octets_at(octets, 1)?))
 }
@@ -33,12 +36,12 @@ fn eui_behind_the_code(octets: &[u8]) -> Result<Eui, JoinFault>
 #[tactic(auto, unfolding(crate::specs::Faults::join_rest_fault))]
 fn join_rest(octets: &[u8]) -> Result<EapBuf, JoinFault>
     requires { 9 ≤ length octets.now }
-    ensures { MatchResult result (λ x. (join_rest_fault octets.now ≡ None) × (length x ≤ 128) × (x ≡ after 9 octets.now))
-        (λ e. join_rest_fault octets.now ≡ Some e) }
+    ensures { ReadsUnless (join_rest_fault octets.now) result
+        (λ x. (length x ≤ 128) × (x ≡ after 9 octets.now)) }
 {
     let rest = rest_at(octets, 9);
     if rest.len() > 128 {
-        return Err(fault(JoinFaultKind::Body, 9));
+        return Err(Fault::at(JoinFaultKind::Body, 9));
     }
     Ok(EapBuf::from_octets(rest))
 }
@@ -47,12 +50,12 @@ fn join_rest(octets: &[u8]) -> Result<EapBuf, JoinFault>
 #[tactic(auto, unfolding(crate::specs::Faults::challenge_rest_fault))]
 fn challenge_rest(octets: &[u8]) -> Result<EapBuf, JoinFault>
     requires { 9 ≤ length octets.now }
-    ensures { MatchResult result (λ x. (challenge_rest_fault octets.now ≡ None) × (0 < length x) × (length x ≤ 128) × (x ≡ after 9 octets.now))
-        (λ e. challenge_rest_fault octets.now ≡ Some e) }
+    ensures { ReadsUnless (challenge_rest_fault octets.now) result
+        (λ x. (0 < length x) × (length x ≤ 128) × (x ≡ after 9 octets.now)) }
 {
     let rest = rest_at(octets, 9);
     if rest.is_empty() || rest.len() > 128 {
-        return Err(fault(JoinFaultKind::Body, 9));
+        return Err(Fault::at(JoinFaultKind::Body, 9));
     }
     Ok(EapBuf::from_octets(rest))
 }
@@ -61,12 +64,12 @@ fn challenge_rest(octets: &[u8]) -> Result<EapBuf, JoinFault>
 #[tactic(auto, unfolding(crate::specs::Faults::accept_rest_fault), using(crate::proofs::Rests::four_are))]
 fn accept_rest(octets: &[u8]) -> Result<u8, JoinFault>
     requires { 9 ≤ length octets.now }
-    ensures { MatchResult result (λ x. (accept_rest_fault octets.now ≡ None) × (after 9 octets.now ≡ 3 ∷ x ∷ 0 ∷ 4 ∷ []))
-        (λ e. accept_rest_fault octets.now ≡ Some e) }
+    ensures { ReadsUnless (accept_rest_fault octets.now) result
+        (λ x. (after 9 octets.now ≡ 3 ∷ x ∷ 0 ∷ 4 ∷ [])) }
 {
     match rest_at(octets, 9) {
         [3, identifier, 0, 4] => Ok(*identifier),
-        _ => Err(fault(JoinFaultKind::Body, 9)),
+        _ => Err(Fault::at(JoinFaultKind::Body, 9)),
     }
 }
 
@@ -74,12 +77,12 @@ fn accept_rest(octets: &[u8]) -> Result<u8, JoinFault>
 #[tactic(auto, unfolding(crate::specs::Faults::activate_rest_fault), using(crate::proofs::Rests::one_is))]
 fn activate_rest(octets: &[u8]) -> Result<u8, JoinFault>
     requires { 9 ≤ length octets.now }
-    ensures { MatchResult result (λ x. (activate_rest_fault octets.now ≡ None) × (x ≤ 1) × (after 9 octets.now ≡ x ∷ []))
-        (λ e. activate_rest_fault octets.now ≡ Some e) }
+    ensures { ReadsUnless (activate_rest_fault octets.now) result
+        (λ x. (x ≤ 1) × (after 9 octets.now ≡ x ∷ [])) }
 {
     match rest_at(octets, 9) {
         [index] if *index <= 1 => Ok(*index),
-        _ => Err(fault(JoinFaultKind::Body, 9)),
+        _ => Err(Fault::at(JoinFaultKind::Body, 9)),
     }
 }
 
@@ -87,22 +90,22 @@ fn activate_rest(octets: &[u8]) -> Result<u8, JoinFault>
 #[tactic(auto, unfolding(crate::specs::Faults::no_rest_fault), using(plc_base::proofs::Places::after_all))]
 fn no_rest(octets: &[u8]) -> Result<(), JoinFault>
     requires { 9 ≤ length octets.now }
-    ensures { MatchResult result (λ _. (no_rest_fault octets.now ≡ None) × (after 9 octets.now ≡ []))
-        (λ e. no_rest_fault octets.now ≡ Some e) }
+    ensures { ReadsUnless (no_rest_fault octets.now) result
+        (λ _. (after 9 octets.now ≡ [])) }
 {
     if octets.len() > 9 {
-        return Err(fault(JoinFaultKind::Body, 9));
+        return Err(Fault::at(JoinFaultKind::Body, 9));
     }
     Ok(())
 }
 
-// What stands behind the EUI, by the code.
+// What follows the EUI, by the code.
 fn body_of(octets: &[u8], code: u8) -> Result<JoinBody, JoinFault>
     requires head { 9 ≤ length octets.now }
     requires low { 0 < code }
     requires high { code ≤ 6 }
-    ensures { MatchResult result (λ x. (rest_fault code octets.now ≡ None) × IsBody x × (code_of x ≡ code) × (after 9 octets.now ≡ rest_of x))
-        (λ e. rest_fault code octets.now ≡ Some e) }
+    ensures { ReadsUnless (rest_fault code octets.now) result
+        (λ x. IsBody x × (code_of x ≡ code) × (after 9 octets.now ≡ rest_of x)) }
 {
     match code {
         1 => Ok(JoinBody::Join {
@@ -144,6 +147,8 @@ fn message_of(octets: &[u8]) -> Result<JoinMessage, JoinFault>
 pub fn read_join(octets: &[u8]) -> Result<JoinMessage, JoinFault>
     // What is read is spelled so.
     ensures found { IfOk result (λ message. Spells message octets.now) }
+    // What is read is the message that stands in the octets, if they are one.
+    ensures value { join_in octets.now ≡ result_ok result }
     // What is spelled so is read.
     ensures only { (message : JoinMessage) → Spells message octets.now → result ≡ Ok message }
     // A fault is the first one.

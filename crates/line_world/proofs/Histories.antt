@@ -11,7 +11,7 @@ use Rattle.mac_frames.specs.declared.head.MacHead.{MacHead}
 use Rattle.mac_frames.specs.Grammar.{header}
 use Rattle.mac_frames.specs.Sealing.{SealedFrame, nonce_of}
 use Rattle.mac_frames.proofs.Values.{one_value}
-use Rattle.mesh_header.proofs.Laws.{few_then}
+use Rattle.mesh_header.proofs.Spellings.{few_then}
 use Rattle.byteorder.specs.Endian.{big_bytes}
 use Rattle.frame_counters.specs.SendCounter.{Counting, is_spent, reserved, passes, raised}
 use Rattle.line_world.specs.declared.world.Flight.{Flight}

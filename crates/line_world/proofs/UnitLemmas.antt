@@ -11,7 +11,7 @@ use Rattle.plc_base.proofs.Places.{octet_behind, two_behind, after_behind}
 use Rattle.mesh_header.specs.declared.unit.Mesh.{Mesh}
 use Rattle.mesh_header.specs.declared.unit.Unit.TheVariants.{Whole}
 use Rattle.mesh_header.specs.Grammar.{Spells, spelling}
-use Rattle.mesh_header.proofs.Laws.{few_then, many_then}
+use Rattle.mesh_header.proofs.Spellings.{few_then, many_then}
 use Rattle.mesh_header.proofs.Values.{one_value}
 use Rattle.line_world.specs.declared.hearing.WholeUnit.{WholeUnit}
 use Rattle.line_world.specs.Units.{whole_at, is_spelled, whole_in}

@@ -1,66 +1,54 @@
 //! Reads route messages.
 ghost use Rattle.std.specs.Prelude.{◌≡◌, ◌≤◌, ◌<◌, ◌+◌, ◌∷◌, List, [], length, IfOk, MatchResult, Some, None, Ok};
+ghost use Rattle.std.specs.Result.{result_ok};
 ghost use Rattle.byteorder.specs.Endian.{big_bytes};
 ghost use Rattle.plc_base.specs.Fields.{Stands, octet, after};
-ghost use Rattle.plc_base.specs.Addresses.{IsAddress};
+ghost use Rattle.plc_base.specs.Faults.{ReadsUnless, cut_off};
 ghost use Rattle.loadng_messages.specs.Grammar.{IsNumber, IsMessage, Spells};
 ghost use Rattle.loadng_messages.specs.declared.message.Message.{Message};
-ghost use Rattle.loadng_messages.specs.Faults.{short, number_fault, address_fault, long, message_fault};
+ghost use Rattle.loadng_messages.specs.Reading.{message_in};
+ghost use Rattle.loadng_messages.specs.Faults.{number_fault, long, message_fault};
 
-use crate::fault::{MessageFault, MessageFaultKind, fault};
+use crate::fault::{MessageFault, MessageFaultKind};
 use crate::message::Message;
-use plc_base::{Short, octet_at, two_at};
+use plc_base::{Fault, address_at, octet_at, two_at};
 
-#[tactic(auto, unfolding(crate::specs::Faults::short, plc_base::specs::Faults::cut_off), using(plc_base::proofs::Places::after_none))]
+#[tactic(auto, unfolding(plc_base::specs::Faults::cut_off), using(plc_base::proofs::Places::after_none))]
 fn kind_of(octets: &[u8]) -> Result<u8, MessageFault>
-    ensures { MatchResult result (λ x. (short 1 octets.now ≡ None) × (x ≡ octet 0 octets.now) × (octets.now ≡ x ∷ after 1 octets.now))
-        (λ e. short 1 octets.now ≡ Some e) }
+    ensures { ReadsUnless (cut_off MessageFaultKind.Short 1 octets.now) result
+        (λ x. (x ≡ octet 0 octets.now) × (octets.now ≡ x ∷ after 1 octets.now)) }
 {
     Ok(octet_at(octets, 0)?)
 }
 
-#[tactic(auto, unfolding(crate::specs::Faults::short, plc_base::specs::Faults::cut_off))]
+#[tactic(auto, unfolding(plc_base::specs::Faults::cut_off))]
 fn cost_at(octets: &[u8], at: usize) -> Result<u16, MessageFault>
     requires { at ≤ 9 }
-    ensures { MatchResult result (λ x. (short (at + 2) octets.now ≡ None) × Stands (big_bytes 2 x) at octets.now)
-        (λ e. short (at + 2) octets.now ≡ Some e) }
+    ensures { ReadsUnless (cut_off MessageFaultKind.Short (at + 2) octets.now) result
+        (λ x. Stands (big_bytes 2 x) at octets.now) }
 {
     Ok(two_at(octets, at)?)
 }
 
-#[tactic(auto, unfolding(crate::specs::Faults::number_fault, crate::specs::Faults::short, plc_base::specs::Faults::cut_off))]
+#[tactic(auto, unfolding(crate::specs::Faults::number_fault, plc_base::specs::Faults::cut_off))]
 fn number_at(octets: &[u8], at: usize) -> Result<u16, MessageFault>
     requires { at ≤ 9 }
-    ensures { MatchResult result (λ x. (number_fault at octets.now ≡ None) × IsNumber x × Stands (big_bytes 2 x) at octets.now)
-        (λ e. number_fault at octets.now ≡ Some e) }
+    ensures { ReadsUnless (number_fault at octets.now) result (λ x. IsNumber x × Stands (big_bytes 2 x) at octets.now) }
 {
     let number = two_at(octets, at)?;
     if number == 0 {
-        return Err(fault(MessageFaultKind::Zero, at as u16));
+        return Err(Fault::at(MessageFaultKind::Zero, at));
     }
     Ok(number)
-}
-
-#[tactic(auto, unfolding(crate::specs::Faults::address_fault, crate::specs::Faults::short, plc_base::specs::Faults::cut_off))]
-fn address_at(octets: &[u8], at: usize) -> Result<Short, MessageFault>
-    requires { at ≤ 9 }
-    ensures { MatchResult result (λ x. (address_fault at octets.now ≡ None) × IsAddress x × Stands (big_bytes 2 x) at octets.now)
-        (λ e. address_fault at octets.now ≡ Some e) }
-{
-    match Short::new(two_at(octets, at)?) {
-        None => Err(fault(MessageFaultKind::Address, at as u16)),
-        Some(address) => Ok(address),
-    }
 }
 
 #[tactic(auto, unfolding(crate::specs::Faults::long), using(plc_base::proofs::Places::after_all))]
 fn end_at(octets: &[u8], end: usize) -> Result<(), MessageFault>
     requires { end ≤ 9 }
-    ensures { MatchResult result (λ x. (long end octets.now ≡ None) × (after end octets.now ≡ []))
-        (λ e. long end octets.now ≡ Some e) }
+    ensures { ReadsUnless (long end octets.now) result (λ x. (after end octets.now ≡ [])) }
 {
     if octets.len() > end {
-        return Err(fault(MessageFaultKind::Long, end as u16));
+        return Err(Fault::at(MessageFaultKind::Long, end));
     }
     Ok(())
 }
@@ -68,14 +56,14 @@ fn end_at(octets: &[u8], end: usize) -> Result<(), MessageFault>
 // The message that the octets spell, or the first fault.
 fn message_of(octets: &[u8]) -> Result<Message, MessageFault>
     ensures found { IfOk result (λ message. Spells message octets.now) }
-    ensures exact { MatchResult result (λ message. message_fault octets.now ≡ None) (λ e. message_fault octets.now ≡ Some e) }
+    ensures exact { MatchResult result (λ _. message_fault octets.now ≡ None) (λ e. message_fault octets.now ≡ Some e) }
 {
     match kind_of(octets)? {
         1 => {
             let number = number_at(octets, 1)?;
             let cost = cost_at(octets, 3)?;
-            let origin = address_at(octets, 5)?;
-            let dest = address_at(octets, 7)?;
+            let origin = address_at(octets, 5, MessageFaultKind::Address)?;
+            let dest = address_at(octets, 7, MessageFaultKind::Address)?;
             end_at(octets, 9)?;
             Ok(Message::Rreq {
                 number,
@@ -87,8 +75,8 @@ fn message_of(octets: &[u8]) -> Result<Message, MessageFault>
         2 => {
             let number = number_at(octets, 1)?;
             let cost = cost_at(octets, 3)?;
-            let origin = address_at(octets, 5)?;
-            let to = address_at(octets, 7)?;
+            let origin = address_at(octets, 5, MessageFaultKind::Address)?;
+            let to = address_at(octets, 7, MessageFaultKind::Address)?;
             end_at(octets, 9)?;
             Ok(Message::Rrep {
                 number,
@@ -98,12 +86,12 @@ fn message_of(octets: &[u8]) -> Result<Message, MessageFault>
             })
         }
         3 => {
-            let lost = address_at(octets, 1)?;
-            let to = address_at(octets, 3)?;
+            let lost = address_at(octets, 1, MessageFaultKind::Address)?;
+            let to = address_at(octets, 3, MessageFaultKind::Address)?;
             end_at(octets, 5)?;
             Ok(Message::Rerr { lost, to })
         }
-        _ => Err(fault(MessageFaultKind::Kind, 0)),
+        _ => Err(Fault::at(MessageFaultKind::Kind, 0)),
     }
 }
 
@@ -111,10 +99,12 @@ fn message_of(octets: &[u8]) -> Result<Message, MessageFault>
 pub fn read_message(octets: &[u8]) -> Result<Message, MessageFault>
     // What is read is spelled so.
     ensures found { IfOk result (λ message. Spells message octets.now) }
+    // What is read is the value that stands in the octets, if they are one.
+    ensures value { message_in octets.now ≡ result_ok result }
     // What is spelled so is read.
     ensures only { (message : Message) → Spells message octets.now → result ≡ Ok message }
     // A fault is the first one.
-    ensures exact { MatchResult result (λ message. message_fault octets.now ≡ None) (λ e. message_fault octets.now ≡ Some e) }
+    ensures exact { MatchResult result (λ _. message_fault octets.now ≡ None) (λ e. message_fault octets.now ≡ Some e) }
     // A spelling is of one value.
     ensures one_value { (a b : Message) → Spells a octets.now → Spells b octets.now → a ≡ b }
 {

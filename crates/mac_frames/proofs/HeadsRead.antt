@@ -1,5 +1,5 @@
 -- What is read off the octets of a frame is its head and its body.
-use Rattle.std.proofs.Common.{◌≡◌, ℕ, zero, suc, ◌+◌, ◌<◌, ◌≤◌, ◌^◌, Bool, true, false, List, [], ◌∷◌, ◌++◌, length, reverse, take, Result, Ok, Err, refl, sym, ◌∙◌, ap, arith}
+use Rattle.std.proofs.Common.{◌≡◌, ℕ, zero, suc, ◌+◌, ◌<◌, ◌≤◌, Bool, true, false, List, [], ◌∷◌, ◌++◌, length, reverse, take, Result, Ok, Err, refl, sym, ◌∙◌, ap, arith}
 use Rattle.std.specs.Prelude.{IfOk}
 use Rattle.std.proofs.lemmas.List.{length-append, length-reverse, reverse-reverse, append_assoc}
 use Rattle.std.proofs.Math.Seq.{take-append_seam}
@@ -7,13 +7,14 @@ use Rattle.byteorder.specs.Endian.{little_bytes}
 use Rattle.plc_base.specs.Fields.{octet, little_two, little_four, part, after}
 use Rattle.plc_base.proofs.Places.{octet_behind, little_two_behind, little_four_behind, after_behind}
 use Rattle.plc_base.specs.declared.address.Eui.{Eui}
-use Rattle.mac_frames.specs.declared.fault.FrameFault.{FrameFault}
+use Rattle.plc_base.specs.declared.fields.Fault.{Fault}
+use Rattle.mac_frames.specs.declared.fault.FrameFaultKind.{FrameFaultKind}
 use Rattle.mac_frames.specs.declared.head.MacHead.{MacHead}
 use Rattle.mac_frames.specs.declared.reading.RawFrame.{RawFrame}
 use Rattle.mac_frames.specs.declared.head.MacHead.TheVariants.{Sealed, Up, Down}
 use Rattle.mac_frames.specs.Faults.{bits, is_sealed, has_modes}
 use Rattle.mac_frames.specs.Grammar.{IsHead, Frame, header, header_then, low_control, high_control}
-use Rattle.mac_frames.specs.Reading.{ack_in, version_in, head_by, head_in, body_in}
+use Rattle.mac_frames.specs.Reading.{ack_in, head_by, head_in, body_in}
 use Rattle.mac_frames.proofs.Headers.{header_then-append, length-header}
 
 low_sealed : (ack : Bool) (rest : List ℕ) → (is_sealed (low_control true ack ∷ rest) ≡ true) × (ack_in (low_control true ack ∷ rest) ≡ ack)
@@ -117,6 +118,6 @@ body_read head body octets f =
     ap (after 15) (f.spelled ∙ header_then-append head body) ∙ ap (λ n. after n (header head ++ body)) (sym (length-header head f.fields)) ∙ after_behind (header head) body
 
 -- so what a reader answers stands at the places of its fields
-pub places_read : (octets : List ℕ) (r : Result RawFrame FrameFault) → IfOk r (λ raw. Frame raw.head raw.body.now octets) → IfOk r (λ raw. (raw.head ≡ head_in octets) × (raw.body.now ≡ body_in octets))
+pub places_read : (octets : List ℕ) (r : Result RawFrame (Fault FrameFaultKind)) → IfOk r (λ raw. Frame raw.head raw.body.now octets) → IfOk r (λ raw. (raw.head ≡ head_in octets) × (raw.body.now ≡ body_in octets))
 places_read octets (Ok raw) frame = (sym (head_read raw.head raw.body.now octets frame), sym (body_read raw.head raw.body.now octets frame))
 places_read octets (Err e) frame = tt

@@ -1,36 +1,38 @@
 -- What a frame spells has no fault.
-use Rattle.std.proofs.Common.{◌≡◌, ◌≢◌, ℕ, zero, suc, ◌+◌, ◌<◌, ◌≤◌, Bool, true, false, List, ◌∷◌, ◌++◌, length, reverse, None, refl, sym, ap, ◌∙◌, arith}
+use Rattle.std.proofs.Common.{◌≡◌, ◌≢◌, ℕ, zero, suc, ◌+◌, ◌≤◌, Bool, true, false, List, ◌∷◌, ◌++◌, length, reverse, None, refl, sym, ap, ◌∙◌, arith}
 use Rattle.std.proofs.lemmas.Grind.{common_steps}
 use Rattle.std.proofs.lemmas.List.{length-append, length-reverse}
 use Rattle.byteorder.specs.Endian.{little_bytes}
 use Rattle.plc_base.specs.Fields.{octet, little_two}
+use Rattle.plc_base.specs.Addresses.{IsAddress}
 use Rattle.plc_base.specs.Faults.{cut_off}
+use Rattle.plc_base.proofs.Faults.{cut_off-none}
 use Rattle.plc_base.proofs.Places.{little_two_behind}
 use Rattle.plc_base.specs.declared.address.Eui.{Eui}
 use Rattle.mac_frames.specs.declared.head.MacHead.{MacHead}
 use Rattle.mac_frames.specs.declared.head.MacHead.TheVariants.{Sealed, Up, Down}
 use Rattle.mac_frames.specs.Grammar.{Frame, IsHead, IsBody, header_then, high_control, low_control}
-use Rattle.mac_frames.specs.Faults.{short, type_fault, low_fault, is_sealed, version_fault, has_modes, high_fault, target_fault, sender_fault, level_fault, index_fault, sealed_fault, up_fault, down_fault, fields_fault, frame_fault}
+use Rattle.mac_frames.specs.declared.fault.FrameFaultKind.TheVariants.{Short}
+use Rattle.mac_frames.specs.Faults.{type_fault, low_fault, is_sealed, version_fault, has_modes, high_fault, target_fault, sender_fault, level_fault, index_fault, sealed_fault, up_fault, down_fault, fields_fault, frame_fault}
 
 -- a field that is as it should be has no fault
-short_none : (end : ℕ) (octets : List ℕ) → end ≤ length octets → short end octets ≡ None
-unfolding short cut_off
-short_none end octets h = grind (arith, common_steps)
+short_none : (end : ℕ) (octets : List ℕ) → end ≤ length octets → cut_off Short end octets ≡ None
+short_none end octets h = cut_off-none Short end octets h
 
 target_none : (at to : ℕ) (octets : List ℕ) → at + 2 ≤ length octets → little_two at octets ≡ to → to ≢ 0xFFFE → target_fault at octets ≡ None
-unfolding target_fault short cut_off
+unfolding target_fault cut_off
 target_none at to octets h is other = grind (arith, common_steps)
 
-sender_none : (at from : ℕ) (octets : List ℕ) → at + 2 ≤ length octets → little_two at octets ≡ from → from < 0xFFFE → sender_fault at octets ≡ None
-unfolding sender_fault short cut_off
+sender_none : (at from : ℕ) (octets : List ℕ) → at + 2 ≤ length octets → little_two at octets ≡ from → IsAddress from → sender_fault at octets ≡ None
+unfolding sender_fault cut_off
 sender_none at from octets h is low = grind (arith, common_steps)
 
 level_none : (at : ℕ) (octets : List ℕ) → at + 1 ≤ length octets → octet at octets ≡ 0x0D → level_fault at octets ≡ None
-unfolding level_fault short cut_off
+unfolding level_fault cut_off
 level_none at octets h is = grind (arith, common_steps)
 
 index_none : (at index : ℕ) (octets : List ℕ) → at + 1 ≤ length octets → octet at octets ≡ index → index ≤ 1 → index_fault at octets ≡ None
-unfolding index_fault short cut_off
+unfolding index_fault cut_off
 index_none at index octets h is low = grind (arith, common_steps)
 
 low_none : (x : ℕ) (octets : List ℕ) → 1 ≤ length octets → octet 0 octets ≡ x → type_fault x ≡ None → low_fault octets ≡ None
@@ -77,16 +79,16 @@ sealed_none ack seq pan to from counter index body h some =
     let kind : is_sealed octets ≡ true = sealed_bit ack octets refl in
     let f1 : low_fault octets ≡ None = low_none (low_control true ack) octets (omega arith) refl (types true ack) in
     let f2 : high_fault octets ≡ None = high_none true 152 octets (omega arith) kind refl refl in
-    let f3 : short 3 octets ≡ None = short_none 3 octets (omega arith) in
-    let f4 : short 5 octets ≡ None = short_none 5 octets (omega arith) in
+    let f3 : cut_off Short 3 octets ≡ None = short_none 3 octets (omega arith) in
+    let f4 : cut_off Short 5 octets ≡ None = short_none 5 octets (omega arith) in
     let f5 : target_fault 5 octets ≡ None =
     target_none 5 to octets (omega arith) (little_two_behind low to _ (omega (arith, h.2.0))) h.2.1 in
     let f6 : sender_fault 7 octets ≡ None =
     sender_none 7 from octets (omega arith) (little_two_behind (low ++ little_bytes 2 to) from _ (omega (arith, h.3))) h.3 in
     let f7 : level_fault 9 octets ≡ None = level_none 9 octets (omega arith) refl in
-    let f8 : short 14 octets ≡ None = short_none 14 octets (omega arith) in
+    let f8 : cut_off Short 14 octets ≡ None = short_none 14 octets (omega arith) in
     let f9 : index_fault 14 octets ≡ None = index_none 14 index octets (omega arith) refl h.5 in
-    let f10 : short 19 octets ≡ None = short_none 19 octets len in
+    let f10 : cut_off Short 19 octets ≡ None = short_none 19 octets len in
     rw (f1, f2, f3, f4, kind, f5, f6, f7, f8, f9, f10) refl
 
 up_none : (ack : Bool) (version seq pan to : ℕ) (from : Eui) (body : List ℕ) → IsHead (Up ack version seq pan to from)
@@ -100,12 +102,12 @@ up_none ack version seq pan to from body h =
     let v = versions_up version h.0 in
     let f1 : low_fault octets ≡ None = low_none (low_control false ack) octets (omega arith) refl (types false ack) in
     let f2 : high_fault octets ≡ None = high_none false (high_control 2 version 3) octets (omega arith) kind refl v.0 in
-    let f3 : short 3 octets ≡ None = short_none 3 octets (omega arith) in
-    let f4 : short 5 octets ≡ None = short_none 5 octets (omega arith) in
+    let f3 : cut_off Short 3 octets ≡ None = short_none 3 octets (omega arith) in
+    let f4 : cut_off Short 5 octets ≡ None = short_none 5 octets (omega arith) in
     let up : has_modes 2 3 (octet 1 octets) ≡ true = v.1 in
     let f5 : target_fault 5 octets ≡ None =
     target_none 5 to octets (omega arith) (little_two_behind low to _ (omega (arith, h.3.0))) h.3.1 in
-    let f6 : short 15 octets ≡ None = short_none 15 octets len in
+    let f6 : cut_off Short 15 octets ≡ None = short_none 15 octets len in
     rw (f1, f2, f3, f4, kind, up, f5, f6) refl
 
 down_none : (ack : Bool) (version seq pan : ℕ) (to : Eui) (from : ℕ) (body : List ℕ) → IsHead (Down ack version seq pan to from)
@@ -121,10 +123,10 @@ down_none ack version seq pan to from body h =
     let v = versions_down version h.0 in
     let f1 : low_fault octets ≡ None = low_none (low_control false ack) octets (omega arith) refl (types false ack) in
     let f2 : high_fault octets ≡ None = high_none false (high_control 3 version 2) octets (omega arith) kind refl v.0 in
-    let f3 : short 3 octets ≡ None = short_none 3 octets (omega arith) in
-    let f4 : short 5 octets ≡ None = short_none 5 octets (omega arith) in
+    let f3 : cut_off Short 3 octets ≡ None = short_none 3 octets (omega arith) in
+    let f4 : cut_off Short 5 octets ≡ None = short_none 5 octets (omega arith) in
     let down : has_modes 2 3 (octet 1 octets) ≡ false = v.1 in
-    let f5 : short 13 octets ≡ None = short_none 13 octets (omega arith) in
+    let f5 : cut_off Short 13 octets ≡ None = short_none 13 octets (omega arith) in
     let there : little_two 13 octets ≡ from =
     ap (λ (at : ℕ). little_two at octets) (sym thirteen) ∙ little_two_behind low from body (omega (arith, h.4)) in
     let f6 : sender_fault 13 octets ≡ None = sender_none 13 from octets (omega arith) there h.4 in

@@ -7,7 +7,8 @@ use Rattle.std.proofs.lemmas.List.{length-reverse, reverse-reverse}
 use Rattle.byteorder.specs.Endian.{little_bytes}
 use Rattle.plc_base.proofs.Places.{two_same}
 use Rattle.plc_base.specs.declared.address.Eui.{Eui}
-use Rattle.mac_frames.specs.declared.fault.FrameFault.{FrameFault}
+use Rattle.plc_base.specs.declared.fields.Fault.{Fault}
+use Rattle.mac_frames.specs.declared.fault.FrameFaultKind.{FrameFaultKind}
 use Rattle.mac_frames.specs.declared.reading.RawFrame.{RawFrame}
 use Rattle.mac_frames.specs.declared.head.MacHead.{MacHead}
 use Rattle.mac_frames.specs.declared.head.MacHead.TheVariants.{Sealed, Up, Down}
@@ -134,7 +135,7 @@ pub one_value : (a b : MacHead) (x y octets : List ℕ) → Frame a x octets →
 one_value a b x y octets left right =
     one_head a b x y left.fields right.fields (sym left.spelled ∙ right.spelled)
 
-pub only_read : (octets : List ℕ) (r : Result RawFrame FrameFault) → IfOk r (λ raw. Frame raw.head raw.body.now octets)
+pub only_read : (octets : List ℕ) (r : Result RawFrame (Fault FrameFaultKind)) → IfOk r (λ raw. Frame raw.head raw.body.now octets)
     → MatchResult r (λ raw. frame_fault octets ≡ None) (λ e. frame_fault octets ≡ Some e)
     → (head : MacHead) (body : List ℕ) → Frame head body octets → IsOkAnd r (λ raw. (raw.head ≡ head) × (raw.body.now ≡ body))
 only_read octets (Ok raw) found exact head body frame = one_value raw.head head raw.body.now body octets found frame

@@ -1,7 +1,5 @@
 //! Why octets are no MAC frame.
-ghost use Rattle.std.specs.Prelude.{◌≡◌, ◌≤◌};
-
-use plc_base::Ended;
+use plc_base::{Fault, FaultKind};
 use thiserror::Error;
 
 /// What is wrong, at the first place from the left where something is.
@@ -30,34 +28,12 @@ pub enum FrameFaultKind {
 }
 
 /// The first fault of octets that are no MAC frame. `Long` comes first, and then the fields from the left.
-#[derive(Clone, Copy, Debug, PartialEq, Eq, Drop, Error)]
-#[error("{kind}, at octet {place}")]
-pub struct FrameFault {
-    /// What is wrong.
-    pub kind: FrameFaultKind,
-    /// Where, counted from 0.
-    pub place: u16,
-}
+pub type FrameFault = Fault<FrameFaultKind>;
 
-pub(crate) fn fault(kind: FrameFaultKind, place: usize) -> FrameFault
-    requires { place ≤ 1000 }
-    ensures { result ≡ record { kind = kind; place = place } }
-{
-    FrameFault {
-        kind,
-        place: place as u16,
-    }
-}
-
-impl From<Ended> for FrameFault {
+impl FaultKind for FrameFaultKind {
     ghost use Rattle.mac_frames.specs.declared.fault.FrameFaultKind.TheVariants.{Short};
 
-    ghost from_gives = { λ e f. f ≡ record { kind = Short; place = e.place } };
+    const SHORT: FrameFaultKind = FrameFaultKind::Short;
 
-    fn from(e: Ended) -> FrameFault {
-        FrameFault {
-            kind: FrameFaultKind::Short,
-            place: e.place,
-        }
-    }
+    ghost SHORT = { Short };
 }

@@ -3,15 +3,16 @@ ghost use Rattle.std.specs.Prelude.{◌≡◌, ◌≤◌, ◌<◌, ◌≢◌, �
 ghost use Rattle.byteorder.specs.Endian.{little_bytes};
 ghost use Rattle.plc_base.specs.Fields.{after, little_two};
 ghost use Rattle.plc_base.specs.Addresses.{IsAddress};
+ghost use Rattle.plc_base.specs.Faults.{ReadsUnless};
 ghost use Rattle.mac_frames.specs.Reading.{head_in, body_in};
 ghost use Rattle.mac_frames.specs.Grammar.{Frame, IsBody, IsHead, IsTarget, header, header_then, high_control, low_control};
 ghost use Rattle.mac_frames.specs.Faults.{down_fault, fields_fault, frame_fault, index_fault, level_fault, sealed_fault, sender_fault, target_fault, up_fault};
 ghost use Rattle.mac_frames.specs.declared.head.MacHead.{MacHead};
 
 use crate::control::{FrameKind, high_of, low_of};
-use crate::fault::{FrameFault, FrameFaultKind, fault};
+use crate::fault::{FrameFault, FrameFaultKind};
 use crate::head::MacHead;
-use plc_base::{Eui, Short, little_four_at, little_two_at, octet_at, reversed_at};
+use plc_base::{Eui, Fault, Short, little_four_at, little_two_at, octet_at, reversed_at};
 
 /// A frame that was read, over the octets that it was read from.
 #[derive(Clone, Copy, Debug)]
@@ -24,63 +25,67 @@ pub struct RawFrame<'a> {
     pub body: &'a [u8],
 }
 
-#[tactic(auto, unfolding(crate::specs::Faults::target_fault, crate::specs::Faults::short, plc_base::specs::Faults::cut_off))]
+#[tactic(auto, unfolding(crate::specs::Faults::target_fault, plc_base::specs::Faults::cut_off))]
 fn target_at(octets: &[u8], at: usize) -> Result<u16, FrameFault>
     requires { at ≤ 100 }
-    ensures { MatchResult result (λ x. (target_fault at octets.now ≡ None) × IsTarget x × (at + 2 ≤ length octets.now) × (after at octets.now ≡ little_bytes 2 x ++ after (at + 2) octets.now))
-        (λ e. target_fault at octets.now ≡ Some e) }
+    ensures { ReadsUnless (target_fault at octets.now) result
+        (λ x. IsTarget x × (at + 2 ≤ length octets.now)
+        × (after at octets.now ≡ little_bytes 2 x ++ after (at + 2) octets.now)) }
 {
     let to = little_two_at(octets, at)?;
     if to == 0xFFFE {
-        return Err(fault(FrameFaultKind::Address, at));
+        return Err(Fault::at(FrameFaultKind::Address, at));
     }
     Ok(to)
 }
 
-#[tactic(auto, unfolding(crate::specs::Faults::sender_fault, crate::specs::Faults::short, plc_base::specs::Faults::cut_off))]
+#[tactic(auto, unfolding(crate::specs::Faults::sender_fault, plc_base::specs::Faults::cut_off))]
 fn sender_at(octets: &[u8], at: usize) -> Result<Short, FrameFault>
     requires { at ≤ 100 }
-    ensures { MatchResult result (λ x. (sender_fault at octets.now ≡ None) × IsAddress x × (at + 2 ≤ length octets.now) × (after at octets.now ≡ little_bytes 2 x ++ after (at + 2) octets.now))
-        (λ e. sender_fault at octets.now ≡ Some e) }
+    ensures { ReadsUnless (sender_fault at octets.now) result
+        (λ x. IsAddress x × (at + 2 ≤ length octets.now)
+        × (after at octets.now ≡ little_bytes 2 x ++ after (at + 2) octets.now)) }
 {
     match Short::new(little_two_at(octets, at)?) {
-        None => Err(fault(FrameFaultKind::Address, at)),
+        None => Err(Fault::at(FrameFaultKind::Address, at)),
         Some(from) => Ok(from),
     }
 }
 
 // The security control: level 5 and key identifier mode 1.
-#[tactic(auto, unfolding(crate::specs::Faults::level_fault, crate::specs::Faults::short, plc_base::specs::Faults::cut_off))]
+#[tactic(auto, unfolding(crate::specs::Faults::level_fault, plc_base::specs::Faults::cut_off))]
 fn level_at(octets: &[u8], at: usize) -> Result<(), FrameFault>
     requires { at ≤ 100 }
-    ensures { MatchResult result (λ _. (level_fault at octets.now ≡ None) × (at + 1 ≤ length octets.now) × (after at octets.now ≡ 0x0D ∷ after (at + 1) octets.now))
-        (λ e. level_fault at octets.now ≡ Some e) }
+    ensures { ReadsUnless (level_fault at octets.now) result
+        (λ _. (at + 1 ≤ length octets.now) × (after at octets.now ≡ 0x0D ∷ after (at + 1) octets.now)) }
 {
     if octet_at(octets, at)? != 0x0D {
-        return Err(fault(FrameFaultKind::Level, at));
+        return Err(Fault::at(FrameFaultKind::Level, at));
     }
     Ok(())
 }
 
-#[tactic(auto, unfolding(crate::specs::Faults::index_fault, crate::specs::Faults::short, plc_base::specs::Faults::cut_off))]
+#[tactic(auto, unfolding(crate::specs::Faults::index_fault, plc_base::specs::Faults::cut_off))]
 fn index_at(octets: &[u8], at: usize) -> Result<u8, FrameFault>
     requires { at ≤ 100 }
-    ensures { MatchResult result (λ x. (index_fault at octets.now ≡ None) × (x ≤ 1) × (at + 1 ≤ length octets.now) × (after at octets.now ≡ x ∷ after (at + 1) octets.now))
-        (λ e. index_fault at octets.now ≡ Some e) }
+    ensures { ReadsUnless (index_fault at octets.now) result
+        (λ x. (x ≤ 1) × (at + 1 ≤ length octets.now)
+        × (after at octets.now ≡ x ∷ after (at + 1) octets.now)) }
 {
     let index = octet_at(octets, at)?;
     if index > 1 {
-        return Err(fault(FrameFaultKind::Level, at));
+        return Err(Fault::at(FrameFaultKind::Level, at));
     }
     Ok(index)
 }
 
 // The head of a sealed frame, behind its PAN id, where a tag follows it.
-#[tactic(auto, unfolding(crate::specs::Faults::sealed_fault, crate::specs::Faults::short, plc_base::specs::Faults::cut_off))]
+#[tactic(auto, unfolding(crate::specs::Faults::sealed_fault, plc_base::specs::Faults::cut_off))]
 fn sealed_of(octets: &[u8], ack: bool, seq: u8, pan: u16) -> Result<MacHead, FrameFault>
     requires { octets.now ≡ low_control true ack ∷ high_control 2 1 2 ∷ seq ∷ little_bytes 2 pan ++ after 5 octets.now }
-    ensures { MatchResult result (λ head. (sealed_fault octets.now ≡ None) × IsHead head × (19 ≤ length octets.now) × (octets.now ≡ header_then head (after 15 octets.now)) × IsBody head (after 15 octets.now))
-        (λ e. sealed_fault octets.now ≡ Some e) }
+    ensures { ReadsUnless (sealed_fault octets.now) result
+        (λ head. IsHead head × (19 ≤ length octets.now) × (octets.now ≡ header_then head (after 15 octets.now))
+        × IsBody head (after 15 octets.now)) }
 {
     let to = target_at(octets, 5)?;
     let from = sender_at(octets, 7)?;
@@ -88,7 +93,7 @@ fn sealed_of(octets: &[u8], ack: bool, seq: u8, pan: u16) -> Result<MacHead, Fra
     let counter = little_four_at(octets, 10)?;
     let index = index_at(octets, 14)?;
     if octets.len() < 19 {
-        return Err(fault(FrameFaultKind::Short, octets.len()));
+        return Err(Fault::at(FrameFaultKind::Short, octets.len()));
     }
     Ok(MacHead::Sealed {
         ack,
@@ -102,12 +107,14 @@ fn sealed_of(octets: &[u8], ack: bool, seq: u8, pan: u16) -> Result<MacHead, Fra
 }
 
 // The head of a plain frame from a device without a short address, behind its PAN id.
-#[tactic(auto, unfolding(crate::specs::Faults::up_fault, crate::specs::Faults::short, plc_base::specs::Faults::cut_off))]
+#[tactic(auto, unfolding(crate::specs::Faults::up_fault, plc_base::specs::Faults::cut_off))]
 fn up_of(octets: &[u8], ack: bool, version: u8, seq: u8, pan: u16) -> Result<MacHead, FrameFault>
     requires version { version ≤ 1 }
-    requires there { octets.now ≡ low_control false ack ∷ high_control 2 version 3 ∷ seq ∷ little_bytes 2 pan ++ after 5 octets.now }
-    ensures { MatchResult result (λ head. (up_fault octets.now ≡ None) × IsHead head × (15 ≤ length octets.now) × (octets.now ≡ header_then head (after 15 octets.now)) × IsBody head (after 15 octets.now))
-        (λ e. up_fault octets.now ≡ Some e) }
+    requires there { octets.now
+        ≡ low_control false ack ∷ high_control 2 version 3 ∷ seq ∷ little_bytes 2 pan ++ after 5 octets.now }
+    ensures { ReadsUnless (up_fault octets.now) result
+        (λ head. IsHead head × (15 ≤ length octets.now) × (octets.now ≡ header_then head (after 15 octets.now))
+        × IsBody head (after 15 octets.now)) }
 {
     let to = target_at(octets, 5)?;
     let from = Eui(reversed_at(octets, 7)?);
@@ -122,12 +129,14 @@ fn up_of(octets: &[u8], ack: bool, version: u8, seq: u8, pan: u16) -> Result<Mac
 }
 
 // The head of a plain frame to a device without a short address, behind its PAN id.
-#[tactic(auto, unfolding(crate::specs::Faults::down_fault, crate::specs::Faults::short, plc_base::specs::Faults::cut_off))]
+#[tactic(auto, unfolding(crate::specs::Faults::down_fault, plc_base::specs::Faults::cut_off))]
 fn down_of(octets: &[u8], ack: bool, version: u8, seq: u8, pan: u16) -> Result<MacHead, FrameFault>
     requires version { version ≤ 1 }
-    requires there { octets.now ≡ low_control false ack ∷ high_control 3 version 2 ∷ seq ∷ little_bytes 2 pan ++ after 5 octets.now }
-    ensures { MatchResult result (λ head. (down_fault octets.now ≡ None) × IsHead head × (15 ≤ length octets.now) × (octets.now ≡ header_then head (after 15 octets.now)) × IsBody head (after 15 octets.now))
-        (λ e. down_fault octets.now ≡ Some e) }
+    requires there { octets.now
+        ≡ low_control false ack ∷ high_control 3 version 2 ∷ seq ∷ little_bytes 2 pan ++ after 5 octets.now }
+    ensures { ReadsUnless (down_fault octets.now) result
+        (λ head. IsHead head × (15 ≤ length octets.now) × (octets.now ≡ header_then head (after 15 octets.now))
+        × IsBody head (after 15 octets.now)) }
 {
     let to = Eui(reversed_at(octets, 5)?);
     let from = sender_at(octets, 13)?;
@@ -142,10 +151,11 @@ fn down_of(octets: &[u8], ack: bool, version: u8, seq: u8, pan: u16) -> Result<M
 }
 
 // The head, or the first fault of a field.
-#[tactic(auto, unfolding(crate::specs::Faults::fields_fault, crate::specs::Faults::short, plc_base::specs::Faults::cut_off))]
+#[tactic(auto, unfolding(crate::specs::Faults::fields_fault, plc_base::specs::Faults::cut_off))]
 fn head_of(octets: &[u8]) -> Result<MacHead, FrameFault>
-    ensures { MatchResult result (λ head. (fields_fault octets.now ≡ None) × IsHead head × (15 ≤ length octets.now) × (octets.now ≡ header_then head (after 15 octets.now)) × IsBody head (after 15 octets.now))
-        (λ e. fields_fault octets.now ≡ Some e) }
+    ensures { ReadsUnless (fields_fault octets.now) result
+        (λ head. IsHead head × (15 ≤ length octets.now) × (octets.now ≡ header_then head (after 15 octets.now))
+        × IsBody head (after 15 octets.now)) }
 {
     let (sealed, ack) = low_of(octets)?;
     let (kind, version) = high_of(octets, sealed)?;
@@ -161,12 +171,13 @@ fn head_of(octets: &[u8]) -> Result<MacHead, FrameFault>
 // The frame that the octets are, or the first fault.
 fn frame_of<'a>(octets: &'a [u8]) -> Result<RawFrame<'a>, FrameFault>
     ensures found { IfOk result (λ raw. Frame raw.head raw.body.now octets.now) }
-    ensures parts { IfOk result (λ raw. (raw.header.now ≡ header raw.head) × (octets.now ≡ raw.header.now ++ raw.body.now)) }
+    ensures parts { IfOk result
+        (λ raw. (raw.header.now ≡ header raw.head) × (octets.now ≡ raw.header.now ++ raw.body.now)) }
     ensures front { IfOk result (λ raw. raw.header.now ≡ take 15 octets.now) }
     ensures exact { MatchResult result (λ raw. frame_fault octets.now ≡ None) (λ e. frame_fault octets.now ≡ Some e) }
 {
     if octets.len() > 400 {
-        return Err(fault(FrameFaultKind::Long, 400));
+        return Err(Fault::at(FrameFaultKind::Long, 400));
     }
     let head = head_of(octets)?;
     let (header, body) = octets.split_at(15);
@@ -180,7 +191,8 @@ pub fn read_frame<'a>(octets: &'a [u8]) -> Result<RawFrame<'a>, FrameFault>
     // It is what stands at the places of its fields.
     ensures places { IfOk result (λ raw. (raw.head ≡ head_in octets.now) × (raw.body.now ≡ body_in octets.now)) }
     // The header and the body are the two parts of the octets.
-    ensures parts { IfOk result (λ raw. (raw.header.now ≡ header raw.head) × (octets.now ≡ raw.header.now ++ raw.body.now)) }
+    ensures parts { IfOk result
+        (λ raw. (raw.header.now ≡ header raw.head) × (octets.now ≡ raw.header.now ++ raw.body.now)) }
     ensures front { IfOk result (λ raw. raw.header.now ≡ take 15 octets.now) }
     // A fault is the first one.
     ensures exact { MatchResult result (λ raw. frame_fault octets.now ≡ None) (λ e. frame_fault octets.now ≡ Some e) }
@@ -188,7 +200,8 @@ pub fn read_frame<'a>(octets: &'a [u8]) -> Result<RawFrame<'a>, FrameFault>
     ensures only { (head : MacHead) (body : List ℕ) → Frame head body octets.now
         → IsOkAnd result (λ raw. (raw.head ≡ head) × (raw.body.now ≡ body)) }
     // A spelling is of one value.
-    ensures one_value { (a b : MacHead) (x y : List ℕ) → Frame a x octets.now → Frame b y octets.now → (a ≡ b) × (x ≡ y) }
+    ensures one_value { (a b : MacHead) (x y : List ℕ)
+        → Frame a x octets.now → Frame b y octets.now → (a ≡ b) × (x ≡ y) }
 {
     frame_of(octets)
 }

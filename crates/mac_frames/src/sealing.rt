@@ -8,7 +8,7 @@ use crate::head::MacHead;
 use crate::reading::RawFrame;
 use crate::writing::write_header;
 use aes_modes::{Aes, BadTag, ccm_open, ccm_seal};
-use plc_base::{FrameBuf, Short};
+use plc_base::{FrameBuf, Short, four_octets, two_octets};
 
 // How many octets a tag has.
 const TAG: usize = 4;
@@ -20,9 +20,9 @@ const PAYLOAD: usize = 381;
 fn nonce(pan: u16, from: Short, counter: u32) -> [u8; 13]
     ensures { result ≡ nonce pan from counter }
 {
-    let [p0, p1] = pan.to_be_bytes();
-    let [s0, s1] = from.number().to_be_bytes();
-    let [c0, c1, c2, c3] = counter.to_be_bytes();
+    let [p0, p1] = two_octets(pan);
+    let [s0, s1] = two_octets(from.number());
+    let [c0, c1, c2, c3] = four_octets(counter);
     [p0, p1, 0x00, 0xFF, 0xFE, 0x00, s0, s1, c0, c1, c2, c3, 0x05]
 }
 
@@ -83,7 +83,8 @@ fn open_text(
     requires header { length header.now ≤ 400 }
     requires sealed { length sealed.now ≤ 381 }
     requires tag { length tag.now ≡ 4 }
-    ensures tag { IsOk result ↔ (tag.now ≡ ccm_tag 4 aes.now nonce.now header.now (ccm_text aes.now nonce.now sealed.now)) }
+    ensures tag { IsOk result
+        ↔ (tag.now ≡ ccm_tag 4 aes.now nonce.now header.now (ccm_text aes.now nonce.now sealed.now)) }
     ensures opened { OnOk result (out.new ≡ ccm_text aes.now nonce.now sealed.now) }
     ensures bad_tag { OnErr result (out.new ≡ []) }
     ensures fits { length out.new ≤ 381 }
@@ -109,11 +110,13 @@ pub fn open_frame(aes: &Aes, raw: &RawFrame<'_>, out: &mut FrameBuf) -> Result<(
     // What opens was sealed so.
     ensures opened { OnOk result (SealedFrame raw.now.head aes.now out.new (raw.now.header.now ++ raw.now.body.now)) }
     // What was sealed so opens.
-    ensures only { (payload : List ℕ) → SealedFrame raw.now.head aes.now payload (raw.now.header.now ++ raw.now.body.now)
+    ensures only { (payload : List ℕ)
+        → SealedFrame raw.now.head aes.now payload (raw.now.header.now ++ raw.now.body.now)
         → IsOk result × (out.new ≡ payload) }
     ensures bad_tag { OnErr result (out.new ≡ []) }
     // It is the payload that the key opens, if it opens one.
-    ensures exact { MatchResult result (λ _. opened_in aes.now raw.now.head raw.now.header.now raw.now.body.now ≡ Some out.new)
+    ensures exact { MatchResult result
+        (λ _. opened_in aes.now raw.now.head raw.now.header.now raw.now.body.now ≡ Some out.new)
         (λ _. opened_in aes.now raw.now.head raw.now.header.now raw.now.body.now ≡ None) }
     ensures fits { length out.new ≤ 381 }
 {

@@ -4,14 +4,15 @@ use Rattle.std.specs.Prelude.{IfOk, MatchResult}
 use Rattle.std.proofs.lemmas.Bool.{cases_lt}
 use Rattle.byteorder.specs.Endian.{big_bytes}
 use Rattle.plc_base.proofs.Places.{two_same}
-use Rattle.mesh_header.specs.declared.fault.UnitFault.{UnitFault}
+use Rattle.plc_base.specs.declared.fields.Fault.{Fault}
+use Rattle.mesh_header.specs.declared.fault.UnitFaultKind.{UnitFaultKind}
 use Rattle.mesh_header.specs.declared.unit.Mesh.{Mesh}
 use Rattle.mesh_header.specs.Pieces.{Placed, IsPiece}
 use Rattle.mesh_header.specs.declared.unit.Unit.{Unit}
 use Rattle.mesh_header.specs.declared.unit.Unit.TheVariants.{Whole, Part, Carried, Local}
 use Rattle.mesh_header.specs.Grammar.{IsMesh, IsUnit, Spells, spelling, piece_spelling, hops_then, mesh_then}
 use Rattle.mesh_header.specs.Faults.{unit_fault}
-use Rattle.mesh_header.proofs.Laws.{few_then, many_then, zero_spelling, some_spelling, no_fault}
+use Rattle.mesh_header.proofs.Spellings.{few_then, many_then, zero_spelling, some_spelling, no_fault}
 
 data_is_no_command : (xs ys : List ℕ) → 0x41 ∷ xs ≡ 0x40 ∷ ys → ⊥
 data_is_no_command xs ys e =
@@ -150,7 +151,7 @@ one_value (Whole m xs) (Local d ys) h k e = absurd (omega (arith, hops_head m.ho
 one_value (Part m p) (Local d ys) h k e = absurd (omega (arith, hops_head m.hops 0x40 _ (d ∷ ys) e))
 one_value (Carried m xs) (Local d ys) h k e = absurd (omega (arith, hops_head m.hops 0x40 _ (d ∷ ys) e))
 
-pub only_read : (octets : List ℕ) (r : Result Unit UnitFault) → IfOk r (λ u. Spells u octets) → MatchResult r (λ u. unit_fault octets ≡ None) (λ e. unit_fault octets ≡ Some e)
+pub only_read : (octets : List ℕ) (r : Result Unit (Fault UnitFaultKind)) → IfOk r (λ u. Spells u octets) → MatchResult r (λ u. unit_fault octets ≡ None) (λ e. unit_fault octets ≡ Some e)
     → (unit : Unit) → Spells unit octets → r ≡ Ok unit
 only_read octets (Ok u) found exact unit spells = ap Ok (one_value u unit found.0 spells.0 (sym found.1 ∙ spells.1))
 only_read octets (Err e) found exact unit spells = let none = no_fault unit spells.0 in let same = ap unit_fault spells.1 in absurd cc

@@ -1,5 +1,5 @@
 -- What units are, and the one spelling of each.
-use Rattle.std.specs.Prelude.{◌≡◌, ◌<◌, ◌≤◌, ◌^◌, ℕ, ◌+◌, List, ◌∷◌, ◌++◌, length, nat_lt, ◌==◌, if◌then◌else◌, ⊤}
+use Rattle.std.specs.Prelude.{◌≡◌, ◌<◌, ◌≤◌, ◌^◌, ℕ, ◌+◌, ◌-◌, List, ◌∷◌, ◌++◌, length, nat_lt, ◌==◌, if◌then◌else◌, ⊤}
 use Rattle.byteorder.specs.Endian.{big_bytes}
 use Rattle.plc_base.specs.Addresses.{IsAddress}
 use Rattle.mesh_header.specs.declared.unit.Mesh.{Mesh}
@@ -51,6 +51,10 @@ spelling (Local code body) = 0x40 ∷ code ∷ body
 -- how many octets a mesh header has
 abbrev pub header_length : ℕ → ℕ
 header_length hops = if nat_lt hops 15 then 5 else 6
+
+-- a mesh header with one hop less
+abbrev pub hop_less : Mesh → Mesh
+hop_less mesh = record mesh { hops = mesh.hops - 1 }
 
 -- how many octets the spelling has
 abbrev pub spelled_length : Unit → ℕ

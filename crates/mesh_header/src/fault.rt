@@ -1,7 +1,5 @@
 //! Why octets are no unit.
-ghost use Rattle.std.specs.Prelude.{◌≡◌, ◌≤◌};
-
-use plc_base::Ended;
+use plc_base::{Fault, FaultKind};
 use thiserror::Error;
 
 /// What is wrong, at the first place from the left where something is.
@@ -38,34 +36,12 @@ pub enum UnitFaultKind {
 }
 
 /// The first fault from the left of octets that are no unit.
-#[derive(Clone, Copy, Debug, PartialEq, Eq, Drop, Error)]
-#[error("{kind}, at octet {place}")]
-pub struct UnitFault {
-    /// What is wrong.
-    pub kind: UnitFaultKind,
-    /// Where, counted from 0.
-    pub place: u16,
-}
+pub type UnitFault = Fault<UnitFaultKind>;
 
-pub(crate) fn fault(kind: UnitFaultKind, place: usize) -> UnitFault
-    requires { place ≤ 1000 }
-    ensures { result ≡ record { kind = kind; place = place } }
-{
-    UnitFault {
-        kind,
-        place: place as u16,
-    }
-}
-
-impl From<Ended> for UnitFault {
+impl FaultKind for UnitFaultKind {
     ghost use Rattle.mesh_header.specs.declared.fault.UnitFaultKind.TheVariants.{Short};
 
-    ghost from_gives = { λ e f. f ≡ record { kind = Short; place = e.place } };
+    const SHORT: UnitFaultKind = UnitFaultKind::Short;
 
-    fn from(e: Ended) -> UnitFault {
-        UnitFault {
-            kind: UnitFaultKind::Short,
-            place: e.place,
-        }
-    }
+    ghost SHORT = { Short };
 }

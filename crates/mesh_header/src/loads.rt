@@ -2,58 +2,61 @@
 ghost use Rattle.std.specs.Prelude.{◌≡◌, ◌≤◌, ◌<◌, ◌+◌, ◌-◌, ◌*◌, ◌%◌, ◌∷◌, ◌++◌, List, [], length, IfOk, MatchResult, Some, None, Ok};
 ghost use Rattle.byteorder.specs.Endian.{big_bytes};
 ghost use Rattle.plc_base.specs.Fields.{octet, two, after};
+ghost use Rattle.plc_base.specs.Faults.{ReadsUnless};
 ghost use Rattle.mesh_header.specs.Pieces.{IsPiece};
 ghost use Rattle.mesh_header.specs.Grammar.{IsMesh, IsUnit, mesh_then, piece_spelling, spelling};
 ghost use Rattle.mesh_header.specs.Faults.{size_fault, octets_fault, tag_fault, octet_fault, data_fault, first_piece_fault, later_piece_fault, carried_fault, local_fault, load_fault};
 
-use crate::fault::{UnitFault, UnitFaultKind, fault};
+use crate::fault::{UnitFault, UnitFaultKind};
 use crate::piece::Piece;
 use crate::unit::{Mesh, Unit};
-use plc_base::{FrameBuf, octet_at, rest_at, two_at};
+use plc_base::{Fault, FrameBuf, octet_at, rest_at, two_at};
 
 #[tactic(auto, unfolding(crate::specs::Faults::data_fault))]
 fn data_of(octets: &[u8], at: usize) -> Result<FrameBuf, UnitFault>
     requires within { at ≤ length octets.now }
     requires frame { length octets.now ≤ 400 }
-    ensures { MatchResult result (λ x. (data_fault at octets.now ≡ None) × (0 < length x) × (length x ≤ 375) × (x ≡ after at octets.now))
-        (λ e. data_fault at octets.now ≡ Some e) }
+    ensures { ReadsUnless (data_fault at octets.now) result
+        (λ x. (0 < length x) × (length x ≤ 375) × (x ≡ after at octets.now)) }
 {
     let rest = rest_at(octets, at);
     if rest.is_empty() || rest.len() > 375 {
-        return Err(fault(UnitFaultKind::DataSize, at));
+        return Err(Fault::at(UnitFaultKind::DataSize, at));
     }
     Ok(FrameBuf::from_octets(rest))
 }
 
 // The size of a piece, which stands above a base in two octets.
-#[tactic(auto, unfolding(crate::specs::Faults::size_fault, crate::specs::Faults::short, plc_base::specs::Faults::cut_off))]
+#[tactic(auto, unfolding(crate::specs::Faults::size_fault, plc_base::specs::Faults::cut_off))]
 fn size_at(octets: &[u8], base: u16, at: usize) -> Result<u16, UnitFault>
     requires low { base ≤ octet at octets.now * 256 }
     requires place { at ≤ 100 }
-    ensures { MatchResult result (λ x. (size_fault base at octets.now ≡ None) × (0 < x) × (x ≤ 1280) × (x ≡ two at octets.now - base) × (after at octets.now ≡ big_bytes 2 (base + x) ++ after (at + 2) octets.now))
-        (λ e. size_fault base at octets.now ≡ Some e) }
+    ensures { ReadsUnless (size_fault base at octets.now) result
+        (λ x. (0 < x) × (x ≤ 1280) × (x ≡ two at octets.now - base)
+        × (after at octets.now ≡ big_bytes 2 (base + x) ++ after (at + 2) octets.now)) }
 {
     let size = two_at(octets, at)? - base;
     if size == 0 || size > 1280 {
-        return Err(fault(UnitFaultKind::Size, at));
+        return Err(Fault::at(UnitFaultKind::Size, at));
     }
     Ok(size)
 }
 
-#[tactic(auto, unfolding(crate::specs::Faults::tag_fault, crate::specs::Faults::short, plc_base::specs::Faults::cut_off))]
+#[tactic(auto, unfolding(crate::specs::Faults::tag_fault, plc_base::specs::Faults::cut_off))]
 fn tag_at(octets: &[u8], at: usize) -> Result<u16, UnitFault>
     requires { at ≤ 100 }
-    ensures { MatchResult result (λ x. (tag_fault at octets.now ≡ None) × (after at octets.now ≡ big_bytes 2 x ++ after (at + 2) octets.now))
-        (λ e. tag_fault at octets.now ≡ Some e) }
+    ensures { ReadsUnless (tag_fault at octets.now) result
+        (λ x. (after at octets.now ≡ big_bytes 2 x ++ after (at + 2) octets.now)) }
 {
     Ok(two_at(octets, at)?)
 }
 
-#[tactic(auto, unfolding(crate::specs::Faults::octet_fault, crate::specs::Faults::short, plc_base::specs::Faults::cut_off))]
+#[tactic(auto, unfolding(crate::specs::Faults::octet_fault, plc_base::specs::Faults::cut_off))]
 fn one_at(octets: &[u8], at: usize) -> Result<u8, UnitFault>
     requires { at ≤ 100 }
-    ensures { MatchResult result (λ x. (octet_fault at octets.now ≡ None) × (x ≡ octet at octets.now) × (at + 1 ≤ length octets.now) × (after at octets.now ≡ x ∷ after (at + 1) octets.now))
-        (λ e. octet_fault at octets.now ≡ Some e) }
+    ensures { ReadsUnless (octet_fault at octets.now) result
+        (λ x. (x ≡ octet at octets.now) × (at + 1 ≤ length octets.now)
+        × (after at octets.now ≡ x ∷ after (at + 1) octets.now)) }
 {
     Ok(octet_at(octets, at)?)
 }
@@ -62,13 +65,14 @@ fn one_at(octets: &[u8], at: usize) -> Result<u8, UnitFault>
 fn piece_octets(octets: &[u8], size: u16, offset: u8, at: usize) -> Result<FrameBuf, UnitFault>
     requires within { at ≤ length octets.now }
     requires frame { length octets.now ≤ 400 }
-    ensures { MatchResult result (λ x. (octets_fault size offset at octets.now ≡ None) × (0 < length x) × (offset * 8 + length x ≤ size) × (offset * 8 + length x < size → length x % 8 ≡ 0) × (x ≡ after at octets.now))
-        (λ e. octets_fault size offset at octets.now ≡ Some e) }
+    ensures { ReadsUnless (octets_fault size offset at octets.now) result
+        (λ x. (0 < length x) × (offset * 8 + length x ≤ size) × (offset * 8 + length x < size → length x % 8 ≡ 0)
+        × (x ≡ after at octets.now)) }
 {
     let rest = rest_at(octets, at);
     let end = offset as usize * 8 + rest.len();
     if rest.is_empty() || end > size as usize || (end < size as usize && rest.len() % 8 != 0) {
-        return Err(fault(UnitFaultKind::PieceForm, at));
+        return Err(Fault::at(UnitFaultKind::PieceForm, at));
     }
     Ok(FrameBuf::from_octets(rest))
 }
@@ -78,14 +82,14 @@ fn first_piece(octets: &[u8], at: usize) -> Result<Piece, UnitFault>
     requires low { 0xC0 ≤ octet at octets.now }
     requires place { at ≤ 6 }
     requires frame { length octets.now ≤ 400 }
-    ensures { MatchResult result (λ x. (first_piece_fault at octets.now ≡ None) × IsPiece x × (after at octets.now ≡ piece_spelling x))
-        (λ e. first_piece_fault at octets.now ≡ Some e) }
+    ensures { ReadsUnless (first_piece_fault at octets.now) result
+        (λ x. IsPiece x × (after at octets.now ≡ piece_spelling x)) }
 {
     let size = size_at(octets, 0xC000, at)?;
     let tag = tag_at(octets, at + 2)?;
     let dispatch = one_at(octets, at + 4)?;
     if dispatch != 0x41 {
-        return Err(fault(UnitFaultKind::Dispatch, at + 4));
+        return Err(Fault::at(UnitFaultKind::Dispatch, at + 4));
     }
     let octets = piece_octets(octets, size, 0, at + 5)?;
     Ok(Piece::new(size, tag, 0, octets).unwrap())
@@ -96,14 +100,14 @@ fn later_piece(octets: &[u8], at: usize) -> Result<Piece, UnitFault>
     requires low { 0xE0 ≤ octet at octets.now }
     requires place { at ≤ 6 }
     requires frame { length octets.now ≤ 400 }
-    ensures { MatchResult result (λ x. (later_piece_fault at octets.now ≡ None) × IsPiece x × (after at octets.now ≡ piece_spelling x))
-        (λ e. later_piece_fault at octets.now ≡ Some e) }
+    ensures { ReadsUnless (later_piece_fault at octets.now) result
+        (λ x. IsPiece x × (after at octets.now ≡ piece_spelling x)) }
 {
     let size = size_at(octets, 0xE000, at)?;
     let tag = tag_at(octets, at + 2)?;
     let offset = one_at(octets, at + 4)?;
     if offset == 0 {
-        return Err(fault(UnitFaultKind::PieceForm, at + 5));
+        return Err(Fault::at(UnitFaultKind::PieceForm, at + 5));
     }
     let octets = piece_octets(octets, size, offset, at + 5)?;
     Ok(Piece::new(size, tag, offset, octets).unwrap())
@@ -114,12 +118,12 @@ fn later_piece(octets: &[u8], at: usize) -> Result<Piece, UnitFault>
 fn carried(octets: &[u8], at: usize) -> Result<FrameBuf, UnitFault>
     requires place { at ≤ 7 }
     requires frame { length octets.now ≤ 400 }
-    ensures { MatchResult result (λ x. (carried_fault at octets.now ≡ None) × (after at octets.now ≡ 2 ∷ x))
-        (λ e. carried_fault at octets.now ≡ Some e) }
+    ensures { ReadsUnless (carried_fault at octets.now) result
+        (λ x. (after at octets.now ≡ 2 ∷ x)) }
 {
     let code = one_at(octets, at)?;
     if code != 2 {
-        return Err(fault(UnitFaultKind::Dispatch, at));
+        return Err(Fault::at(UnitFaultKind::Dispatch, at));
     }
     Ok(FrameBuf::from_octets(rest_at(octets, at + 1)))
 }
@@ -129,12 +133,12 @@ fn carried(octets: &[u8], at: usize) -> Result<FrameBuf, UnitFault>
 pub(crate) fn local(octets: &[u8], at: usize) -> Result<Unit, UnitFault>
     requires place { at ≤ 7 }
     requires frame { length octets.now ≤ 400 }
-    ensures { MatchResult result (λ x. (local_fault at octets.now ≡ None) × IsUnit x × (0x40 ∷ after at octets.now ≡ spelling x))
-        (λ e. local_fault at octets.now ≡ Some e) }
+    ensures { ReadsUnless (local_fault at octets.now) result
+        (λ x. IsUnit x × (0x40 ∷ after at octets.now ≡ spelling x)) }
 {
     let code = one_at(octets, at)?;
     if code == 0 || code > 5 {
-        return Err(fault(UnitFaultKind::Dispatch, at));
+        return Err(Fault::at(UnitFaultKind::Dispatch, at));
     }
     Ok(Unit::Local {
         code,
@@ -148,8 +152,8 @@ pub(crate) fn load_of(octets: &[u8], mesh: Mesh, at: usize) -> Result<Unit, Unit
     requires mesh { IsMesh mesh }
     requires place { at ≤ 6 }
     requires frame { length octets.now ≤ 400 }
-    ensures { MatchResult result (λ x. (load_fault at octets.now ≡ None) × IsUnit x × (mesh_then mesh (after at octets.now) ≡ spelling x))
-        (λ e. load_fault at octets.now ≡ Some e) }
+    ensures { ReadsUnless (load_fault at octets.now) result
+        (λ x. IsUnit x × (mesh_then mesh (after at octets.now) ≡ spelling x)) }
 {
     match one_at(octets, at)? {
         0x41 => Ok(Unit::Whole {
@@ -168,6 +172,6 @@ pub(crate) fn load_of(octets: &[u8], mesh: Mesh, at: usize) -> Result<Unit, Unit
             mesh,
             piece: later_piece(octets, at)?,
         }),
-        _ => Err(fault(UnitFaultKind::Dispatch, at)),
+        _ => Err(Fault::at(UnitFaultKind::Dispatch, at)),
     }
 }

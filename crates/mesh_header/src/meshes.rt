@@ -2,46 +2,33 @@
 ghost use Rattle.std.specs.Prelude.{ℕ, ◌≡◌, ◌≤◌, ◌<◌, ◌+◌, ◌∷◌, ◌++◌, List, [], length, IfOk, MatchResult, Some, None, Ok};
 ghost use Rattle.byteorder.specs.Endian.{big_bytes};
 ghost use Rattle.plc_base.specs.Fields.{octet, after};
-ghost use Rattle.plc_base.specs.Faults.{◌then◌};
-ghost use Rattle.plc_base.specs.Addresses.{IsAddress};
+ghost use Rattle.plc_base.specs.Faults.{ReadsUnless};
 ghost use Rattle.mesh_header.specs.Grammar.{IsMesh, header_length, hops_then, mesh_then};
-ghost use Rattle.mesh_header.specs.Faults.{address_fault, hops_fault, origin_at, header_fault};
+ghost use Rattle.mesh_header.specs.Faults.{hops_fault, origin_at, header_fault};
 
-use crate::fault::{UnitFault, UnitFaultKind, fault};
+use crate::fault::{UnitFault, UnitFaultKind};
 use crate::unit::Mesh;
-use plc_base::{FrameBuf, Short, octet_at, two_at};
-
-#[tactic(auto, unfolding(crate::specs::Faults::address_fault, crate::specs::Faults::short, plc_base::specs::Faults::cut_off))]
-fn address_at(octets: &[u8], at: usize) -> Result<Short, UnitFault>
-    requires { at ≤ 100 }
-    ensures { MatchResult result (λ x. (address_fault at octets.now ≡ None) × IsAddress x × (at + 2 ≤ length octets.now) × (after at octets.now ≡ big_bytes 2 x ++ after (at + 2) octets.now))
-        (λ e. address_fault at octets.now ≡ Some e) }
-{
-    match Short::new(two_at(octets, at)?) {
-        None => Err(fault(UnitFaultKind::Address, at)),
-        Some(address) => Ok(address),
-    }
-}
+use plc_base::{Fault, FrameBuf, address_at, octet_at};
 
 // The hops, and where the origin begins.
-#[tactic(auto, unfolding(crate::specs::Faults::hops_fault, crate::specs::Faults::short, plc_base::specs::Faults::cut_off, crate::specs::Faults::origin_at, crate::specs::Grammar::hops_then), using(plc_base::proofs::Places::after_none))]
+#[tactic(auto, unfolding(crate::specs::Faults::hops_fault, plc_base::specs::Faults::cut_off, crate::specs::Faults::origin_at, crate::specs::Grammar::hops_then), using(plc_base::proofs::Places::after_none))]
 fn hops_of(octets: &[u8], first: u8) -> Result<(u8, usize), UnitFault>
     requires there { octets.now ≡ first ∷ after 1 octets.now }
     requires is { first ≡ octet 0 octets.now }
     requires low { 0x80 ≤ first }
     requires high { first < 0xC0 }
-    ensures { MatchResult result (λ x. (hops_fault octets.now ≡ None) × (x.1 ≡ origin_at octets.now) × (x.1 ≤ 2) × (octets.now ≡ hops_then x.0 (after x.1 octets.now)))
-        (λ e. hops_fault octets.now ≡ Some e) }
+    ensures { ReadsUnless (hops_fault octets.now) result
+        (λ x. (x.1 ≡ origin_at octets.now) × (x.1 ≤ 2) × (octets.now ≡ hops_then x.0 (after x.1 octets.now))) }
 {
     if first < 0xB0 {
-        return Err(fault(UnitFaultKind::AddressKind, 0));
+        return Err(Fault::at(UnitFaultKind::AddressKind, 0));
     }
     if first < 0xBF {
         return Ok((first - 0xB0, 1));
     }
     let hops = octet_at(octets, 1)?;
     if hops < 15 {
-        return Err(fault(UnitFaultKind::HopForm, 1));
+        return Err(Fault::at(UnitFaultKind::HopForm, 1));
     }
     Ok((hops, 2))
 }
@@ -53,12 +40,13 @@ pub(crate) fn mesh_of(octets: &[u8], first: u8) -> Result<(Mesh, usize), UnitFau
     requires is { first ≡ octet 0 octets.now }
     requires low { 0x80 ≤ first }
     requires high { first < 0xC0 }
-    ensures { MatchResult result (λ x. (header_fault octets.now ≡ None) × (x.1 ≡ origin_at octets.now + 4) × (x.1 ≤ 6) × (x.1 ≤ length octets.now) × IsMesh x.0 × (octets.now ≡ mesh_then x.0 (after x.1 octets.now)))
-        (λ e. header_fault octets.now ≡ Some e) }
+    ensures { ReadsUnless (header_fault octets.now) result
+        (λ x. (x.1 ≡ origin_at octets.now + 4) × (x.1 ≤ 6) × (x.1 ≤ length octets.now) × IsMesh x.0
+        × (octets.now ≡ mesh_then x.0 (after x.1 octets.now))) }
 {
     let (hops, at) = hops_of(octets, first)?;
-    let origin = address_at(octets, at)?;
-    let to = address_at(octets, at + 2)?;
+    let origin = address_at(octets, at, UnitFaultKind::Address)?;
+    let to = address_at(octets, at + 2, UnitFaultKind::Address)?;
     Ok((Mesh { hops, origin, to }, at + 4))
 }
 

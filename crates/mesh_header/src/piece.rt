@@ -36,7 +36,8 @@ impl Piece {
     /// `size` is the whole datagram's in octets, `offset` the place of the piece in units of 8 octets.
     pub fn new(size: u16, tag: u16, offset: u8, octets: FrameBuf) -> Option<Piece>
         ensures valid { IsSome result ↔ IsPiece (record { size = size; tag = tag; offset = offset; octets = octets }) }
-        ensures value { IfSome result (λ piece. piece ≡ record { size = size; tag = tag; offset = offset; octets = octets }) }
+        ensures value { IfSome result
+            (λ piece. piece ≡ record { size = size; tag = tag; offset = offset; octets = octets }) }
     {
         let count = octets.len();
         let end = offset as usize * 8 + count;

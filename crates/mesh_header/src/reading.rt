@@ -1,14 +1,17 @@
 //! Reads units.
 ghost use Rattle.std.specs.Prelude.{◌≡◌, ◌≤◌, ◌<◌, ◌∷◌, List, [], length, IfOk, MatchResult, Some, None, Ok};
+ghost use Rattle.std.specs.Result.{result_ok};
 ghost use Rattle.plc_base.specs.Fields.{octet, after};
-ghost use Rattle.mesh_header.specs.Grammar.{Spells};
+ghost use Rattle.mesh_header.specs.Grammar.{Spells, spelled_length};
+ghost use Rattle.mesh_header.specs.Reading.{unit_in};
 ghost use Rattle.mesh_header.specs.Faults.{unit_fault};
 ghost use Rattle.mesh_header.specs.declared.unit.Unit.{Unit};
 
-use crate::fault::{UnitFault, UnitFaultKind, fault};
+use crate::fault::{UnitFault, UnitFaultKind};
 use crate::loads::{load_of, local};
 use crate::meshes::mesh_of;
 use crate::unit::Unit;
+use plc_base::Fault;
 
 #[tactic(auto, unfolding(plc_base::specs::Fields::octet), using(plc_base::proofs::Places::first_is))]
 fn first_of(octets: &[u8]) -> u8
@@ -26,7 +29,7 @@ fn unit_of(octets: &[u8]) -> Result<Unit, UnitFault>
     ensures exact { MatchResult result (λ unit. unit_fault octets.now ≡ None) (λ e. unit_fault octets.now ≡ Some e) }
 {
     if octets.is_empty() {
-        return Err(fault(UnitFaultKind::Empty, 0));
+        return Err(Fault::at(UnitFaultKind::Empty, 0));
     }
     match first_of(octets) {
         first @ 0x80..=0xBF => {
@@ -34,7 +37,7 @@ fn unit_of(octets: &[u8]) -> Result<Unit, UnitFault>
             load_of(octets, mesh, at)
         }
         0x40 => local(octets, 1),
-        _ => Err(fault(UnitFaultKind::Dispatch, 0)),
+        _ => Err(Fault::at(UnitFaultKind::Dispatch, 0)),
     }
 }
 
@@ -45,6 +48,9 @@ pub fn read_unit(octets: &[u8]) -> Result<Unit, UnitFault>
     requires { length octets.now ≤ 400 }
     // What is read is spelled so.
     ensures found { IfOk result (λ unit. Spells unit octets.now) }
+    // What is read is the unit that stands in the octets, if they are one.
+    ensures value { unit_in octets.now ≡ result_ok result }
+    ensures length { IfOk result (λ unit. spelled_length unit ≡ length octets.now) }
     // What is spelled so is read.
     ensures only { (unit : Unit) → Spells unit octets.now → result ≡ Ok unit }
     // A fault is the first one.

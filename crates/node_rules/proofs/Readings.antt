@@ -17,14 +17,14 @@ use Rattle.loadng_messages.specs.declared.message.Message.TheVariants.{Rreq, Rre
 use Rattle.loadng_messages.specs.Grammar as messages
 use Rattle.loadng_messages.specs.Faults.{message_fault}
 use Rattle.loadng_messages.specs.Reading as message_reading
-use Rattle.loadng_messages.proofs.Laws as message_laws
+use Rattle.loadng_messages.proofs.Spellings as message_laws
 use Rattle.joining_messages.specs.declared.message.JoinMessage.{JoinMessage}
 use Rattle.joining_messages.specs.declared.message.JoinBody.{JoinBody}
 use Rattle.joining_messages.specs.declared.message.JoinBody.TheVariants.{Join, Accept, Challenge, Decline, Kick, Activate}
 use Rattle.joining_messages.specs.Messages as joining
 use Rattle.joining_messages.specs.Faults.{join_fault}
 use Rattle.joining_messages.specs.Reading as join_reading
-use Rattle.joining_messages.proofs.Laws as join_laws
+use Rattle.joining_messages.proofs.Spellings as join_laws
 use Rattle.joining_messages.proofs.GrantLaws as grant_laws
 use Rattle.mesh_header.specs.declared.unit.Mesh.{Mesh}
 use Rattle.mesh_header.specs.declared.unit.Unit.{Unit}
@@ -33,7 +33,7 @@ use Rattle.mesh_header.specs.Pieces.{Placed, IsPiece}
 use Rattle.mesh_header.specs.Grammar as units
 use Rattle.mesh_header.specs.Faults.{origin_at, unit_fault}
 use Rattle.mesh_header.specs.Reading as unit_reading
-use Rattle.mesh_header.proofs.Laws as unit_laws
+use Rattle.mesh_header.proofs.Spellings as unit_laws
 use Rattle.node_rules.specs.Laws.{MessagesAreRead, JoinsAreRead, UnitsAreRead, GrantsAreRead}
 
 -- where there is no fault, the value is read

@@ -6,7 +6,7 @@ use Rattle.std.proofs.lemmas.List.{take-append-drop, length-take-le, drop-drop, 
 use Rattle.std.proofs.lemmas.List.Elements.{All-take, All-drop}
 use Rattle.byteorder.specs.Endian.{big_bytes, big_number, little_bytes, little_number}
 use Rattle.byteorder.specs.Numbers.{big_number-reads_back, big_from-take, little_number-reads_back, little_from-take, length-bytes_high_first, length-bytes_low_first}
-use Rattle.plc_base.specs.Fields.{after, octet, two, four, little_two, little_four, part, Stands}
+use Rattle.plc_base.specs.Fields.{AreOctets, after, octet, two, four, little_two, little_four, part, Stands}
 use Rattle.plc_base.proofs.NumbersOfOctets.{below, bytes_high_first-big_from, bytes_low_first-little_from}
 
 pub octet_stands : (at : ℕ) (octets : List ℕ) → at + 1 ≤ length octets → (slice_index octets at ≡ octet at octets) × Stands (slice_index octets at ∷ []) at octets
@@ -129,3 +129,65 @@ fronts_same a b x y len e =
     let back : x ≡ y =
     sym (drop-append_seam a x) ∙ ap (λ (xs : List ℕ). drop (length a) xs) e ∙ ap (λ (n : ℕ). drop n (b ++ y)) len ∙ drop-append_seam b y in
     (front, back)
+
+-- A field of octets that are octets stands where it is read, if it is whole.
+
+pub number_stands : (n at : ℕ) (octets : List ℕ) → at + n ≤ length octets → AreOctets octets → Stands (big_bytes n (big_number n (drop at octets))) at octets
+unfolding after
+number_stands n at octets h fits =
+    let len : length (big_bytes n (big_number n (drop at octets))) ≡ n = length-bytes_high_first n _ in
+    let whole = big_again n (drop at octets) (omega (arith, length-drop at octets)) (All-drop (λ x. x < 256) at octets fits) in
+    record {
+      within = omega arith;
+      parts = whole ∙ ap (λ (xs : List ℕ). big_bytes n (big_number n (drop at octets)) ++ xs) (drop-drop n at octets)
+          ∙ ap (λ (m : ℕ). big_bytes n (big_number n (drop at octets)) ++ drop (at + m) octets) (sym len);
+    }
+
+pub two_stands : (at : ℕ) (octets : List ℕ) → at + 2 ≤ length octets → AreOctets octets → Stands (big_bytes 2 (two at octets)) at octets
+unfolding two
+two_stands at octets h fits = number_stands 2 at octets h fits
+
+-- a number of two octets is below 65,536
+pub two_low : (at : ℕ) (octets : List ℕ) → AreOctets octets → two at octets < 65536
+unfolding two
+two_low at octets fits =
+    let a : slice_index (drop at octets) 0 < 256 = below (drop at octets) (All-drop (λ x. x < 256) at octets fits) 0 in
+    let b : slice_index (drop at octets) 1 < 256 = below (drop at octets) (All-drop (λ x. x < 256) at octets fits) 1 in
+    omega arith
+
+pub octet_low : (at : ℕ) (octets : List ℕ) → AreOctets octets → octet at octets < 256
+unfolding octet
+octet_low at octets fits = below octets fits at
+
+-- what stands further on behind other octets
+pub after_past : (front rest : List ℕ) (k : ℕ) → after (length front + k) (front ++ rest) ≡ after k rest
+unfolding after
+after_past front rest k = sym (drop-drop k (length front) (front ++ rest)) ∙ ap (drop k) (drop-append_seam front rest)
+
+pub two_past : (front rest : List ℕ) (k : ℕ) → two (length front + k) (front ++ rest) ≡ two k rest
+unfolding two
+two_past front rest k = ap (big_number 2) (sym (drop-drop k (length front) (front ++ rest)) ∙ ap (drop k) (drop-append_seam front rest))
+
+-- a field and what follows it, where it is whole
+pub one_then : (at : ℕ) (octets : List ℕ) → at + 1 ≤ length octets → after at octets ≡ octet at octets ∷ after (at + 1) octets
+unfolding octet
+one_then at octets whole = (octet_stands at octets whole).1.parts
+
+pub two_then : (at : ℕ) (octets : List ℕ) → AreOctets octets → at + 2 ≤ length octets → after at octets ≡ big_bytes 2 (two at octets) ++ after (at + 2) octets
+two_then at octets fits whole = (two_stands at octets whole fits).parts
+
+pub length-part : (at n : ℕ) (octets : List ℕ) → at + n ≤ length octets → length (part at n octets) ≡ n
+unfolding part
+length-part at n octets whole = length-take-le n (drop at octets) (omega (arith, length-drop at octets))
+
+pub part_then : (at n : ℕ) (octets : List ℕ) → at + n ≤ length octets → after at octets ≡ part at n octets ++ after (at + n) octets
+part_then at n octets whole = (part_stands at n octets whole).parts ∙ ap (λ (m : ℕ). part at n octets ++ after (at + m) octets) (length-part at n octets whole)
+
+pub length-after : (at : ℕ) (octets : List ℕ) → length (after at octets) ≡ length octets - at
+unfolding after
+length-after at octets = length-drop at octets
+
+-- an octet that stands further on
+pub octet_after : (at k : ℕ) (octets : List ℕ) → slice_index (after at octets) k ≡ octet (at + k) octets
+unfolding octet after
+octet_after at k octets = get_or-drop at octets k 0

@@ -1,6 +1,11 @@
 -- What stands at a place of octets. A place is counted from 0.
-use Rattle.std.specs.Prelude.{◌≡◌, ◌≤◌, ℕ, ◌+◌, List, ◌++◌, length, take, drop, slice_index}
+use Rattle.std.specs.Prelude.{◌≡◌, ◌≤◌, ◌<◌, ℕ, ◌+◌, List, ◌++◌, length, take, drop, slice_index, All}
 use Rattle.byteorder.specs.Endian.{big_number, little_number}
+use Rattle.plc_base.specs.declared.fields.Ended.{Ended}
+
+-- octets are below 256
+abbrev pub AreOctets : List ℕ → Type 0
+AreOctets octets = All (λ x. x < 256) octets
 
 -- the octets from a place on
 unfoldable pub after : ℕ → List ℕ → List ℕ
@@ -30,7 +35,11 @@ little_four at octets = little_number 4 (drop at octets)
 unfoldable pub part : ℕ → ℕ → List ℕ → List ℕ
 part at n octets = take n (drop at octets)
 
--- a field's octets stand at a place, and the others behind them
+-- the octets end before this place, where the error says
+abbrev pub EndsBefore : ℕ → List ℕ → Ended → Type 0
+EndsBefore end octets ended = (length octets < end) × (ended.place ≡ length octets)
+
+-- a field's octets stand at a place, and the others after them
 pub record Stands (field : List ℕ) (at : ℕ) (octets : List ℕ) : Type 0 where
   pub within : at + length field ≤ length octets
   pub parts : after at octets ≡ field ++ after (at + length field) octets

@@ -26,8 +26,8 @@ mod tags;
 
 pub use address::{Eui, PAN, Short};
 pub use fields::{
-    Ended, four_at, little_four_at, little_two_at, octet_at, octets_at, rest_at, reversed_at,
-    two_at,
+    Ended, Fault, FaultKind, address_at, four_at, four_octets, little_four_at, little_two_at,
+    octet_at, octets_at, rest_at, reversed_at, two_at, two_octets,
 };
 pub use grant::Grant;
 pub use keeper::{BadStore, Cut, Keeper};

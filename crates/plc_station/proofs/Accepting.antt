@@ -10,7 +10,8 @@ use Rattle.node_rules.specs.declared.heard.Accepted.{Accepted}
 use Rattle.node_rules.specs.declared.refusal.FrameRefusal.{FrameRefusal}
 use Rattle.node_rules.specs.declared.refusal.FrameRefusal.TheVariants.{NotForMe, NoKey, BadTag, Store}
 use Rattle.mac_frames.specs.declared.head.MacHead.{MacHead}
-use Rattle.mac_frames.specs.declared.fault.FrameFault.{FrameFault}
+use Rattle.plc_base.specs.declared.fields.Fault.{Fault}
+use Rattle.mac_frames.specs.declared.fault.FrameFaultKind.{FrameFaultKind}
 use Rattle.mac_frames.specs.Faults.{frame_fault}
 use Rattle.mac_frames.specs.Reading.{head_in, body_in}
 use Rattle.node_rules.specs.Ciphers.{network}
@@ -73,7 +74,7 @@ pub plain_accepted : (s : State StationMemory) (l : StationMemory) (a : Arrived)
 plain_accepted s l a got m e plan = rw (← e) (rw plan (resting_carried s l (Ok got) (Err Store) m))
 
 -- octets that are no frame, and octets that are one
-pub not_arrived : (octets : List ℕ) (e : FrameFault) → frame_fault octets ≡ Some e → arrived network octets ≡ None
+pub not_arrived : (octets : List ℕ) (e : Fault FrameFaultKind) → frame_fault octets ≡ Some e → arrived network octets ≡ None
 unfolding arrived
 not_arrived octets e is = rw is refl
 

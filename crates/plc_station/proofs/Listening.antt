@@ -4,7 +4,8 @@ use Rattle.std.specs.Prelude.{◌==◌, is_some, if◌then◌else◌}
 use Rattle.plc_base.specs.Grant.{Granted}
 use Rattle.plc_base.specs.declared.key.Key.{Key}
 use Rattle.plc_base.specs.declared.address.Eui.{Eui}
-use Rattle.loadng_messages.specs.declared.fault.MessageFault.{MessageFault}
+use Rattle.plc_base.specs.declared.fields.Fault.{Fault}
+use Rattle.loadng_messages.specs.declared.fault.MessageFaultKind.{MessageFaultKind}
 use Rattle.loadng_messages.specs.declared.message.Message.{Message}
 use Rattle.loadng_messages.specs.declared.message.Message.TheVariants.{Rreq, Rrep, Rerr}
 use Rattle.loadng_messages.specs.Faults.{message_fault}
@@ -24,7 +25,7 @@ use Rattle.node_rules.specs.Plans.{resting}
 use Rattle.node_rules.specs.Drafts.{choose, refused}
 use Rattle.node_rules.specs.Hearing.{dropped, hear_message, hear_message_in, hear_command, hear_over_mesh, hear_sealed, hear_plain, hear_unit, hear_unit_in, is_joining, hear_request, hear_reply, hear_error, rank_over}
 
-pub message_none : (octets : List ℕ) (e : MessageFault) → message_fault octets ≡ Some e → message_in octets ≡ None
+pub message_none : (octets : List ℕ) (e : Fault MessageFaultKind) → message_fault octets ≡ Some e → message_in octets ≡ None
 unfolding message_in
 message_none octets e is = rw is refl
 

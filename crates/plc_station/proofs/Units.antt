@@ -3,7 +3,8 @@ use Rattle.std.proofs.Common.{◌≡◌, ℕ, ◌+◌, ◌<◌, Bool, true, fals
 use Rattle.std.specs.Prelude.{nat_lt, ◌==◌, if◌then◌else◌}
 use Rattle.std.proofs.lemmas.List.{length-append}
 use Rattle.byteorder.specs.Endian.{big_bytes}
-use Rattle.mesh_header.specs.declared.fault.UnitFault.{UnitFault}
+use Rattle.plc_base.specs.declared.fields.Fault.{Fault}
+use Rattle.mesh_header.specs.declared.fault.UnitFaultKind.{UnitFaultKind}
 use Rattle.mesh_header.specs.declared.unit.Mesh.{Mesh}
 use Rattle.mesh_header.specs.declared.unit.Unit.{Unit as MeshUnit}
 use Rattle.mesh_header.specs.declared.unit.Unit.TheVariants.{Whole, Part, Carried, Local}
@@ -12,7 +13,7 @@ use Rattle.mesh_header.specs.Faults.{unit_fault}
 use Rattle.mesh_header.specs.Reading.{unit_in}
 use Rattle.mesh_header.specs.Grammar.{Spells, spelling, spelled_length, mesh_then, hops_then, header_length, piece_spelling}
 
-pub unit_none : (octets : List ℕ) (e : UnitFault) → unit_fault octets ≡ Some e → unit_in octets ≡ None
+pub unit_none : (octets : List ℕ) (e : Fault UnitFaultKind) → unit_fault octets ≡ Some e → unit_in octets ≡ None
 unfolding unit_in
 unit_none octets e is = rw is refl
 

@@ -21,7 +21,9 @@ returns c =
     let whole : x ≡ low_control (eqb c.bits-3.result 1) (eqb c.bits-4.result 1) =
     sym same ∙ (λ i. low_control (eqb (sym c.bits-3.ensures i) 1) (eqb (sym c.bits-4.ensures i) 1)) in (
       low_none x octets some (sym is) type four seven six,
-      ap (λ (y : ℕ). eqb y 1) c.bits-3.ensures ∙ ap (λ (y : ℕ). eqb (bits 3 1 y) 1) is,
-      some,
-      sym (after_none octets) ∙ c.in_ok-low.ensures.1.parts ∙ ap (λ (y : ℕ). y ∷ after 1 octets) whole,
+      (
+        ap (λ (y : ℕ). eqb y 1) c.bits-3.ensures ∙ ap (λ (y : ℕ). eqb (bits 3 1 y) 1) is,
+        some,
+        sym (after_none octets) ∙ c.in_ok-low.ensures.1.parts ∙ ap (λ (y : ℕ). y ∷ after 1 octets) whole,
+      ),
     )

@@ -27,3 +27,10 @@ returns-clause-read c =
     third_read ak tek header packet text rand_s c.args.self.now.rand_p.0 c.args.self.now.id_s.0 mac tag identifier f.10 f.3 f.2 mac_is tag_is text_is in
     let one : Third ak tek identifier c.args.self.now.rand_s.0 c.args.self.now.rand_p.0 c.args.self.now.id_s.0 text packet = rw session at read in
     rw f.5 at one
+
+pub returns-clause-grant : goal.returns-clause-grant
+returns-clause-grant c =
+    let packet : List ℕ = c.args.packet.now in
+    let tek : List ℕ = transient_key c.args.keys.now.kdk c.args.self.now.rand_p.0 in
+    let text_is : c.in_ok-text.text ≡ channel_text tek 0 (after 58 packet) = cc (c.in_ok-text.ensures.2) in
+    cc (c.in_ok-grant.ensures.2, text_is)

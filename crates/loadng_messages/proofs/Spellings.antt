@@ -4,18 +4,20 @@ use Rattle.std.specs.Prelude.{IfOk, MatchResult}
 use Rattle.byteorder.specs.Endian.{big_bytes}
 use Rattle.std.proofs.lemmas.Grind.{common_steps}
 use Rattle.plc_base.specs.Addresses.{IsAddress}
-use Rattle.plc_base.specs.Faults.{cut_off}
+use Rattle.plc_base.specs.Faults.{cut_off, address_fault}
+use Rattle.plc_base.specs.declared.fields.Fault.{Fault}
+use Rattle.plc_base.proofs.Faults.{cut_off-none, address_fault-none}
 use Rattle.plc_base.proofs.Places.{octet_behind, two_behind, two_within, two_same}
-use Rattle.loadng_messages.specs.declared.fault.MessageFault.{MessageFault}
+use Rattle.loadng_messages.specs.declared.fault.MessageFaultKind.{MessageFaultKind}
+use Rattle.loadng_messages.specs.declared.fault.MessageFaultKind.TheVariants.{Short, Address}
 use Rattle.loadng_messages.specs.declared.message.Message.{Message}
 use Rattle.loadng_messages.specs.declared.message.Message.TheVariants.{Rreq, Rrep, Rerr}
 use Rattle.loadng_messages.specs.Grammar.{IsMessage, IsNumber, Spells, spelling}
-use Rattle.loadng_messages.specs.Faults.{short, number_fault, address_fault, long, message_fault, route_fault}
+use Rattle.loadng_messages.specs.Faults.{number_fault, long, message_fault, route_fault}
 
 -- a field that is as it should be has no fault
-pub short_none : (end : ℕ) (octets : List ℕ) → end ≤ length octets → short end octets ≡ None
-unfolding short cut_off
-short_none end octets h = grind (arith, common_steps)
+pub short_none : (end : ℕ) (octets : List ℕ) → end ≤ length octets → cut_off Short end octets ≡ None
+short_none end octets h = cut_off-none Short end octets h
 
 pub long_none : (end : ℕ) (octets : List ℕ) → length octets ≤ end → long end octets ≡ None
 unfolding long
@@ -28,12 +30,9 @@ number_none front n rest h =
     let is = two_behind front n rest h.1 in
     rw (whole, is) (grind (arith, common_steps))
 
-pub address_none : (front : List ℕ) (a : ℕ) (rest : List ℕ) → IsAddress a → address_fault (length front) (front ++ (big_bytes 2 a ++ rest)) ≡ None
-unfolding address_fault
+pub address_none : (front : List ℕ) (a : ℕ) (rest : List ℕ) → IsAddress a → address_fault Short Address (length front) (front ++ (big_bytes 2 a ++ rest)) ≡ None
 address_none front a rest h =
-    let whole = short_none (length front + 2) (front ++ (big_bytes 2 a ++ rest)) (two_within front a rest) in
-    let is = two_behind front a rest (omega arith) in
-    rw (whole, is) (grind (arith, common_steps))
+    address_fault-none Short Address (length front) a (front ++ (big_bytes 2 a ++ rest)) (two_within front a rest) (two_behind front a rest (omega arith)) h
 
 -- a request's or a reply's fields have no fault
 route_none : (kind n c o d : ℕ) → IsNumber n → IsAddress o → IsAddress d → route_fault (kind ∷ big_bytes 2 n ++ big_bytes 2 c ++ big_bytes 2 o ++ big_bytes 2 d) ≡ None
@@ -86,7 +85,7 @@ one_value (Rrep n c o d) (Rerr l t) h h' e = absurd cc
 one_value (Rerr l t) (Rreq n c o d) h h' e = absurd cc
 one_value (Rerr l t) (Rrep n c o d) h h' e = absurd cc
 
-pub only_read : (octets : List ℕ) (r : Result Message MessageFault) → IfOk r (λ m. Spells m octets) → MatchResult r (λ m. message_fault octets ≡ None) (λ e. message_fault octets ≡ Some e)
+pub only_read : (octets : List ℕ) (r : Result Message (Fault MessageFaultKind)) → IfOk r (λ m. Spells m octets) → MatchResult r (λ m. message_fault octets ≡ None) (λ e. message_fault octets ≡ Some e)
     → (message : Message) → Spells message octets → r ≡ Ok message
 only_read octets (Ok m) found exact message spells = ap Ok (one_value m message found.0 spells.0 (sym found.1 ∙ spells.1))
 only_read octets (Err e) found exact message spells = let none = no_fault message spells.0 in let same = ap message_fault spells.1 in absurd cc

@@ -5,12 +5,13 @@ use Rattle.std.proofs.lemmas.Grind.{common_steps}
 use Rattle.plc_base.specs.Fields.{after, octet}
 use Rattle.plc_base.specs.Faults.{cut_off}
 use Rattle.plc_base.proofs.Places.{after_behind, fronts_same, octet_behind}
-use Rattle.joining_messages.specs.declared.fault.JoinFault.{JoinFault}
+use Rattle.plc_base.specs.declared.fields.Fault.{Fault}
+use Rattle.joining_messages.specs.declared.fault.JoinFaultKind.{JoinFaultKind}
 use Rattle.joining_messages.specs.declared.message.JoinMessage.{JoinMessage}
 use Rattle.joining_messages.specs.declared.message.JoinBody.{JoinBody}
 use Rattle.joining_messages.specs.declared.message.JoinBody.TheVariants.{Join, Accept, Challenge, Decline, Kick, Activate}
 use Rattle.joining_messages.specs.Messages.{IsBody, IsMessage, Spells, code_of, rest_of, rest_length, spelling}
-use Rattle.joining_messages.specs.Faults.{short, code_fault, eui_fault, join_rest_fault, challenge_rest_fault, accept_rest_fault, activate_rest_fault, no_rest_fault, rest_fault, join_fault}
+use Rattle.joining_messages.specs.Faults.{code_fault, eui_fault, join_rest_fault, challenge_rest_fault, accept_rest_fault, activate_rest_fault, no_rest_fault, rest_fault, join_fault}
 
 code_low : (body : JoinBody) → (0 < code_of body) × (code_of body ≤ 6)
 code_low (Join eap) = (omega arith, omega arith)
@@ -30,11 +31,11 @@ length-rest_of (Activate index) = refl
 
 -- a field that is as it should be has no fault
 code_none : (octets : List ℕ) → 1 ≤ length octets → 0 < octet 0 octets → octet 0 octets ≤ 6 → code_fault octets ≡ None
-unfolding code_fault short cut_off
+unfolding code_fault cut_off
 code_none octets long low high = grind (arith, common_steps)
 
 eui_none : (octets : List ℕ) → 9 ≤ length octets → eui_fault octets ≡ None
-unfolding eui_fault short cut_off
+unfolding eui_fault cut_off
 eui_none octets long = grind (arith, common_steps)
 
 rest_none : (body : JoinBody) (octets : List ℕ) → IsBody body → length octets ≡ 9 + rest_length body → after 9 octets ≡ rest_of body → rest_fault (code_of body) octets ≡ None
@@ -83,7 +84,7 @@ one_value a b ha hb e =
     let body : a.body ≡ b.body = body_same a.body b.body code parts.1 in
     ap (λ (xs : List ℕ). message_from xs a.body) parts.0 ∙ ap (λ (x : JoinBody). message_from b.eui.0 x) body
 
-pub only_read : (octets : List ℕ) (r : Result JoinMessage JoinFault) → IfOk r (λ m. Spells m octets) → MatchResult r (λ m. join_fault octets ≡ None) (λ e. join_fault octets ≡ Some e)
+pub only_read : (octets : List ℕ) (r : Result JoinMessage (Fault JoinFaultKind)) → IfOk r (λ m. Spells m octets) → MatchResult r (λ m. join_fault octets ≡ None) (λ e. join_fault octets ≡ Some e)
     → (message : JoinMessage) → Spells message octets → r ≡ Ok message
 only_read octets (Ok m) found exact message spells = ap Ok (one_value m message found.0 spells.0 (sym found.1 ∙ spells.1))
 only_read octets (Err e) found exact message spells = let none = no_fault message spells.0 in let same = ap join_fault spells.1 in absurd cc

@@ -4,30 +4,29 @@ use Rattle.std.proofs.lemmas.Bool.{cases_lt}
 use Rattle.byteorder.specs.Endian.{big_bytes}
 use Rattle.std.proofs.lemmas.Grind.{common_steps}
 use Rattle.plc_base.specs.Fields.{octet, two}
-use Rattle.plc_base.specs.Faults.{cut_off}
+use Rattle.plc_base.specs.Addresses.{IsAddress}
+use Rattle.plc_base.specs.Faults.{cut_off, address_fault}
+use Rattle.plc_base.proofs.Faults.{cut_off-none, address_fault-none}
 use Rattle.plc_base.proofs.Places.{octet_past, octet_behind, two_behind}
 use Rattle.mesh_header.specs.declared.unit.Mesh.{Mesh}
 use Rattle.mesh_header.specs.Pieces.{Placed, IsPiece}
 use Rattle.mesh_header.specs.declared.unit.Unit.{Unit}
 use Rattle.mesh_header.specs.declared.unit.Unit.TheVariants.{Whole, Part, Carried, Local}
 use Rattle.mesh_header.specs.Grammar.{IsMesh, IsUnit, spelling, piece_spelling, hops_then, mesh_then}
-use Rattle.mesh_header.specs.Faults.{short, address_fault, tag_fault, octet_fault, data_fault, size_fault, octets_fault, first_piece_fault, later_piece_fault, carried_fault, local_fault, load_fault, hops_fault, origin_at, header_fault, part_fault, mesh_fault, first_fault, unit_fault}
+use Rattle.mesh_header.specs.declared.fault.UnitFaultKind.TheVariants.{Short, Address}
+use Rattle.mesh_header.specs.Faults.{tag_fault, octet_fault, data_fault, size_fault, octets_fault, first_piece_fault, later_piece_fault, carried_fault, local_fault, load_fault, hops_fault, origin_at, header_fault, part_fault, mesh_fault, first_fault, unit_fault}
 
 -- a field that is as it should be has no fault
 tag_none : (at : ℕ) (octets : List ℕ) → at + 2 ≤ length octets → tag_fault at octets ≡ None
-unfolding tag_fault short cut_off
-tag_none at octets h = grind (arith, common_steps)
+unfolding tag_fault
+tag_none at octets h = cut_off-none Short (at + 2) octets h
 
 octet_none : (at : ℕ) (octets : List ℕ) → at + 1 ≤ length octets → octet_fault at octets ≡ None
-unfolding octet_fault short cut_off
-octet_none at octets h = grind (arith, common_steps)
-
-address_none : (at a : ℕ) (octets : List ℕ) → at + 2 ≤ length octets → two at octets ≡ a → a < 0xFFFE → address_fault at octets ≡ None
-unfolding address_fault short cut_off
-address_none at a octets h is fits = grind (arith, common_steps)
+unfolding octet_fault
+octet_none at octets h = cut_off-none Short (at + 1) octets h
 
 size_none : (base size at : ℕ) (octets : List ℕ) → at + 2 ≤ length octets → two at octets ≡ base + size → 0 < size → size ≤ 1280 → size_fault base at octets ≡ None
-unfolding size_fault short cut_off
+unfolding size_fault cut_off
 size_none base size at octets h is low high = grind (arith, common_steps)
 
 data_none : (at : ℕ) (octets : List ℕ) → at + 1 ≤ length octets → length octets ≤ at + 375 → data_fault at octets ≡ None
@@ -41,7 +40,7 @@ octets_none size offset n at octets len some within eighths =
     rw is (grind (arith, common_steps))
 
 hops_none : (octets : List ℕ) → 0xB0 ≤ octet 0 octets → (octet 0 octets ≡ 0xBF → 2 ≤ length octets) → (octet 0 octets ≡ 0xBF → 15 ≤ octet 1 octets) → hops_fault octets ≡ None
-unfolding hops_fault short cut_off
+unfolding hops_fault cut_off
 hops_none octets low long high = grind (arith, common_steps)
 
 -- a piece stands behind other octets
@@ -142,7 +141,7 @@ origin_two : (octets : List ℕ) → octet 0 octets ≡ 0xBF → origin_at octet
 unfolding origin_at
 origin_two octets h = grind (arith, common_steps)
 
-few_none : (hops o t : ℕ) (load : List ℕ) → hops < 15 → o < 0xFFFE → t < 0xFFFE → ((front : List ℕ) → load_fault (length front) (front ++ load) ≡ None)
+few_none : (hops o t : ℕ) (load : List ℕ) → hops < 15 → IsAddress o → IsAddress t → ((front : List ℕ) → load_fault (length front) (front ++ load) ≡ None)
     → unit_fault ((0xB0 + hops) ∷ big_bytes 2 o ++ (big_bytes 2 t ++ load)) ≡ None
 unfolding header_fault
 few_none hops o t load few ho ht loads =
@@ -150,13 +149,13 @@ few_none hops o t load few ho ht loads =
     let first : octet 0 octets ≡ 0xB0 + hops = octet_behind [] (0xB0 + hops) (big_bytes 2 o ++ (big_bytes 2 t ++ load)) in
     let f1 : hops_fault octets ≡ None = hops_none octets (omega arith) (λ e. omega arith) (λ e. absurd (omega arith)) in
     let at : origin_at octets ≡ 1 = origin_one octets (omega arith) in
-    let f2 : address_fault 1 octets ≡ None = address_none 1 o octets (omega arith) (two_behind ((0xB0 + hops) ∷ []) o (big_bytes 2 t ++ load) (omega arith)) ho in
-    let f3 : address_fault 3 octets ≡ None = address_none 3 t octets (omega arith) (two_behind ((0xB0 + hops) ∷ big_bytes 2 o) t load (omega arith)) ht in
+    let f2 : address_fault Short Address 1 octets ≡ None = address_fault-none Short Address 1 o octets (omega arith) (two_behind ((0xB0 + hops) ∷ []) o (big_bytes 2 t ++ load) (omega arith)) ho in
+    let f3 : address_fault Short Address 3 octets ≡ None = address_fault-none Short Address 3 t octets (omega arith) (two_behind ((0xB0 + hops) ∷ big_bytes 2 o) t load (omega arith)) ht in
     let f4 : load_fault 5 octets ≡ None = loads ((0xB0 + hops) ∷ big_bytes 2 o ++ big_bytes 2 t) in
     let whole : mesh_fault octets ≡ None = rw (f1, at, f2, f3, f4) refl in
     not_empty octets (omega arith) ∙ ap (λ (d : ℕ). first_fault d octets) first ∙ is_mesh (0xB0 + hops) octets (omega arith) (omega arith) ∙ whole
 
-many_none : (hops o t : ℕ) (load : List ℕ) → 15 ≤ hops → o < 0xFFFE → t < 0xFFFE → ((front : List ℕ) → load_fault (length front) (front ++ load) ≡ None)
+many_none : (hops o t : ℕ) (load : List ℕ) → 15 ≤ hops → IsAddress o → IsAddress t → ((front : List ℕ) → load_fault (length front) (front ++ load) ≡ None)
     → unit_fault (0xBF ∷ hops ∷ big_bytes 2 o ++ (big_bytes 2 t ++ load)) ≡ None
 unfolding header_fault octet
 many_none hops o t load many ho ht loads =
@@ -165,8 +164,8 @@ many_none hops o t load many ho ht loads =
     let second : octet 1 octets ≡ hops = refl in
     let f1 : hops_fault octets ≡ None = hops_none octets (omega arith) (λ e. omega arith) (λ e. omega arith) in
     let at : origin_at octets ≡ 2 = origin_two octets refl in
-    let f2 : address_fault 2 octets ≡ None = address_none 2 o octets (omega arith) (two_behind (0xBF ∷ hops ∷ []) o (big_bytes 2 t ++ load) (omega arith)) ho in
-    let f3 : address_fault 4 octets ≡ None = address_none 4 t octets (omega arith) (two_behind (0xBF ∷ hops ∷ big_bytes 2 o) t load (omega arith)) ht in
+    let f2 : address_fault Short Address 2 octets ≡ None = address_fault-none Short Address 2 o octets (omega arith) (two_behind (0xBF ∷ hops ∷ []) o (big_bytes 2 t ++ load) (omega arith)) ho in
+    let f3 : address_fault Short Address 4 octets ≡ None = address_fault-none Short Address 4 t octets (omega arith) (two_behind (0xBF ∷ hops ∷ big_bytes 2 o) t load (omega arith)) ht in
     let f4 : load_fault 6 octets ≡ None = loads (0xBF ∷ hops ∷ big_bytes 2 o ++ big_bytes 2 t) in
     let whole : mesh_fault octets ≡ None = rw (f1, at, f2, f3, f4) refl in
     not_empty octets (omega arith) ∙ ap (λ (d : ℕ). first_fault d octets) first ∙ is_mesh 0xBF octets (omega arith) (omega arith) ∙ whole

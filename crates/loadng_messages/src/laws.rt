@@ -1,0 +1,12 @@
+//! Laws of route messages, over their definitions alone: each stands as the contract of a function that does nothing.
+ghost use Rattle.loadng_messages.specs.Laws.{MessagesAreRead, ReadMessagesAreSpelled};
+
+/// The message that octets spell is read out of them.
+pub fn messages_are_read()
+    ensures { MessagesAreRead }
+{}
+
+/// The message that is read out of octets is the one that they spell.
+pub fn read_messages_are_spelled()
+    ensures { ReadMessagesAreSpelled }
+{}
