@@ -1,10 +1,13 @@
 -- What the head of a frame says of its nonce, as nodes spell it.
 use Rattle.std.proofs.Common.{◌≡◌, ℕ, zero, suc, ◌<◌, ◌≤◌, ◌^◌, Bool, true, false, List, [], ◌∷◌, ◌++◌, take, drop, Option, Some, None, refl, sym, ap, ◌∙◌, subst, arith}
 use Rattle.std.specs.Prelude.{◌%◌, ◌==◌, not, IfSome, All, is_some, if◌then◌else◌, slice_index}
-use Rattle.std.proofs.lemmas.Bool.{ltb-false}
+use Rattle.std.proofs.lemmas.Bool.{ltb-true}
 use Rattle.std.proofs.lemmas.Option.{same_Some}
-use Rattle.plc_base.specs.Faults.{◌then◌, ◌when◌}
-use Rattle.mac_frames.specs.declared.fault.FrameFault.{FrameFault}
+use Rattle.plc_base.specs.Faults.{◌then◌, ◌when◌, ◌unless◌, cut_off}
+use Rattle.plc_base.proofs.Faults.{unless_none}
+use Rattle.mac_frames.specs.declared.fault.FrameFaultKind.TheVariants.{Short}
+use Rattle.plc_base.specs.declared.fields.Fault.{Fault}
+use Rattle.mac_frames.specs.declared.fault.FrameFaultKind.{FrameFaultKind}
 use Rattle.mesh_header.specs.Grammar.{spelling}
 use Rattle.plc_base.specs.declared.address.TheConstants.{PAN}
 use Rattle.byteorder.specs.Endian.{little_bytes, little_from}
@@ -13,7 +16,7 @@ use Rattle.plc_base.proofs.Places.{octet_behind, little_four_behind}
 use Rattle.plc_base.specs.declared.address.Eui.{Eui}
 use Rattle.joining_messages.specs.declared.message.JoinMessage.{JoinMessage}
 use Rattle.mac_frames.specs.declared.head.MacHead.TheVariants as heads
-use Rattle.mac_frames.specs.Faults.{is_sealed, has_modes, short, low_fault, high_fault, target_fault, sender_fault, sealed_fault, up_fault, down_fault, fields_fault, frame_fault}
+use Rattle.mac_frames.specs.Faults.{is_sealed, has_modes, low_fault, high_fault, target_fault, sender_fault, sealed_fault, up_fault, down_fault, fields_fault, frame_fault}
 use Rattle.mac_frames.specs.Grammar.{header_then, low_control, high_control}
 use Rattle.mac_frames.specs.Reading.{head_by, head_in, body_in}
 use Rattle.node_rules.specs.Ciphers.{Ciphers}
@@ -95,7 +98,7 @@ when_none f false e = refl
 
 sender_low : (octets : List ℕ) → sender_fault 7 octets ≡ None → little_two 7 octets < 0xFFFE
 unfolding sender_fault
-sender_low octets e = let low : little_two 7 octets ≤ 0xFFFD = ltb-false _ _ (when_none _ _ (then_none _ _ e).1) in omega arith
+sender_low octets e = ltb-true _ _ (unless_none _ _ (then_none _ _ e).1)
 
 sealed_sender : (octets : List ℕ) → is_sealed octets ≡ true → frame_fault octets ≡ None → little_two 7 octets < 0xFFFE
 unfolding fields_fault sealed_fault
@@ -103,8 +106,8 @@ sealed_sender octets is e =
     let a = (then_none _ _ e).1 in
     let b = then_none (low_fault octets) _ a in
     let c = then_none (high_fault octets) _ b.1 in
-    let d = then_none (short 3 octets) _ c.1 in
-    let f = then_none (short 5 octets) _ d.1 in
+    let d = then_none (cut_off Short 3 octets) _ c.1 in
+    let f = then_none (cut_off Short 5 octets) _ d.1 in
     let k = subst (λ x. (if x then sealed_fault octets else (if has_modes 2 3 (octet 1 octets) then up_fault octets else down_fault octets)) ≡ None) is f.1 in
     let g = then_none (target_fault 5 octets) _ k in
     let h = then_none (sender_fault 7 octets) _ g.1 in
@@ -125,7 +128,7 @@ pub head_ranges : (ciphers : Ciphers) (octets : List ℕ) (a : Arrived) (ack : B
 unfolding arrived
 head_ranges ciphers octets a ack seq pan to from counter index all = by_fault (frame_fault octets) refl
   where
-    by_fault : (o : Option FrameFault) → frame_fault octets ≡ o → (if is_some o then None else Some (arrived_with ciphers (head_in octets) (take 15 octets) (body_in octets))) ≡ Some a
+    by_fault : (o : Option (Fault FrameFaultKind)) → frame_fault octets ≡ o → (if is_some o then None else Some (arrived_with ciphers (head_in octets) (take 15 octets) (body_in octets))) ≡ Some a
         → a.head ≡ heads.Sealed ack seq pan to from counter index → (from < 0xFFFE) × (counter < 2 ^ 32)
     by_fault (Some f) is e h = absurd (cc)
     by_fault None is e h =

@@ -3,14 +3,15 @@ use Rattle.std.proofs.Common.{◌≡◌, ◌≢◌, ℕ, zero, suc, ◌+◌, ◌
 use Rattle.std.specs.Prelude.{◌==◌, ◌&&◌, if◌then◌else◌, is_some, nat_lt, slice_index}
 use Rattle.std.proofs.lemmas.Bool.{eqb-true, eqb-false, ltb-true, ltb-false, and_parts, or_parts}
 use Rattle.std.proofs.lemmas.List.{length-take-le, length-drop}
-use Rattle.plc_base.specs.Faults.{◌then◌, ◌when◌, cut_off}
+use Rattle.plc_base.specs.Faults.{◌then◌, ◌when◌, fault_at, cut_off}
 use Rattle.plc_base.specs.Fields.{octet, two, part, after}
 use Rattle.joining_messages.specs.declared.message.JoinMessage.{JoinMessage}
 use Rattle.joining_messages.specs.declared.message.JoinBody.TheVariants as body
-use Rattle.joining_messages.specs.declared.fault.JoinFault.{JoinFault}
+use Rattle.plc_base.specs.declared.fields.Fault.{Fault}
+use Rattle.joining_messages.specs.declared.fault.JoinFaultKind.{JoinFaultKind}
 use Rattle.std.proofs.lemmas.Option.{same_Some}
 use Rattle.joining_messages.specs.declared.fault.JoinFaultKind.TheVariants as kinds
-use Rattle.joining_messages.specs.Faults.{short, code_fault, eui_fault, rest_fault, join_fault, is_index, activate_rest_fault, fault_at}
+use Rattle.joining_messages.specs.Faults.{code_fault, eui_fault, rest_fault, join_fault, is_index, activate_rest_fault}
 use Rattle.joining_messages.specs.Reading.{join_in, body_in, key_at, granted_in, grant_in}
 use Rattle.joining_messages.specs.Grants.{stands, head_stands, address_stands, index_stands, key_stands, is_parameter_list}
 use Rattle.plc_base.specs.declared.key.Key.{Key}
@@ -37,12 +38,12 @@ is_read : (octets : List ℕ) (join : JoinMessage) → join_in octets ≡ Some j
 unfolding join_in
 is_read octets join = by_fault (join_fault octets) refl
   where
-    by_fault : (o : Option JoinFault) → join_fault octets ≡ o → (if is_some o then None else Some (record { eui = record { 0 = part 1 8 octets }; body = body_in (octet 0 octets) octets })) ≡ Some join → IsRead octets join
+    by_fault : (o : Option (Fault JoinFaultKind)) → join_fault octets ≡ o → (if is_some o then None else Some (record { eui = record { 0 = part 1 8 octets }; body = body_in (octet 0 octets) octets })) ≡ Some join → IsRead octets join
     by_fault (Some f) is e = absurd (cc)
     by_fault None is e = let same = same_Some _ _ e in record { none = is; eui = ap (λ (j : JoinMessage). j.eui.0) same; body = ap (λ (j : JoinMessage). j.body) same }
 
 long_enough : (octets : List ℕ) → eui_fault octets ≡ None → 9 ≤ length octets
-unfolding eui_fault short cut_off
+unfolding eui_fault cut_off
 long_enough octets e = ltb-false _ _ (when_none _ _ e)
 
 eight : (octets : List ℕ) → 9 ≤ length octets → length (part 1 8 octets) ≡ 8

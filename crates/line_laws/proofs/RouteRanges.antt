@@ -3,14 +3,16 @@ use Rattle.std.proofs.Common.{◌≡◌, ◌≢◌, ℕ, ◌+◌, ◌<◌, ◌�
 use Rattle.std.specs.Prelude.{◌==◌, if◌then◌else◌, All, is_some, nat_lt, slice_index}
 use Rattle.std.proofs.lemmas.Bool.{eqb-false, ltb-false}
 use Rattle.std.proofs.lemmas.Option.{same_Some}
-use Rattle.plc_base.specs.Faults.{◌then◌}
+use Rattle.plc_base.specs.Faults.{◌then◌, fault_at, cut_off, address_fault}
+use Rattle.plc_base.proofs.Faults.{is_node}
 use Rattle.plc_base.specs.Fields.{two, octet, after}
 use Rattle.loadng_messages.specs.declared.message.Message.{Message}
 use Rattle.loadng_messages.specs.declared.message.Message.TheVariants.{Rreq, Rrep, Rerr}
-use Rattle.loadng_messages.specs.declared.fault.MessageFault.{MessageFault}
+use Rattle.plc_base.specs.declared.fields.Fault.{Fault}
+use Rattle.loadng_messages.specs.declared.fault.MessageFaultKind.{MessageFaultKind}
 use Rattle.loadng_messages.specs.declared.fault.MessageFaultKind.TheVariants as kinds
 use Rattle.loadng_messages.specs.Grammar.{IsMessage}
-use Rattle.loadng_messages.specs.Faults.{fault_at, short, number_fault, address_fault, message_fault, kind_fault, route_fault, error_fault}
+use Rattle.loadng_messages.specs.Faults.{number_fault, message_fault, kind_fault, route_fault, error_fault}
 use Rattle.loadng_messages.specs.Reading.{message_in, fields_in}
 use Rattle.mesh_header.specs.declared.unit.Mesh.{Mesh}
 use Rattle.mesh_header.specs.declared.unit.Unit.TheVariants as units
@@ -29,23 +31,22 @@ number_is : (at : ℕ) (octets : List ℕ) → number_fault at octets ≡ None �
 unfolding number_fault
 number_is at octets e = let other : two at octets ≢ 0 = eqb-false _ _ (when_none _ _ (then_none _ _ e).1) in omega arith
 
-address_is : (at : ℕ) (octets : List ℕ) → address_fault at octets ≡ None → two at octets < 0xFFFE
-unfolding address_fault
-address_is at octets e = let low : two at octets ≤ 0xFFFD = ltb-false _ _ (when_none _ _ (then_none _ _ e).1) in omega arith
+address_is : (at : ℕ) (octets : List ℕ) → address_fault kinds.Short kinds.Address at octets ≡ None → two at octets < 0xFFFE
+address_is at octets e = (is_node kinds.Short kinds.Address at octets e).1
 
 module _ (octets : List ℕ) (low : (k : ℕ) → slice_index octets k < 256) where
   route_is : route_fault octets ≡ None → IsMessage (Rreq (two 1 octets) (two 3 octets) (two 5 octets) (two 7 octets))
   route_is e =
       let a = then_none (number_fault 1 octets) _ e in
-      let b = then_none (short 5 octets) _ a.1 in
-      let c = then_none (address_fault 5 octets) _ b.1 in
-      let d = then_none (address_fault 7 octets) _ c.1 in
+      let b = then_none (cut_off kinds.Short 5 octets) _ a.1 in
+      let c = then_none (address_fault kinds.Short kinds.Address 5 octets) _ b.1 in
+      let d = then_none (address_fault kinds.Short kinds.Address 7 octets) _ c.1 in
       ((number_is 1 octets a.0, two_low 1 octets low), two_low 3 octets low, address_is 5 octets c.0, address_is 7 octets d.0)
 
   error_is : error_fault octets ≡ None → IsMessage (Rerr (two 1 octets) (two 3 octets))
   error_is e =
-      let a = then_none (address_fault 1 octets) _ e in
-      let b = then_none (address_fault 3 octets) _ a.1 in
+      let a = then_none (address_fault kinds.Short kinds.Address 1 octets) _ e in
+      let b = then_none (address_fault kinds.Short kinds.Address 3 octets) _ a.1 in
       (address_is 1 octets a.0, address_is 3 octets b.0)
 
   fields_are : kind_fault (octet 0 octets) octets ≡ None → IsMessage (fields_in (octet 0 octets) octets)
@@ -62,9 +63,9 @@ module _ (octets : List ℕ) (low : (k : ℕ) → slice_index octets k < 256) wh
   unfolding message_in
   message_ranges m = by_fault (message_fault octets) refl
     where
-      by_fault : (o : Option MessageFault) → message_fault octets ≡ o → (if is_some o then None else Some (fields_in (octet 0 octets) octets)) ≡ Some m → IsMessage m
+      by_fault : (o : Option (Fault MessageFaultKind)) → message_fault octets ≡ o → (if is_some o then None else Some (fields_in (octet 0 octets) octets)) ≡ Some m → IsMessage m
       by_fault (Some f) is e = absurd (cc)
-      by_fault None is e = subst IsMessage (same_Some _ _ e) (fields_are (then_none (short 1 octets) _ is).1)
+      by_fault None is e = subst IsMessage (same_Some _ _ e) (fields_are (then_none (cut_off kinds.Short 1 octets) _ is).1)
 
 -- # A command for the neighbours
 

@@ -6,7 +6,7 @@ use Rattle.hex.specs.Hex.{encode_lower}
 use Rattle.line_driver.specs.Lines.{Content, Text, Long, TooMuch}
 use Rattle.line_driver.specs.Clauses.{IsStop}
 use Rattle.line_driver.specs.Outcomes.{Turn, Skips, Takes, Stops, Outcome, outcome as outcome_of}
-use Rattle.mac_frames.specs.declared.fault.FrameFault.{FrameFault}
+use Rattle.plc_base.specs.declared.fields.Fault.{Fault}
 use Rattle.mac_frames.specs.declared.fault.FrameFaultKind.{FrameFaultKind}
 use Rattle.mac_frames.specs.declared.fault.FrameFaultKind.TheVariants as kinds
 use Rattle.mac_frames.specs.declared.head.MacHead.{MacHead}
@@ -55,11 +55,11 @@ head_text (Sealed ack seq pan to from counter index) body =
 head_text (Up ack version seq pan to from) body = plain_text (short_word to) (encode_lower from.0) body
 head_text (Down ack version seq pan to from) body = plain_text (encode_lower to.0) (short_word from) body
 
-unfoldable pub fault_text : FrameFault → List ℕ
+unfoldable pub fault_text : Fault FrameFaultKind → List ℕ
 fault_text fault = codes "fault " ++ (kind_word fault.kind ++ (codes " " ++ (decimal fault.place ++ codes "\n")))
 
 -- what a frame is, or its first fault
-abbrev pub frame_text_by : Option FrameFault → List ℕ → List ℕ
+abbrev pub frame_text_by : Option (Fault FrameFaultKind) → List ℕ → List ℕ
 frame_text_by None octets = head_text (head_in octets) (body_in octets)
 frame_text_by (Some fault) octets = fault_text fault
 
