@@ -1,0 +1,26 @@
+//! Laws of tags and of puts, one after another. Each is the contract of a function that does nothing.
+ghost use Rattle.plc_base.specs.Laws.{WritesCompose, WritesStop, APrefixIsWritten, OtherSlotsStay, APutStaysInItsSlot};
+ghost use Rattle.plc_base.specs.Tags.{OneSpellingOneTag};
+
+/// Two tags with one spelling are the same.
+pub fn one_spelling_one_tag()
+    ensures { OneSpellingOneTag }
+{}
+
+/// The puts of one list after those of another are those of both lists; where one of the first list failed, none of the
+/// second is made.
+pub fn writes_compose()
+    ensures compose { WritesCompose }
+    ensures stop { WritesStop }
+{}
+
+/// Whatever becomes of puts, a prefix of them is made, and all of them where none failed.
+pub fn a_prefix_is_written()
+    ensures { APrefixIsWritten }
+{}
+
+/// Puts at other slots leave the record of a slot, whatever becomes of them.
+pub fn other_slots_stay()
+    ensures slots { OtherSlotsStay }
+    ensures outside { APutStaysInItsSlot }
+{}
