@@ -8,6 +8,7 @@ use Rattle.byteorder.specs.Endian.{big_number, big_bytes}
 use Rattle.plc_base.specs.Keeper.{Records, Write}
 use Rattle.plc_base.specs.SlotTables as slots
 use Rattle.plc_base.specs.Grant.{Granted, key_code}
+pub use Rattle.plc_base.specs.Addresses.{eui_number}
 use Rattle.plc_base.specs.declared.address.Eui.{Eui}
 use Rattle.plc_base.specs.declared.key.Key.{Key}
 use Rattle.group_keys.specs.Fields.{key_in, held_in, held_octets, flag_in, flag_octet}
@@ -27,10 +28,6 @@ book_code =
     (λ e. (e.eui.0, (e.psk, (e.allowed, (e.issued0, e.issued1)))))
     (λ t. record { eui = record { 0 = t.0 }; psk = t.1.0; allowed = t.1.1.0; issued0 = t.1.1.1.0; issued1 = t.1.1.1.1 })
     (λ _. refl))
-
--- the number that an EUI is
-abbrev pub eui_number : Eui → ℕ
-eui_number eui = big_number 8 eui.0
 
 -- # The record: EUI, pair key, address, whether it is allowed, and the two keys that may be issued
 

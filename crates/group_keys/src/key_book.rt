@@ -1,11 +1,11 @@
 //! The coordinator's book of meters.
-ghost use Rattle.std.specs.Prelude.{◌≡◌, ◌⊎◌, ◌+◌, ◌<◌, ◌≤◌, true, ℕ, Ok, Some, is_ok, map, IfOk, IfErr, OnOk, OnErr, OnSome};
+ghost use Rattle.std.specs.Prelude.{◌≡◌, ◌+◌, ◌<◌, ◌≤◌, true, ℕ, Ok, Some, is_ok, map, IfOk, IfErr, OnOk, OnErr, OnSome};
 ghost use Rattle.std.specs.Bool.{OnTrue};
 ghost use Rattle.std.specs.Option.{option_map, option_and_then};
-ghost use Rattle.plc_base.specs.Keeper.{Stores, SameOutside};
+ghost use Rattle.plc_base.specs.Keeper.{Stores, SameOutside, IsOldOrNew};
 ghost use Rattle.plc_base.specs.SlotTables.{IsTable, IsGapless, IsReading, IsBad, opened, read_into};
 ghost use Rattle.plc_base.specs.declared.address.Eui.{Eui};
-ghost use Rattle.group_keys.specs.KeyBook.{Book, entries, IsKept, eui_number, entry_for, address_of, is_allowed, issued_at, has_room, place_for, with_entry, change_write, allowed_one, allow_change, kick_change, issue_change, changing_result, changing_after, changing_write, done_result, is_stored};
+ghost use Rattle.group_keys.specs.KeyBook.{Book, entries, IsKept, entry_for, holds, address_of, is_allowed, issued_at, has_room, place_for, with_entry, change_write, allowed_one, allow_change, kick_change, issue_change, changing_result, changing_after, changing_write, done_result, is_stored};
 
 use crate::BookFault;
 use crate::fields::{HELD, flag_in, held_in, key_in, push_held};
@@ -58,7 +58,7 @@ impl SlotEntry for BookEntry {
     ghost keeps_key = { λ _. refl };
 
     fn key(&self) -> u64 {
-        BigEndian::read_u64(&self.eui.0)
+        self.eui.number()
     }
 
     fn slot(place: usize) -> u32 {
@@ -120,13 +120,6 @@ impl Model for KeyBook {
     ghost view = { λ b. b.table };
 }
 
-// The number that an EUI is.
-fn key_of(eui: &Eui) -> u64
-    ensures { result ≡ eui_number eui.now }
-{
-    BigEndian::read_u64(&eui.0)
-}
-
 // The address of the entry at a place.
 fn address_at(place: usize) -> Short
     requires { place < 999 }
@@ -166,14 +159,14 @@ impl KeyBook {
     pub fn entry(&self, eui: Eui) -> Option<BookEntry>
         ensures { result ≡ entry_for self.now eui }
     {
-        self.table.find(key_of(&eui))
+        self.table.find(eui.number())
     }
 
     /// The address of a meter, None exactly where it is not known.
     pub fn address(&self, eui: Eui) -> Option<Short>
         ensures { result ≡ address_of self.now eui }
     {
-        let place = self.table.place_of(key_of(&eui))?;
+        let place = self.table.place_of(eui.number())?;
         Some(address_at(place))
     }
 
@@ -207,11 +200,29 @@ impl KeyBook {
         }
     }
 
+    /// The entries in the order of their slots: no two of one meter, and at most 999.
+    pub fn entries(&self) -> &[BookEntry]
+        ensures value { result.now ≡ self.now }
+        ensures table { IsTable entries self.now }
+    {
+        self.table.as_slice()
+    }
+
+    /// Whether the book has this very entry.
+    pub fn holds(&self, entry: &BookEntry) -> bool
+        ensures { result ≡ holds self.now entry.now }
+    {
+        match self.entry(entry.eui) {
+            Some(held) => held == *entry,
+            None => false,
+        }
+    }
+
     /// Whether there is a place for the entry of a meter: it is known, or fewer than 999 are.
     pub fn has_room(&self, eui: Eui) -> bool
         ensures { result ≡ has_room self.now eui }
     {
-        self.table.place_of(key_of(&eui)).is_some() || !self.table.is_full()
+        self.table.place_of(eui.number()).is_some() || !self.table.is_full()
     }
 
     /// Makes an entry the one of its meter, and answers the meter's address. It is stored first, where the book has not this
@@ -229,10 +240,10 @@ impl KeyBook {
         ensures store { Stores (K.store keeper.old) (change_write self.old entry) (is_ok result) (K.store keeper.new) }
         ensures kept { OnOk result (IsKept self.new (K.store keeper.new).records) }
         // Whatever became of the put, the records are those of the book before or of the one after.
-        ensures either { IsKept self.old (K.store keeper.new).records ⊎ IsKept (with_entry self.old entry) (K.store keeper.new).records }
+        ensures either { IsOldOrNew IsKept self.old (with_entry self.old entry) (K.store keeper.new).records }
         ensures elsewhere { SameOutside 0x1000 0x13E6 (K.store keeper.old).records (K.store keeper.new).records }
     {
-        match self.table.place_of(key_of(&entry.eui)) {
+        match self.table.place_of(entry.eui.number()) {
             Some(place) => {
                 if self.table.get(place) == entry {
                     return Ok(address_at(place));
@@ -265,7 +276,7 @@ impl KeyBook {
         ensures addresses { (meter : Eui) (address : ℕ) → address_of self.old meter ≡ Some address → address_of self.new meter ≡ Some address }
         ensures store { Stores (K.store keeper.old) (changing_write self.old (allow_change self.old eui psk.now)) (is_stored result) (K.store keeper.new) }
         ensures kept { OnTrue (is_stored result) (IsKept self.new (K.store keeper.new).records) }
-        ensures either { IsKept self.old (K.store keeper.new).records ⊎ IsKept (changing_after self.old (allow_change self.old eui psk.now) true) (K.store keeper.new).records }
+        ensures either { IsOldOrNew IsKept self.old (changing_after self.old (allow_change self.old eui psk.now) true) (K.store keeper.new).records }
         ensures elsewhere { SameOutside 0x1000 0x13E6 (K.store keeper.old).records (K.store keeper.new).records }
     {
         if !self.has_room(eui) {
@@ -296,7 +307,7 @@ impl KeyBook {
         ensures addresses { (meter : Eui) (address : ℕ) → address_of self.old meter ≡ Some address → address_of self.new meter ≡ Some address }
         ensures store { Stores (K.store keeper.old) (changing_write self.old (kick_change self.old eui)) (is_stored result) (K.store keeper.new) }
         ensures kept { OnTrue (is_stored result) (IsKept self.new (K.store keeper.new).records) }
-        ensures either { IsKept self.old (K.store keeper.new).records ⊎ IsKept (changing_after self.old (kick_change self.old eui) true) (K.store keeper.new).records }
+        ensures either { IsOldOrNew IsKept self.old (changing_after self.old (kick_change self.old eui) true) (K.store keeper.new).records }
         ensures elsewhere { SameOutside 0x1000 0x13E6 (K.store keeper.old).records (K.store keeper.new).records }
     {
         let Some(entry) = self.allowed_one(eui) else {
@@ -329,7 +340,7 @@ impl KeyBook {
         ensures addresses { (meter : Eui) (address : ℕ) → address_of self.old meter ≡ Some address → address_of self.new meter ≡ Some address }
         ensures store { Stores (K.store keeper.old) (changing_write self.old (issue_change self.old eui grant.now)) (is_stored result) (K.store keeper.new) }
         ensures kept { OnTrue (is_stored result) (IsKept self.new (K.store keeper.new).records) }
-        ensures either { IsKept self.old (K.store keeper.new).records ⊎ IsKept (changing_after self.old (issue_change self.old eui grant.now) true) (K.store keeper.new).records }
+        ensures either { IsOldOrNew IsKept self.old (changing_after self.old (issue_change self.old eui grant.now) true) (K.store keeper.new).records }
         ensures elsewhere { SameOutside 0x1000 0x13E6 (K.store keeper.old).records (K.store keeper.new).records }
     {
         let Some(entry) = self.allowed_one(eui) else {

@@ -4,7 +4,7 @@ ghost use Rattle.std.specs.Prelude.{◌≡◌, ◌⊎◌, ◌≤◌, true, Some,
 ghost use Rattle.std.specs.Bool.{OnTrue};
 ghost use Rattle.std.specs.Option.{option_map};
 ghost use Rattle.plc_base.specs.Keeper.{Stores, SameOutside};
-ghost use Rattle.group_keys.specs.KeyRing.{IsKept, opened, ring_at, ring_slot, ring_in, grant_in, ring_octets, ring_write, key_in_ring, with_key, with_active, stored_result, activate_result, activate_write, activate_after, is_stored};
+ghost use Rattle.group_keys.specs.KeyRing.{IsKept, IsOldRingOrKept, opened, ring_at, ring_slot, ring_in, grant_in, ring_octets, ring_write, key_in_ring, with_key, with_active, stored_result, activate_result, activate_write, activate_after, is_stored};
 
 use crate::RingFault;
 use crate::fields::{HELD, held_in, push_held};
@@ -157,8 +157,7 @@ impl KeyRing {
         ensures store { Stores (K.store keeper.old) (ring_write grant) (is_ok result) (K.store keeper.new) }
         ensures kept { OnOk result (IsKept self.new (K.store keeper.new).records) }
         // Whatever became of the put, the slot gives the ring that it gave before or this one.
-        ensures either { (ring_at (get (K.store keeper.new).records ring_slot) ≡ ring_at (get (K.store keeper.old).records ring_slot))
-            ⊎ IsKept grant (K.store keeper.new).records }
+        ensures either { IsOldRingOrKept grant (K.store keeper.old).records (K.store keeper.new).records }
         ensures elsewhere { SameOutside 1 1 (K.store keeper.old).records (K.store keeper.new).records }
     {
         store_ring(keeper, &grant)?;
@@ -175,8 +174,7 @@ impl KeyRing {
         ensures same { OnErr result (self.new ≡ self.old) }
         ensures store { Stores (K.store keeper.old) (ring_write (Some grant.now)) (is_ok result) (K.store keeper.new) }
         ensures kept { OnOk result (IsKept self.new (K.store keeper.new).records) }
-        ensures either { (ring_at (get (K.store keeper.new).records ring_slot) ≡ ring_at (get (K.store keeper.old).records ring_slot))
-            ⊎ IsKept (Some grant.now) (K.store keeper.new).records }
+        ensures either { IsOldRingOrKept (Some grant.now) (K.store keeper.old).records (K.store keeper.new).records }
         ensures elsewhere { SameOutside 1 1 (K.store keeper.old).records (K.store keeper.new).records }
     {
         self.keep(keeper, Some(*grant))
@@ -194,8 +192,7 @@ impl KeyRing {
         ensures same { OnErr result (self.new ≡ self.old) }
         ensures store { Stores (K.store keeper.old) (ring_write (with_key self.old index key.now)) (is_ok result) (K.store keeper.new) }
         ensures kept { OnOk result (IsKept self.new (K.store keeper.new).records) }
-        ensures either { (ring_at (get (K.store keeper.new).records ring_slot) ≡ ring_at (get (K.store keeper.old).records ring_slot))
-            ⊎ IsKept (with_key self.old index key.now) (K.store keeper.new).records }
+        ensures either { IsOldRingOrKept (with_key self.old index key.now) (K.store keeper.old).records (K.store keeper.new).records }
         ensures elsewhere { SameOutside 1 1 (K.store keeper.old).records (K.store keeper.new).records }
     {
         let grant = self.grant.map(|grant| grant.with_key(index, key));
@@ -212,8 +209,7 @@ impl KeyRing {
         ensures ring { self.new ≡ activate_after self.old index (is_stored result) }
         ensures store { Stores (K.store keeper.old) (activate_write self.old index) (is_stored result) (K.store keeper.new) }
         ensures kept { IsKept self.old (K.store keeper.old).records → OnTrue (is_stored result) (IsKept self.new (K.store keeper.new).records) }
-        ensures either { (ring_at (get (K.store keeper.new).records ring_slot) ≡ ring_at (get (K.store keeper.old).records ring_slot))
-            ⊎ IsKept (with_active self.old index) (K.store keeper.new).records }
+        ensures either { IsOldRingOrKept (with_active self.old index) (K.store keeper.old).records (K.store keeper.new).records }
         ensures elsewhere { SameOutside 1 1 (K.store keeper.old).records (K.store keeper.new).records }
     {
         if self.key(index).is_none() {
@@ -232,8 +228,7 @@ impl KeyRing {
         ensures same { OnErr result (self.new ≡ self.old) }
         ensures store { Stores (K.store keeper.old) (ring_write (with_active self.old index)) (is_ok result) (K.store keeper.new) }
         ensures kept { OnOk result (IsKept self.new (K.store keeper.new).records) }
-        ensures either { (ring_at (get (K.store keeper.new).records ring_slot) ≡ ring_at (get (K.store keeper.old).records ring_slot))
-            ⊎ IsKept (with_active self.old index) (K.store keeper.new).records }
+        ensures either { IsOldRingOrKept (with_active self.old index) (K.store keeper.old).records (K.store keeper.new).records }
         ensures elsewhere { SameOutside 1 1 (K.store keeper.old).records (K.store keeper.new).records }
     {
         let grant = self.grant.map(|grant| grant.with_active(index));
@@ -249,8 +244,7 @@ impl KeyRing {
         ensures same { OnErr result (self.new ≡ self.old) }
         ensures store { Stores (K.store keeper.old) (ring_write None) (is_ok result) (K.store keeper.new) }
         ensures kept { OnOk result (IsKept self.new (K.store keeper.new).records) }
-        ensures either { (ring_at (get (K.store keeper.new).records ring_slot) ≡ ring_at (get (K.store keeper.old).records ring_slot))
-            ⊎ IsKept None (K.store keeper.new).records }
+        ensures either { IsOldRingOrKept None (K.store keeper.old).records (K.store keeper.new).records }
         ensures elsewhere { SameOutside 1 1 (K.store keeper.old).records (K.store keeper.new).records }
     {
         self.keep(keeper, None).map_err(|_| RingFault::Store)

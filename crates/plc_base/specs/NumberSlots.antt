@@ -25,6 +25,10 @@ number_in at (Some octets) = if length octets == at.width then reading at.least 
 abbrev pub stored_number : NumberSlot → Records → Option ℕ
 stored_number at records = number_in at (get records at.slot)
 
+-- the number is that of the records from before, or a new one
+abbrev pub IsOldOrNewNumber : NumberSlot → ℕ → Records → Records → Type 0
+IsOldOrNewNumber at number old new = (stored_number at new ≡ stored_number at old) ⊎ (stored_number at new ≡ Some number)
+
 -- what a read of it answers
 abbrev pub read_result : NumberSlot → Option ℕ → Result ℕ BadStore
 read_result at None = Err (record { slot = at.slot })

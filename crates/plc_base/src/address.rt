@@ -61,4 +61,12 @@ impl Short {
     {
         self.number
     }
+
+    /// The number as the key of a table's entry.
+    pub fn key(self) -> u64
+        ensures value { result ≡ self }
+        ensures valid { IsAddress result }
+    {
+        u64::from(self.number)
+    }
 }

@@ -1,7 +1,7 @@
 //! A number that has a slot of a store to itself.
-ghost use Rattle.std.specs.Prelude.{◌≡◌, ◌⊎◌, ◌<◌, ◌≤◌, ◌^◌, Some, is_ok, IfOk, IfSome, OnOk};
+ghost use Rattle.std.specs.Prelude.{◌≡◌, ◌<◌, ◌≤◌, ◌^◌, Some, is_ok, IfOk, IfSome, OnOk};
 ghost use Rattle.plc_base.specs.Keeper.{Stores, SameOutside};
-ghost use Rattle.plc_base.specs.NumberSlots.{IsNumberSlot, number_in, stored_number, read_result, number_write};
+ghost use Rattle.plc_base.specs.NumberSlots.{IsNumberSlot, IsOldOrNewNumber, number_in, stored_number, read_result, number_write};
 ghost use Rattle.byteorder.specs.Endian.{big_bytes};
 
 use crate::{BadStore, Failed, Keeper, Record};
@@ -48,8 +48,7 @@ impl NumberSlot {
         ensures store { Stores (K.store keeper.old) (Some (number_write self.now number)) (is_ok result) (K.store keeper.new) }
         ensures stored { OnOk result (stored_number self.now (K.store keeper.new).records ≡ Some number) }
         // Whatever became of the put, the number is that from before or the new one.
-        ensures either { (stored_number self.now (K.store keeper.new).records ≡ stored_number self.now (K.store keeper.old).records)
-            ⊎ (stored_number self.now (K.store keeper.new).records ≡ Some number) }
+        ensures either { IsOldOrNewNumber self.now number (K.store keeper.old).records (K.store keeper.new).records }
         ensures elsewhere { SameOutside self.now.slot self.now.slot (K.store keeper.old).records (K.store keeper.new).records }
     {
         keeper.put(self.slot, &self.record(number))

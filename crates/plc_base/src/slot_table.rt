@@ -1,7 +1,7 @@
 //! A table whose entries stand in a row of slots of a keeper.
-ghost use Rattle.std.specs.Prelude.{◌≡◌, ◌⊎◌, ◌==◌, ◌<◌, ◌≤◌, ◌+◌, ◌∷◌, ◌++◌, [], List, length, map, set, is_ok, is_some, slice_get, IsTrue, IfSome, MatchOption, IfOk, IfErr, OnOk, OnErr, Some, Ok};
+ghost use Rattle.std.specs.Prelude.{◌≡◌, ◌==◌, ◌<◌, ◌≤◌, ◌+◌, ◌∷◌, ◌++◌, [], List, length, map, set, is_ok, is_some, slice_get, IsTrue, IfSome, MatchOption, IfOk, IfErr, OnOk, OnErr, Some, Ok};
 ghost use Rattle.std.specs.Prelude.{ℕ};
-ghost use Rattle.plc_base.specs.Keeper.{IsSlot, Records, Puts, Stores, SameOutside};
+ghost use Rattle.plc_base.specs.Keeper.{IsSlot, Records, Puts, Stores, SameOutside, IsOldOrNew};
 ghost use Rattle.plc_base.specs.SlotTables.{Layout, slot_of, IsTable, IsFree, IsStored, IsGapless, IsReading, IsBad, place_of, entry_of, entry_write, last_of, opened, read_into};
 
 use crate::{BadStore, Failed, Keeper, Record};
@@ -171,7 +171,7 @@ impl<E: SlotEntry, const N: usize> SlotTable<E, N> {
         ensures store { Stores (K.store keeper.old) (Some (entry_write E.layout place entry)) (is_ok result) (K.store keeper.new) }
         ensures kept { OnOk result (IsStored E.layout self.new (K.store keeper.new).records) }
         // Whatever became of the put, the records are those of the table before or of the one after.
-        ensures either { IsStored E.layout self.old (K.store keeper.new).records ⊎ IsStored E.layout (set self.old place entry) (K.store keeper.new).records }
+        ensures either { IsOldOrNew (IsStored E.layout) self.old (set self.old place entry) (K.store keeper.new).records }
         ensures elsewhere { SameOutside E.layout.first (last_of E.layout) (K.store keeper.old).records (K.store keeper.new).records }
     {
         let _ = &self.entries;
@@ -193,7 +193,7 @@ impl<E: SlotEntry, const N: usize> SlotTable<E, N> {
         ensures same { OnErr result (self.new ≡ self.old) }
         ensures store { Stores (K.store keeper.old) (Some (entry_write E.layout (length self.old) entry)) (is_ok result) (K.store keeper.new) }
         ensures kept { OnOk result (IsStored E.layout self.new (K.store keeper.new).records) }
-        ensures either { IsStored E.layout self.old (K.store keeper.new).records ⊎ IsStored E.layout (self.old ++ entry ∷ []) (K.store keeper.new).records }
+        ensures either { IsOldOrNew (IsStored E.layout) self.old (self.old ++ entry ∷ []) (K.store keeper.new).records }
         ensures elsewhere { SameOutside E.layout.first (last_of E.layout) (K.store keeper.old).records (K.store keeper.new).records }
     {
         store_entry(keeper, self.entries.len(), &entry)?;
