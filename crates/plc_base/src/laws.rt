@@ -1,5 +1,6 @@
-//! Laws of tags and of puts, one after another. Each is the contract of a function that does nothing.
+//! Laws of tags, of sorted numbers, and of puts one after another. Each is the contract of a function that does nothing.
 ghost use Rattle.plc_base.specs.Laws.{WritesCompose, WritesStop, APrefixIsWritten, OtherSlotsStay, APutStaysInItsSlot};
+ghost use Rattle.plc_base.specs.Orders.{OneSortedPermutation, SortedNumbersAreOrdered};
 ghost use Rattle.plc_base.specs.Tags.{OneSpellingOneTag};
 
 /// Two tags with one spelling are the same.
@@ -23,4 +24,14 @@ pub fn a_prefix_is_written()
 pub fn other_slots_stay()
     ensures slots { OtherSlotsStay }
     ensures outside { APutStaysInItsSlot }
+{}
+
+/// There is one way to sort numbers.
+pub fn one_sorted_permutation()
+    ensures { OneSortedPermutation }
+{}
+
+/// The numbers of a list, sorted, are those of the list in their order.
+pub fn sorted_numbers_are_ordered<A>()
+    ensures { SortedNumbersAreOrdered A }
 {}
