@@ -1,13 +1,21 @@
 -- What is looked up in a table where an entry came.
-use Rattle.std.proofs.Common.{◌≡◌, ◌≢◌, ℕ, zero, suc, ◌+◌, ◌<◌, ◌≤◌, Bool, true, false, cond, List, [], ◌∷◌, ◌++◌, Option, Some, None, length, set, get_or, refl, sym, ap, ◌∙◌, arith}
-use Rattle.std.specs.Prelude.{◌==◌, nat_lt, slice_get, position}
+use Rattle.std.proofs.Common.{◌≡◌, ◌≢◌, ℕ, zero, suc, ◌+◌, ◌<◌, ◌≤◌, Bool, true, false, cond, List, [], ◌∷◌, ◌++◌, Option, Some, None, length, set, get_or, refl, sym, ap, ◌∙◌, arith, length-append}
+use Rattle.std.specs.Prelude.{◌==◌, nat_lt, slice_get, is_some, not}
 use Rattle.std.specs.List.{find, position_or_len}
 use Rattle.std.specs.Option.{option_and_then, option_or}
 use Rattle.std.proofs.lemmas.Bool.Decides.{nat_tests}
 use Rattle.std.proofs.lemmas.List.Folds.{find_at, find-set, find_past, find-append}
 use Rattle.std.proofs.lemmas.Option.{slice_get_past}
 use Rattle.plc_base.specs.SlotTables.{Layout, place_of, entry_of}
-use Rattle.plc_base.proofs.SlotTables.{found, slice_get-push}
+use Rattle.plc_base.proofs.SlotTables.{found, apart}
+
+-- the first that passes stands after all that fail
+first_here : {A : Type 0} (p : A → Bool) (xs : List A) (y : A) → ((k : ℕ) (d : A) → k < length xs → p (get_or xs k d) ≡ false) → p y ≡ true
+    → position_or_len p (xs ++ y ∷ []) ≡ length xs
+first_here p [] y fails passes = ap (λ (b : Bool). cond (not b) 1 0) passes
+first_here p (x ∷ xs) y fails passes =
+    ap (λ (b : Bool). cond (not b) (1 + position_or_len p (xs ++ y ∷ [])) 0) (fails 0 x (omega arith))
+    ∙ ap (λ n. 1 + n) (first_here p xs y (λ k d lt. fails (suc k) d (omega arith)) passes) ∙ omega arith
 
 module _ {A : Type 0} (layout : Layout A) where
   -- whether an entry has a key
@@ -75,3 +83,11 @@ module _ {A : Type 0} (layout : Layout A) where
       ∙ ap (λ (b : Bool). option_or (find (has_key key) table) (cond b (Some e) None)) (has_key-false key e (λ same. ne (sym same)))
       ∙ or_none (find (has_key key) table)
       ∙ sym (entry_of-find table key)
+
+  -- it stands at the next place
+  pub place_push : (table : List A) (e : A) → place_of layout table (layout.key e) ≡ None → place_of layout (table ++ e ∷ []) (layout.key e) ≡ Some (length table)
+  place_push table e at =
+      let none = apart layout table (layout.key e) (ap is_some at) in
+      let first = first_here (has_key (layout.key e)) table e (λ k d lt. has_key-false (layout.key e) (get_or table k d) (none k d lt)) (has_key-true (layout.key e) e refl) in
+      let within : nat_lt (length table) (length (table ++ e ∷ [])) ≡ true = let long = length-append table (e ∷ []) in grind (arith, nat_tests) in
+      ap (λ (k : ℕ). cond (nat_lt k (length (table ++ e ∷ []))) (Some k) None) first ∙ ap (λ (b : Bool). cond b (Some (length table)) None) within
