@@ -8,8 +8,8 @@ use Rattle.std.proofs.lemmas.Option.{slice_get-get_or}
 use Rattle.plc_base.specs.Keeper.{Records}
 use Rattle.plc_base.specs.Writes.{puts_of}
 use Rattle.plc_base.specs.SlotTables as slots
-use Rattle.plc_base.specs.Leads.{Leads}
-use Rattle.plc_base.proofs.Leads.{leads_one, leads_beside, leads_when}
+use Rattle.plc_base.specs.LeadingPuts.{PutsLead}
+use Rattle.plc_base.proofs.LeadingPuts.{leads_one, leads_beside, leads_when}
 use Rattle.plc_base.proofs.SlotTables.{found, free_new, free_found, IsTable-set, IsTable-push, stored_set, stored_push, stored_rest}
 use Rattle.frame_counters.specs.declared.peer_marks.Peer.{Peer}
 use Rattle.frame_counters.specs.SendCounter.{Counting, IsKept, passes, raised, limit_write, reserve_write, reserved}
@@ -30,11 +30,11 @@ no_reservation c below =
     }
 
 pub reservation_leads : (c : Counting) (count : ℕ) → count ≤ 1024 → c.next + count ≤ 4294967295
-    → Leads IsCounterIn c (puts_of (reserve_write c count)) (reserved c count)
+    → PutsLead IsCounterIn c (puts_of (reserve_write c count)) (reserved c count)
 reservation_leads c count few left = by_due (passes c count) refl
   where
     by_due : (b : Bool) → passes c count ≡ b
-        → Leads IsCounterIn c (puts_of (if b then limit_write (raised c.limit) else None)) (record { limit = if b then raised c.limit else c.limit; next = c.next + count })
+        → PutsLead IsCounterIn c (puts_of (if b then limit_write (raised c.limit) else None)) (record { limit = if b then raised c.limit else c.limit; next = c.next + count })
     by_due true e = leads_one IsCounterIn c _ _ (λ r k.
         let below = k.kept.below in let fits = k.fits in
         record { kept = record { limit = limit_in-insert r (raised c.limit) (omega arith); below = omega arith }; fits = omega arith })
@@ -50,14 +50,14 @@ module _ (t : marks.Table) (from counter : ℕ) (address : from < 0xFFFE) (fits 
   unfolding ahead
   reads place = peer_in-octets_of (marks.peer_ahead from counter) address (omega arith)
 
-  new_leads : marks.place_of t from ≡ None → length t < 64 → Leads AreMarksIn t (slots.entry_write marks.peers (length t) ahead ∷ []) (t ++ ahead ∷ [])
+  new_leads : marks.place_of t from ≡ None → length t < 64 → PutsLead AreMarksIn t (slots.entry_write marks.peers (length t) ahead ∷ []) (t ++ ahead ∷ [])
   unfolding ahead
   new_leads at room = leads_one AreMarksIn t _ _ (λ r k. record {
     kept = stored_push marks.peers t r _ ahead k.kept refl (reads (length t));
     sound = IsTable-push marks.peers t ahead k.sound room (free_new marks.peers t from (length t) (ap is_some at));
   })
 
-  high_leads : (place : ℕ) → marks.place_of t from ≡ Some place → Leads AreMarksIn t (slots.entry_write marks.peers place ahead ∷ []) (set t place ahead)
+  high_leads : (place : ℕ) → marks.place_of t from ≡ Some place → PutsLead AreMarksIn t (slots.entry_write marks.peers place ahead ∷ []) (set t place ahead)
   unfolding ahead
   high_leads place at =
       let there = found marks.peers t from place (record { address = 0; mark = 0; stored = 0 }) at in
@@ -66,7 +66,7 @@ module _ (t : marks.Table) (from counter : ℕ) (address : from < 0xFFFE) (fits 
         sound = IsTable-set marks.peers t place ahead k.sound there.0 (free_found marks.peers t from place k.sound at);
       })
 
-  low_leads : (place : ℕ) → marks.place_of t from ≡ Some place → Leads AreMarksIn t [] (set t place (record (marks.peer_at t place) { mark = counter }))
+  low_leads : (place : ℕ) → marks.place_of t from ≡ Some place → PutsLead AreMarksIn t [] (set t place (record (marks.peer_at t place) { mark = counter }))
   low_leads place at =
       let there = found marks.peers t from place (record { address = 0; mark = 0; stored = 0 }) at in
       let e : Peer = record (marks.peer_at t place) { mark = counter } in
@@ -76,18 +76,18 @@ module _ (t : marks.Table) (from counter : ℕ) (address : from < 0xFFFE) (fits 
         sound = IsTable-set marks.peers t place e k.sound there.0 (subst (λ (q : ℕ). slots.IsFree marks.peers t place q) (sym there.1) (free_found marks.peers t from place k.sound at));
       })
 
-  pub admission_leads : marks.room_for t from counter ≡ Ok (tt {0}) → Leads AreMarksIn t (puts_of (marks.keep_write t from counter)) (marks.kept_after t from counter)
+  pub admission_leads : marks.room_for t from counter ≡ Ok (tt {0}) → PutsLead AreMarksIn t (puts_of (marks.keep_write t from counter)) (marks.kept_after t from counter)
   unfolding ahead
   admission_leads room = by_place (marks.place_of t from) refl
     where
       by_stored : (place : ℕ) (b : Bool) → marks.place_of t from ≡ Some place
-          → Leads AreMarksIn t (puts_of (if b then None else Some (slots.entry_write marks.peers place ahead)))
+          → PutsLead AreMarksIn t (puts_of (if b then None else Some (slots.entry_write marks.peers place ahead)))
           (set t place (if b then record (marks.peer_at t place) { mark = counter } else ahead))
       by_stored place true at = low_leads place at
       by_stored place false at = high_leads place at
 
       by_place : (o : Option ℕ) → marks.place_of t from ≡ o
-          → Leads AreMarksIn t (puts_of (option_map_or (λ place. if nat_le counter (marks.peer_at t place).stored then None else Some (slots.entry_write marks.peers place ahead)) o (Some (slots.entry_write marks.peers (length t) ahead))))
+          → PutsLead AreMarksIn t (puts_of (option_map_or (λ place. if nat_le counter (marks.peer_at t place).stored then None else Some (slots.entry_write marks.peers place ahead)) o (Some (slots.entry_write marks.peers (length t) ahead))))
           (option_map_or (λ place. set t place (marks.advanced (marks.peer_at t place) from counter)) o (t ++ ahead ∷ []))
       by_place (Some place) at = by_stored place (nat_le counter (marks.peer_at t place).stored) at
       by_place None at = leads_when AreMarksIn t _ _ (λ r k. new_leads at (room_new t from counter k.sound.short at room))

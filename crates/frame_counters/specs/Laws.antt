@@ -3,7 +3,7 @@ use Rattle.std.specs.Prelude.{◌≡◌, ℕ, ◌+◌, ◌<◌, ◌≤◌, ◌^�
 use Rattle.plc_base.specs.Keeper.{Records}
 use Rattle.plc_base.specs.Writes.{puts_of}
 use Rattle.plc_base.specs.SlotTables as slots
-use Rattle.plc_base.specs.Leads.{Leads}
+use Rattle.plc_base.specs.LeadingPuts.{PutsLead}
 use Rattle.frame_counters.specs.SendCounter as counters
 use Rattle.frame_counters.specs.PeerMarks as marks
 
@@ -24,7 +24,7 @@ pub record IsCounterIn (counting : counters.Counting) (records : Records) : Type
 abbrev pub ReservationsLead : Type 0
 ReservationsLead =
     (counting : counters.Counting) (count : ℕ) → count ≤ 1024 → counting.next + count ≤ 4294967295
-    → Leads IsCounterIn counting (puts_of (counters.reserve_write counting count)) (counters.reserved counting count)
+    → PutsLead IsCounterIn counting (puts_of (counters.reserve_write counting count)) (counters.reserved counting count)
 
 -- Marks are what the records give, each sender at one place.
 pub record AreMarksIn (table : marks.Table) (records : Records) : Type 0 where
@@ -35,4 +35,4 @@ pub record AreMarksIn (table : marks.Table) (records : Records) : Type 0 where
 abbrev pub AdmissionsLead : Type 0
 AdmissionsLead =
     (table : marks.Table) (from counter : ℕ) → marks.room_for table from counter ≡ Ok tt → from < 0xFFFE → counter < 2 ^ 32
-    → Leads AreMarksIn table (puts_of (marks.keep_write table from counter)) (marks.kept_after table from counter)
+    → PutsLead AreMarksIn table (puts_of (marks.keep_write table from counter)) (marks.kept_after table from counter)

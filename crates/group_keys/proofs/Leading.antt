@@ -8,9 +8,9 @@ use Rattle.std.proofs.lemmas.Bool.Decides.{nat_tests}
 use Rattle.std.proofs.lemmas.List.Elements.{All-set, All-push}
 use Rattle.plc_base.specs.Keeper.{Records, Write}
 use Rattle.plc_base.specs.Writes.{puts_of}
-use Rattle.plc_base.specs.Leads.{Leads}
+use Rattle.plc_base.specs.LeadingPuts.{PutsLead}
 use Rattle.plc_base.specs.SlotTables as slots
-use Rattle.plc_base.proofs.Leads.{leads_one, leads_beside}
+use Rattle.plc_base.proofs.LeadingPuts.{leads_one, leads_beside}
 use Rattle.plc_base.proofs.LookUps.{entry_set, entry_set_other, entry_push, entry_push_other, place_push}
 use Rattle.plc_base.proofs.StoreLemmas.{get-insert_same}
 use Rattle.plc_base.proofs.SlotTables.{found, free_new, free_found, IsTable-set, IsTable-push, stored_set, stored_push, place_of-set}
@@ -28,7 +28,7 @@ ring_reads : (x : rings.Ring) → IfSome x IsReadable → rings.ring_in (rings.r
 ring_reads None h = refl
 ring_reads (Some g) h = ring_in-ring_octets g h.grant h.address h.key0 h.key1
 
-pub ring_leads : (before after : rings.Ring) → IfSome after IsReadable → Leads rings.IsKept before (puts_of (rings.ring_write after)) after
+pub ring_leads : (before after : rings.Ring) → IfSome after IsReadable → PutsLead rings.IsKept before (puts_of (rings.ring_write after)) after
 ring_leads before after h = leads_one rings.IsKept before after _ (λ r k. record { stored = ap rings.ring_at (get-insert_same r 1 1 (rings.ring_octets after) refl) ∙ ring_reads after h })
 
 -- # Looking up
@@ -97,9 +97,9 @@ book_with b e r k fits room = by_place (books.place_of b e.eui) refl
         }
 
 pub change_leads : (b : books.Book) (e : BookEntry) → IsReadableEntry e → books.has_room b e.eui ≡ true
-    → Leads IsBookIn b (puts_of (books.change_write b e)) (books.with_entry b e)
+    → PutsLead IsBookIn b (puts_of (books.change_write b e)) (books.with_entry b e)
 change_leads b e fits room = by_holding (books.holds b e) refl
   where
-    by_holding : (h : Bool) → books.holds b e ≡ h → Leads IsBookIn b (puts_of (if h then None else books.entry_write b e)) (books.with_entry b e)
+    by_holding : (h : Bool) → books.holds b e ≡ h → PutsLead IsBookIn b (puts_of (if h then None else books.entry_write b e)) (books.with_entry b e)
     by_holding true same = leads_beside IsBookIn b _ (λ r k. subst (λ (x : books.Book). IsBookIn x r) (sym (no_change b e same).same) k)
     by_holding false other = leads_one IsBookIn b _ _ (λ r k. book_with b e r k fits room)

@@ -3,7 +3,7 @@ use Rattle.std.specs.Prelude.{◌≡◌, ◌≢◌, ℕ, ◌+◌, ◌<◌, true,
 use Rattle.plc_base.specs.Grant.{Granted, IsGrant}
 use Rattle.plc_base.specs.Keeper.{Records}
 use Rattle.plc_base.specs.Writes.{puts_of}
-use Rattle.plc_base.specs.Leads.{Leads}
+use Rattle.plc_base.specs.LeadingPuts.{PutsLead}
 use Rattle.plc_base.specs.SlotTables as slots
 use Rattle.plc_base.specs.declared.address.Eui.{Eui}
 use Rattle.plc_base.specs.declared.key.Key.{Key}
@@ -36,7 +36,7 @@ pub record IsReadableEntry (entry : BookEntry) : Type 0 where
 
 -- Whatever becomes of the put of a ring, some ring is what the records give.
 abbrev pub RingsLead : Type 0
-RingsLead = (before after : rings.Ring) → IfSome after IsReadable → Leads rings.IsKept before (puts_of (rings.ring_write after)) after
+RingsLead = (before after : rings.Ring) → IfSome after IsReadable → PutsLead rings.IsKept before (puts_of (rings.ring_write after)) after
 
 -- # The book
 
@@ -70,4 +70,4 @@ pub record IsBookIn (book : books.Book) (records : Records) : Type 0 where
 abbrev pub ChangesLead : Type 0
 ChangesLead =
     (book : books.Book) (entry : BookEntry) → IsReadableEntry entry → books.has_room book entry.eui ≡ true
-    → Leads IsBookIn book (puts_of (books.change_write book entry)) (books.with_entry book entry)
+    → PutsLead IsBookIn book (puts_of (books.change_write book entry)) (books.with_entry book entry)

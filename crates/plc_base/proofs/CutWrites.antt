@@ -5,10 +5,10 @@ use Rattle.std.specs.FinMap.{get, insert}
 use Rattle.plc_base.specs.declared.keeper.Cut.{Cut}
 use Rattle.plc_base.specs.Keeper.{Records, Write, SameOutside, succeeds, cut_after, records_after, writes}
 use Rattle.plc_base.specs.Writes.{Written, write}
-use Rattle.plc_base.specs.Leads.{all_put}
+use Rattle.plc_base.specs.LeadingPuts.{all_put}
 use Rattle.plc_base.specs.Laws.{IsPrefixWritten, AreElsewhere}
 use Rattle.plc_base.proofs.StoreLemmas.{get-insert_other}
-use Rattle.plc_base.proofs.Leads.{succeeded_writes}
+use Rattle.plc_base.proofs.LeadingPuts.{succeeded_writes}
 
 abbrev after_first : Write → List Write → Option Cut → Records → Bool → Written
 after_first p ps cut r b =

@@ -4,7 +4,7 @@ use Rattle.std.specs.FinMap.{get, insert}
 use Rattle.plc_base.specs.declared.keeper.Cut.{Cut}
 use Rattle.plc_base.specs.Keeper.{Store, Records, Write, SameOutside}
 use Rattle.plc_base.specs.Writes.{Wrote, write}
-use Rattle.plc_base.specs.Leads.{all_put}
+use Rattle.plc_base.specs.LeadingPuts.{all_put}
 
 -- The puts of one list after those of another are those of both.
 abbrev pub WritesCompose : Type 0

@@ -20,7 +20,7 @@ module _ {M : Type 0} (Q : M → Records → Type 0) where
   Prefixes (w ∷ rest) records = Reads records × Prefixes rest (insert records w.slot w.octets)
 
   -- these writes lead from one value to the other
-  pub record Leads (before : M) (puts : List Write) (after : M) : Type 0 where
+  pub record PutsLead (before : M) (puts : List Write) (after : M) : Type 0 where
     pub run : (records : Records) → Q before records → Prefixes puts records × Q after (all_put puts records)
 
   -- what the writes leave: the value after them, or, where one failed, some value

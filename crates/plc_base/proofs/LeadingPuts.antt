@@ -5,7 +5,7 @@ use Rattle.std.specs.FinMap.{insert}
 use Rattle.plc_base.specs.declared.keeper.Cut.{Cut}
 use Rattle.plc_base.specs.Keeper.{Records, Write, succeeds, cut_after, records_after, writes}
 use Rattle.plc_base.specs.Writes.{Written, write}
-use Rattle.plc_base.specs.Leads.{all_put, Reads, Prefixes, Leads, Left}
+use Rattle.plc_base.specs.LeadingPuts.{all_put, Reads, Prefixes, PutsLead, Left}
 
 pub all_put-append : (ps qs : List Write) (r : Records) → all_put (ps ++ qs) r ≡ all_put qs (all_put ps r)
 all_put-append [] qs r = refl
@@ -26,15 +26,15 @@ module _ {M : Type 0} (Q : M → Records → Type 0) where
   prefixes_append (p ∷ ps) qs r f g = (f.0, prefixes_append ps qs (insert r p.slot p.octets) f.1 g)
 
   -- no write, where what the one says of the records says the other
-  pub leads_beside : (m n : M) → ((r : Records) → Q m r → Q n r) → Leads Q m [] n
+  pub leads_beside : (m n : M) → ((r : Records) → Q m r → Q n r) → PutsLead Q m [] n
   leads_beside m n same = record { run = λ r q. (record { value = m; kept = q }, same r q) }
 
   -- one write
-  pub leads_one : (m n : M) (p : Write) → ((r : Records) → Q m r → Q n (insert r p.slot p.octets)) → Leads Q m (p ∷ []) n
+  pub leads_one : (m n : M) (p : Write) → ((r : Records) → Q m r → Q n (insert r p.slot p.octets)) → PutsLead Q m (p ∷ []) n
   leads_one m n p one = record { run = λ r q. ((record { value = m; kept = q }, record { value = n; kept = one r q }), one r q) }
 
   -- one after the other
-  pub leads_append : (m n o : M) (ps qs : List Write) → Leads Q m ps n → Leads Q n qs o → Leads Q m (ps ++ qs) o
+  pub leads_append : (m n o : M) (ps qs : List Write) → PutsLead Q m ps n → PutsLead Q n qs o → PutsLead Q m (ps ++ qs) o
   leads_append m n o ps qs f g = record {
     run = λ r q.
         let a = f.run r q in
@@ -43,7 +43,7 @@ module _ {M : Type 0} (Q : M → Records → Type 0) where
   }
 
   -- what the kept value says may be used
-  pub leads_when : (m n : M) (ps : List Write) → ((r : Records) → Q m r → Leads Q m ps n) → Leads Q m ps n
+  pub leads_when : (m n : M) (ps : List Write) → ((r : Records) → Q m r → PutsLead Q m ps n) → PutsLead Q m ps n
   leads_when m n ps f = record { run = λ r q. (f r q).run r q }
 
   -- after each prefix some value is what the records give
@@ -85,7 +85,7 @@ whole_put (p ∷ ps) cut r h = by_success (succeeds cut) refl (λ c s k. whole_p
 
 module _ {M : Type 0} (Q : M → Records → Type 0) where
   -- what is left of writes that lead from one value to another, whatever becomes of them
-  pub left_by : (m n : M) (ps : List Write) (cut : Option Cut) (r : Records) → Q m r → Leads Q m ps n
+  pub left_by : (m n : M) (ps : List Write) (cut : Option Cut) (r : Records) → Q m r → PutsLead Q m ps n
       → Left Q (write ps cut r).whole n (write ps cut r).records
   left_by m n ps cut r q f = by_whole (write ps cut r).whole refl
     where
@@ -99,5 +99,5 @@ module _ {M N : Type 0} (Q : M → Records → Type 0) (R : N → Records → Ty
   prefixes_map [] r x = record { value = f x.value; kept = there x.value r x.kept }
   prefixes_map (p ∷ ps) r x = (record { value = f x.0.value; kept = there x.0.value r x.0.kept }, prefixes_map ps (insert r p.slot p.octets) x.1)
 
-  pub leads_map : (back : (m : M) (r : Records) → R (f m) r → Q m r) (m n : M) (ps : List Write) → Leads Q m ps n → Leads R (f m) ps (f n)
+  pub leads_map : (back : (m : M) (r : Records) → R (f m) r → Q m r) (m n : M) (ps : List Write) → PutsLead Q m ps n → PutsLead R (f m) ps (f n)
   leads_map back m n ps x = record { run = λ r q. let y = x.run r (back m r q) in (prefixes_map ps r y.0, there n (all_put ps r) y.1) }
