@@ -2,8 +2,8 @@
 ghost use Rattle.std.specs.Prelude.{◌≡◌, ◌≢◌, ◌≤◌, Ok, Some, None, List, is_ok, IfOk, IfErr, OnOk, OnErr, map, IsSorted, IsPermutation};
 ghost use Rattle.std.specs.Bool.{OnTrue};
 ghost use Rattle.std.specs.Ordering.{nat_cmp};
-ghost use Rattle.plc_base.specs.Keeper.{Stores, SameOutside, IsOldOrNew};
-ghost use Rattle.plc_base.specs.SlotTables.{IsTable, IsGapless, IsReading, IsBad, opened};
+ghost use Rattle.plc_base.specs.Keeper.{Stores, OutsideStays, IsOldOrNew};
+ghost use Rattle.plc_base.specs.SlotTables.{IsTable, IsGapless, IsReading, IsBad, Reopens, opened};
 ghost use Rattle.frame_counters.specs.Admitted.{Admitted, Admits, AllEarlier};
 ghost use Rattle.frame_counters.specs.PeerMarks.{Table, peers, IsKept, IsCovered, at_rest, peer_ahead, mark_of, room_for, keep_write, kept_after, admit_result, admit_write, admit_after, is_stored};
 ghost use Rattle.frame_counters.specs.declared.fault.PeerFault.TheVariants.{Store};
@@ -106,9 +106,10 @@ impl PeerMarks {
         ensures table { result ≡ opened peers (K.store keeper.now).records }
         ensures reading { IfOk result (λ table. IsReading peers table (K.store keeper.now).records) }
         ensures bad { IfErr result (λ bad. IsBad peers (K.store keeper.now).records bad.slot) }
-        ensures kept { IsGapless peers (K.store keeper.now).records → IfOk result (λ table. IsKept table (K.store keeper.now).records) }
+        ensures kept { IsGapless peers (K.store keeper.now).records
+            → IfOk result (λ table. IsKept table (K.store keeper.now).records) }
         // Marks that were kept are opened again, each at its stored mark.
-        ensures reopened { (table : Table) → IsTable peers table → IsKept table (K.store keeper.now).records → result ≡ Ok (map at_rest table) }
+        ensures reopened { Reopens peers (K.store keeper.now).records result }
     {
         let table = SlotTable::open(keeper)?;
         Ok(PeerMarks { table })
@@ -177,7 +178,7 @@ impl PeerMarks {
         ensures kept { OnOk result (IsKept self.new (K.store keeper.new).records) }
         // Whatever became of the put, the records are those of the marks before or of those after.
         ensures either { IsOldOrNew IsKept self.old (kept_after self.old from counter) (K.store keeper.new).records }
-        ensures elsewhere { SameOutside 0x0100 0x013F (K.store keeper.old).records (K.store keeper.new).records }
+        ensures elsewhere { OutsideStays 0x0100 0x013F (K.store keeper.old) (K.store keeper.new) }
     {
         match self.table.place_of(from.key()) {
             Some(place) => {
@@ -213,12 +214,13 @@ impl PeerMarks {
         requires { IsKept self.old (K.store keeper.old).records }
         ensures answer { result ≡ admit_result self.old from counter (is_stored result) }
         // It is above all that was admitted of the sender before, over any frames, failed puts and new starts.
-        ensures fresh { (before : List Admitted) → Admits before (Some self.old) (K.store keeper.old).records → OnOk result (AllEarlier from counter before) }
+        ensures fresh { (before : List Admitted) → Admits before (Some self.old) (K.store keeper.old).records
+            → OnOk result (AllEarlier from counter before) }
         ensures table { self.new ≡ admit_after self.old from counter (is_stored result) }
         ensures store { Stores (K.store keeper.old) (admit_write self.old from counter) (is_stored result) (K.store keeper.new) }
         ensures kept { OnTrue (is_stored result) (IsKept self.new (K.store keeper.new).records) }
         ensures either { IsOldOrNew IsKept self.old (kept_after self.old from counter) (K.store keeper.new).records }
-        ensures elsewhere { SameOutside 0x0100 0x013F (K.store keeper.old).records (K.store keeper.new).records }
+        ensures elsewhere { OutsideStays 0x0100 0x013F (K.store keeper.old) (K.store keeper.new) }
     {
         match self.room(from, counter) {
             Ok(()) => self

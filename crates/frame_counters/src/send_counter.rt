@@ -1,7 +1,7 @@
 //! The counter of the frames that a node sends.
 ghost use Rattle.std.specs.Prelude.{◌≡◌, ◌+◌, ◌<◌, ◌≤◌, IfOk, OnOk, OnErr, is_ok, List, ℕ};
 ghost use Rattle.std.specs.Bool.{OnTrue};
-ghost use Rattle.plc_base.specs.Keeper.{Stores, SameOutside, IsOldOrNew};
+ghost use Rattle.plc_base.specs.Keeper.{Stores, OutsideStays, IsOldOrNew};
 ghost use Rattle.frame_counters.specs.SendCounter.{IsKept, IsOldLimitOrKept, stored_limit, opened, reserve_write, reserved, limit_write, counting_at, take_result, take_write, take_after, is_stored, preset_result};
 ghost use Rattle.frame_counters.specs.Given.{Gives, AllBelow};
 
@@ -73,14 +73,15 @@ impl SendCounter {
         requires kept { IsKept self.old (K.store keeper.old).records }
         ensures number { IfOk result (λ number. number ≡ self.old.next) }
         // It is above all that was given out before, over any reservations, failed puts and new starts.
-        ensures fresh { (given : List ℕ) → Gives given (Some self.old) (K.store keeper.old).records → IfOk result (λ number. AllBelow number given) }
+        ensures fresh { (given : List ℕ) → Gives given (Some self.old) (K.store keeper.old).records
+            → IfOk result (λ number. AllBelow number given) }
         ensures counter { OnOk result (self.new ≡ reserved self.old count) }
         ensures same { OnErr result (self.new ≡ self.old) }
         ensures store { Stores (K.store keeper.old) (reserve_write self.old count) (is_ok result) (K.store keeper.new) }
         ensures kept { OnOk result (IsKept self.new (K.store keeper.new).records) }
         // Whatever became of the put, the record is that of the counter before or of the one after.
         ensures either { IsOldOrNew IsKept self.old (reserved self.old count) (K.store keeper.new).records }
-        ensures elsewhere { SameOutside 2 2 (K.store keeper.old).records (K.store keeper.new).records }
+        ensures elsewhere { OutsideStays 2 2 (K.store keeper.old) (K.store keeper.new) }
         ensures fits { self.new.next ≤ 4294967295 }
     {
         let number = self.next;
@@ -104,10 +105,11 @@ impl SendCounter {
         ensures store { Stores (K.store keeper.old) (take_write self.old) (is_stored result) (K.store keeper.new) }
         ensures below { IfOk result (λ number. number < stored_limit (K.store keeper.new).records) }
         // It is above all that was given out before, over any takes, failed puts and new starts.
-        ensures fresh { (given : List ℕ) → Gives given (Some self.old) (K.store keeper.old).records → IfOk result (λ number. AllBelow number given) }
+        ensures fresh { (given : List ℕ) → Gives given (Some self.old) (K.store keeper.old).records
+            → IfOk result (λ number. AllBelow number given) }
         ensures kept { OnTrue (is_stored result) (IsKept self.new (K.store keeper.new).records) }
         ensures either { IsOldOrNew IsKept self.old (reserved self.old 1) (K.store keeper.new).records }
-        ensures elsewhere { SameOutside 2 2 (K.store keeper.old).records (K.store keeper.new).records }
+        ensures elsewhere { OutsideStays 2 2 (K.store keeper.old) (K.store keeper.new) }
         ensures fits { self.new.next ≤ 4294967295 }
     {
         if self.left() == 0 {
@@ -125,7 +127,7 @@ impl SendCounter {
         ensures store { Stores (K.store keeper.old) (limit_write value) (is_ok result) (K.store keeper.new) }
         ensures kept { OnOk result (IsKept self.new (K.store keeper.new).records) }
         ensures either { IsOldLimitOrKept (counting_at value) (K.store keeper.old).records (K.store keeper.new).records }
-        ensures elsewhere { SameOutside 2 2 (K.store keeper.old).records (K.store keeper.new).records }
+        ensures elsewhere { OutsideStays 2 2 (K.store keeper.old) (K.store keeper.new) }
     {
         LIMIT.store(keeper, value)?;
         self.limit = value;
@@ -143,7 +145,7 @@ impl SendCounter {
         ensures store { Stores (K.store keeper.old) (limit_write value) (is_ok result) (K.store keeper.new) }
         ensures kept { OnOk result (IsKept self.new (K.store keeper.new).records) }
         ensures either { IsOldLimitOrKept (counting_at value) (K.store keeper.old).records (K.store keeper.new).records }
-        ensures elsewhere { SameOutside 2 2 (K.store keeper.old).records (K.store keeper.new).records }
+        ensures elsewhere { OutsideStays 2 2 (K.store keeper.old) (K.store keeper.new) }
     {
         self.set_limit(keeper, value)
             .map_err(|_| CounterFault::Store)

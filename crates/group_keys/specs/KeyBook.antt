@@ -1,5 +1,5 @@
 -- The coordinator's book: one entry for each meter, the k-th with the address k.
-use Rattle.std.specs.Prelude.{ℕ, ◌+◌, ◌==◌, ◌&&◌, ◌||◌, nat_lt, Bool, true, false, nat_eq, if◌then◌else◌, List, [], ◌∷◌, ◌++◌, length, take, drop, set, slice_index, Option, Some, None, is_some, Result, Ok, Err, refl}
+use Rattle.std.specs.Prelude.{◌≡◌, ℕ, ◌+◌, ◌==◌, ◌&&◌, ◌||◌, nat_lt, Bool, true, false, nat_eq, if◌then◌else◌, List, [], ◌∷◌, ◌++◌, length, take, drop, set, slice_index, Option, Some, None, is_some, Result, Ok, Err, refl}
 use Rattle.std.specs.Option.{option_map, option_map_or, option_eq}
 use Rattle.std.specs.Cmp.Lexicographic.{pointwise}
 use mathlib.Core.Bool.{beq}
@@ -167,10 +167,43 @@ abbrev pub changing_result : Book → Result BookEntry BookFault → Bool → Re
 changing_result book (Ok entry) done = if done then Ok (place_for book entry.eui + 1) else Err Store
 changing_result book (Err fault) done = Err fault
 
+-- The calls `allow`, `kick` and `issue`: the put, the book afterwards, and the answer.
+
+abbrev pub allow_write : Book → Eui → Key → Option Write
+allow_write book eui psk = changing_write book (allow_change book eui psk)
+
+abbrev pub allow_after : Book → Eui → Key → Bool → Book
+allow_after book eui psk done = changing_after book (allow_change book eui psk) done
+
+abbrev pub allow_result : Book → Eui → Key → Bool → Result ℕ BookFault
+allow_result book eui psk done = changing_result book (allow_change book eui psk) done
+
+abbrev pub kick_write : Book → Eui → Option Write
+kick_write book eui = changing_write book (kick_change book eui)
+
+abbrev pub kick_after : Book → Eui → Bool → Book
+kick_after book eui done = changing_after book (kick_change book eui) done
+
+abbrev pub kick_result : Book → Eui → Bool → Result ℕ BookFault
+kick_result book eui done = changing_result book (kick_change book eui) done
+
+abbrev pub issue_write : Book → Eui → Granted → Option Write
+issue_write book eui granted = changing_write book (issue_change book eui granted)
+
+abbrev pub issue_after : Book → Eui → Granted → Bool → Book
+issue_after book eui granted done = changing_after book (issue_change book eui granted) done
+
 -- the same answer without the address
 abbrev pub done_result : Result ℕ BookFault → Result (Unit {0}) BookFault
 done_result (Ok address) = Ok tt
 done_result (Err fault) = Err fault
+
+abbrev pub issue_result : Book → Eui → Granted → Bool → Result (Unit {0}) BookFault
+issue_result book eui granted done = done_result (changing_result book (issue_change book eui granted) done)
+
+-- each meter that has an address keeps it
+abbrev pub AddressesStay : Book → Book → Type 0
+AddressesStay old new = (meter : Eui) (address : ℕ) → address_of old meter ≡ Some address → address_of new meter ≡ Some address
 
 -- whether no put of a call failed
 abbrev pub is_stored : {A : Type 0} → Result A BookFault → Bool

@@ -64,7 +64,11 @@ opened records = ring_from (ring_at (get records ring_slot))
 pub record IsKept (ring : Ring) (records : Records) : Type 0 where
   pub stored : ring_at (get records ring_slot) ≡ Some ring
 
--- The slot gives the ring that it gave in the records from before, or this one.
+-- the slot gives the ring that it gave in the records from before, or this one
+abbrev pub IsOldOrNewRing : Ring → Records → Records → Type 0
+IsOldOrNewRing ring old new = (ring_at (get new ring_slot) ≡ ring_at (get old ring_slot)) ⊎ (ring_at (get new ring_slot) ≡ Some ring)
+
+-- The same, where what the ring holds is what the new records give.
 abbrev pub IsOldRingOrKept : Ring → Records → Records → Type 0
 IsOldRingOrKept ring old new = (ring_at (get new ring_slot) ≡ ring_at (get old ring_slot)) ⊎ IsKept ring new
 

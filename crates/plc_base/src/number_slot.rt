@@ -1,6 +1,6 @@
 //! A number that has a slot of a store to itself.
 ghost use Rattle.std.specs.Prelude.{◌≡◌, ◌<◌, ◌≤◌, ◌^◌, Some, is_ok, IfOk, IfSome, OnOk};
-ghost use Rattle.plc_base.specs.Keeper.{Stores, SameOutside};
+ghost use Rattle.plc_base.specs.Keeper.{Stores, OutsideStays};
 ghost use Rattle.plc_base.specs.NumberSlots.{IsNumberSlot, IsOldOrNewNumber, number_in, stored_number, read_result, number_write};
 ghost use Rattle.byteorder.specs.Endian.{big_bytes};
 
@@ -49,7 +49,7 @@ impl NumberSlot {
         ensures stored { OnOk result (stored_number self.now (K.store keeper.new).records ≡ Some number) }
         // Whatever became of the put, the number is that from before or the new one.
         ensures either { IsOldOrNewNumber self.now number (K.store keeper.old).records (K.store keeper.new).records }
-        ensures elsewhere { SameOutside self.now.slot self.now.slot (K.store keeper.old).records (K.store keeper.new).records }
+        ensures elsewhere { OutsideStays self.now.slot self.now.slot (K.store keeper.old) (K.store keeper.new) }
     {
         keeper.put(self.slot, &self.record(number))
     }

@@ -3,7 +3,7 @@ ghost use Rattle.std.specs.Prelude.{◌≡◌, ◌<◌, ◌%◌, Some, is_ok, If
 ghost use Rattle.std.specs.List.{flat_map};
 ghost use Rattle.std.specs.FinMap.{get};
 ghost use Rattle.byteorder.specs.Endian.{big_bytes};
-ghost use Rattle.plc_base.specs.Keeper.{Stores, SameOutside, IsOldOrNew};
+ghost use Rattle.plc_base.specs.Keeper.{Stores, OutsideStays, IsOldOrNew};
 ghost use Rattle.routing_set.specs.RoutingSet.{class_of, AreFloorsOf, AreOldOrNewFloors, floor_slot, floors_in, floors_write, floors_due, raised};
 
 use crate::RoutingEntry;
@@ -59,7 +59,7 @@ fn store_floors<K: Keeper>(keeper: &mut K, floors: &[u16; 16]) -> Result<(), Fai
     ensures store { Stores (K.store keeper.old) (Some (floors_write floors.now)) (is_ok result) (K.store keeper.new) }
     ensures stored { OnOk result (floors_in (get (K.store keeper.new).records floor_slot) ≡ Some floors.now) }
     ensures either { AreOldOrNewFloors floors.now (K.store keeper.old).records (K.store keeper.new).records }
-    ensures elsewhere { SameOutside 5 5 (K.store keeper.old).records (K.store keeper.new).records }
+    ensures elsewhere { OutsideStays 5 5 (K.store keeper.old) (K.store keeper.new) }
 {
     keeper.put(FLOOR_SLOT, &floors_record(floors))
 }
@@ -76,7 +76,7 @@ pub(crate) fn raise_floor<K: Keeper>(
     ensures store { Stores (K.store keeper.old) (floors_due floors.now (Some gone.now)) (is_ok result) (K.store keeper.new) }
     ensures stored { OnOk result (floors_in (get (K.store keeper.new).records floor_slot) ≡ Some (raised floors.now gone.now)) }
     ensures either { IsOldOrNew AreFloorsOf floors.now (raised floors.now gone.now) (K.store keeper.new).records }
-    ensures elsewhere { SameOutside 5 5 (K.store keeper.old).records (K.store keeper.new).records }
+    ensures elsewhere { OutsideStays 5 5 (K.store keeper.old) (K.store keeper.new) }
 {
     let class = class_of(gone.address);
     let number = gone.rank.number;

@@ -1,7 +1,7 @@
 //! The number of the route messages that a node begins.
 ghost use Rattle.std.specs.Prelude.{◌≡◌, ◌+◌, ◌<◌, ◌≤◌, IfOk, OnOk, OnErr, is_ok, Some, Ok};
 ghost use Rattle.std.specs.Bool.{OnTrue};
-ghost use Rattle.plc_base.specs.Keeper.{Stores, SameOutside, IsOldOrNew};
+ghost use Rattle.plc_base.specs.Keeper.{Stores, OutsideStays, IsOldOrNew};
 ghost use Rattle.plc_base.specs.NumberSlots.{IsOldOrNewNumber, stored_number};
 ghost use Rattle.routing_set.specs.OwnNumber.{Numbering, IsKept, IsOldLimitOrKept, limit_at, opened, numbering_at, limit_write, advance_write, advanced, next_result, next_write, next_after, is_stored, preset_result};
 
@@ -49,7 +49,7 @@ fn store_limit<K: Keeper>(keeper: &mut K, limit: u16) -> Result<(), Failed>
     ensures store { Stores (K.store keeper.old) (limit_write limit) (is_ok result) (K.store keeper.new) }
     ensures stored { OnOk result (stored_number limit_at (K.store keeper.new).records ≡ Some limit) }
     ensures either { IsOldOrNewNumber limit_at limit (K.store keeper.old).records (K.store keeper.new).records }
-    ensures elsewhere { SameOutside 3 3 (K.store keeper.old).records (K.store keeper.new).records }
+    ensures elsewhere { OutsideStays 3 3 (K.store keeper.old) (K.store keeper.new) }
 {
     LIMIT.store(keeper, u32::from(limit))
 }
@@ -62,7 +62,8 @@ impl OwnNumber {
         ensures number { result ≡ opened (K.store keeper.now).records }
         ensures kept { IfOk result (λ number. IsKept number (K.store keeper.now).records) }
         // A number that was kept goes on at its limit.
-        ensures reopened { (numbering : Numbering) → IsKept numbering (K.store keeper.now).records → result ≡ Ok (numbering_at numbering.limit) }
+        ensures reopened { (numbering : Numbering) → IsKept numbering (K.store keeper.now).records
+            → result ≡ Ok (numbering_at numbering.limit) }
     {
         let limit = LIMIT.read(keeper)? as u16;
         Ok(OwnNumber { limit, last: limit })
@@ -89,7 +90,7 @@ impl OwnNumber {
         ensures kept { OnOk result (IsKept self.new (K.store keeper.new).records) }
         // Whatever became of the put, the record is that of the number before or of the one after.
         ensures either { IsOldOrNew IsKept self.old (advanced self.old) (K.store keeper.new).records }
-        ensures elsewhere { SameOutside 3 3 (K.store keeper.old).records (K.store keeper.new).records }
+        ensures elsewhere { OutsideStays 3 3 (K.store keeper.old) (K.store keeper.new) }
     {
         let number = self.last + 1;
         if self.limit < number {
@@ -113,7 +114,7 @@ impl OwnNumber {
         ensures store { Stores (K.store keeper.old) (next_write self.old) (is_stored result) (K.store keeper.new) }
         ensures kept { OnTrue (is_stored result) (IsKept self.new (K.store keeper.new).records) }
         ensures either { IsOldOrNew IsKept self.old (advanced self.old) (K.store keeper.new).records }
-        ensures elsewhere { SameOutside 3 3 (K.store keeper.old).records (K.store keeper.new).records }
+        ensures elsewhere { OutsideStays 3 3 (K.store keeper.old) (K.store keeper.new) }
     {
         if self.last == u16::MAX {
             return Err(NumberFault::SeqSpent);
@@ -131,7 +132,7 @@ impl OwnNumber {
         ensures store { Stores (K.store keeper.old) (limit_write value) (is_ok result) (K.store keeper.new) }
         ensures kept { OnOk result (IsKept self.new (K.store keeper.new).records) }
         ensures either { IsOldLimitOrKept (numbering_at value) (K.store keeper.old).records (K.store keeper.new).records }
-        ensures elsewhere { SameOutside 3 3 (K.store keeper.old).records (K.store keeper.new).records }
+        ensures elsewhere { OutsideStays 3 3 (K.store keeper.old) (K.store keeper.new) }
     {
         store_limit(keeper, value)?;
         self.limit = value;
@@ -150,7 +151,7 @@ impl OwnNumber {
         ensures store { Stores (K.store keeper.old) (limit_write value) (is_ok result) (K.store keeper.new) }
         ensures kept { OnOk result (IsKept self.new (K.store keeper.new).records) }
         ensures either { IsOldLimitOrKept (numbering_at value) (K.store keeper.old).records (K.store keeper.new).records }
-        ensures elsewhere { SameOutside 3 3 (K.store keeper.old).records (K.store keeper.new).records }
+        ensures elsewhere { OutsideStays 3 3 (K.store keeper.old) (K.store keeper.new) }
     {
         self.set_limit(keeper, value)
             .map_err(|_| NumberFault::Store)

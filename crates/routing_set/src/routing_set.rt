@@ -52,9 +52,11 @@ impl RoutingSet {
         ensures reading { IfOk result (λ routing. IsReading ranks routing.entries (K.store keeper.now).records) }
         ensures bad { IfErr result (λ bad. IsBad (K.store keeper.now).records bad.slot) }
         ensures unrouted { IfOk result (λ routing. (dest : ℕ) → route_of routing dest ≡ None) }
-        ensures kept { IsGapless ranks (K.store keeper.now).records → IfOk result (λ routing. IsKept routing (K.store keeper.now).records) }
+        ensures kept { IsGapless ranks (K.store keeper.now).records
+            → IfOk result (λ routing. IsKept routing (K.store keeper.now).records) }
         // What was kept is opened again, with no valid route.
-        ensures reopened { (routing : Routing) → IsTable ranks routing.entries → IsKept routing (K.store keeper.now).records → result ≡ Ok (at_rest routing) }
+        ensures reopened { (routing : Routing) → IsTable ranks routing.entries → IsKept routing (K.store keeper.now).records
+            → result ≡ Ok (at_rest routing) }
     {
         let Some(floors) = stored_floors(keeper) else {
             return Err(BadStore { slot: FLOOR_SLOT });
