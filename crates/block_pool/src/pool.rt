@@ -2,7 +2,7 @@ ghost use Rattle.std.specs.Prelude.{◌≡◌, ℕ, ◌+◌, ◌<◌, ◌≤◌,
 ghost use Rattle.std.specs.Int.{div_ceil};
 ghost use Rattle.std.specs.List.{sum_by};
 ghost use Rattle.std.specs.FinMap as map;
-ghost use Rattle.block_pool.specs.Pool.{IsChain, HasChain, OthersStay, chain_octets, overwrite};
+ghost use Rattle.block_pool.specs.Pool.{IsChain, HasBlocks, HasChain, OthersStay, chain_octets, overwrite};
 
 use crate::blocks::{BLOCK, Blocks, Place};
 use crate::numbers::{slot_of, unused_number};
@@ -87,6 +87,13 @@ impl Pool {
         ensures { result ≡ self.now.free }
     {
         self.free
+    }
+
+    /// How many blocks there are: each is free or in exactly one chain.
+    pub fn blocks(&self) -> u16
+        ensures { HasBlocks self.now result }
+    {
+        self.table.len() as u16
     }
 
     /// A new chain of so many zeros, 1 to 1,280.

@@ -1,6 +1,6 @@
 -- The puts of a reservation and of an admission lead from what the records gave to what they give.
-use Rattle.std.proofs.Common.{◌≡◌, ℕ, ◌+◌, ◌<◌, ◌≤◌, ◌^◌, Bool, true, false, [], ◌∷◌, ◌++◌, length, set, Option, Some, None, Ok, refl, sym, ap, ◌∙◌, subst, cond, arith}
-use Rattle.std.specs.Prelude.{if◌then◌else◌, is_some, nat_le, nat_lt, slice_get}
+use Rattle.std.proofs.Common.{◌≡◌, ◌≢◌, ℕ, ◌+◌, ◌<◌, ◌≤◌, ◌^◌, Bool, true, false, [], ◌∷◌, ◌++◌, length, set, Option, Some, None, Ok, Err, refl, sym, ap, ◌∙◌, subst, cond, arith}
+use Rattle.std.specs.Prelude.{if◌then◌else◌, ◌==◌, is_some, nat_le, nat_lt, slice_get}
 use Rattle.std.specs.Option.{option_map_or}
 use Rattle.std.proofs.lemmas.Bool.{ltb-false}
 use Rattle.std.proofs.lemmas.Bool.Decides.{nat_tests}
@@ -11,6 +11,7 @@ use Rattle.plc_base.specs.SlotTables as slots
 use Rattle.plc_base.specs.LeadingPuts.{PutsLead}
 use Rattle.plc_base.proofs.LeadingPuts.{leads_one, leads_beside, leads_when}
 use Rattle.plc_base.proofs.SlotTables.{found, free_new, free_found, IsTable-set, IsTable-push, stored_set, stored_push, stored_rest}
+use Rattle.frame_counters.specs.declared.fault.PeerFault.TheVariants.{Replayed, PeersFull, Store}
 use Rattle.frame_counters.specs.declared.peer_marks.Peer.{Peer}
 use Rattle.frame_counters.specs.SendCounter.{Counting, IsKept, passes, raised, limit_write, reserve_write, reserved}
 use Rattle.frame_counters.specs.PeerMarks as marks
@@ -41,6 +42,21 @@ reservation_leads c count few left = by_due (passes c count) refl
     by_due false e = leads_beside IsCounterIn c _ (λ r k. record { kept = record { limit = k.kept.limit; below = ltb-false _ _ e }; fits = k.fits })
 
 -- # The marks
+
+pub room_answers : (t : marks.Table) (from counter : ℕ) → marks.room_for t from counter ≢ Err Store
+room_answers t from counter = by_place (marks.place_of t from)
+  where
+    by_mark : (b : Bool) → (if b then Err Replayed else Ok (tt {0})) ≢ Err Store
+    by_mark true e = absurd (cc)
+    by_mark false e = absurd (cc)
+
+    by_length : (b : Bool) → (if b then Err PeersFull else Ok (tt {0})) ≢ Err Store
+    by_length true e = absurd (cc)
+    by_length false e = absurd (cc)
+
+    by_place : (o : Option ℕ) → option_map_or (λ place. if nat_le counter (marks.peer_at t place).mark then Err Replayed else Ok (tt {0})) o (if length t == 64 then Err PeersFull else Ok (tt {0})) ≢ Err Store
+    by_place None = by_length (length t == 64)
+    by_place (Some place) = by_mark (nat_le counter (marks.peer_at t place).mark)
 
 module _ (t : marks.Table) (from counter : ℕ) (address : from < 0xFFFE) (fits : counter < 2 ^ 32) where
   ahead : Peer

@@ -1,9 +1,10 @@
 -- What holds of counters and marks, whatever becomes of their puts.
-use Rattle.std.specs.Prelude.{◌≡◌, ℕ, ◌+◌, ◌<◌, ◌≤◌, ◌^◌, Ok, None}
+use Rattle.std.specs.Prelude.{◌≡◌, ◌≢◌, ℕ, ◌+◌, ◌<◌, ◌≤◌, ◌^◌, Ok, Err, None}
 use Rattle.plc_base.specs.Keeper.{Records}
 use Rattle.plc_base.specs.Writes.{puts_of}
 use Rattle.plc_base.specs.SlotTables as slots
 use Rattle.plc_base.specs.LeadingPuts.{PutsLead}
+use Rattle.frame_counters.specs.declared.fault.PeerFault.TheVariants.{Store}
 use Rattle.frame_counters.specs.SendCounter as counters
 use Rattle.frame_counters.specs.PeerMarks as marks
 
@@ -25,6 +26,10 @@ abbrev pub ReservationsLead : Type 0
 ReservationsLead =
     (counting : counters.Counting) (count : ℕ) → count ≤ 1024 → counting.next + count ≤ 4294967295
     → PutsLead IsCounterIn counting (puts_of (counters.reserve_write counting count)) (counters.reserved counting count)
+
+-- Whether a counter would be admitted is asked without a put: the answer is never a failed one.
+abbrev pub RoomIsNoPut : Type 0
+RoomIsNoPut = (table : marks.Table) (from counter : ℕ) → marks.room_for table from counter ≢ Err Store
 
 -- Marks are what the records give, each sender at one place.
 pub record AreMarksIn (table : marks.Table) (records : Records) : Type 0 where

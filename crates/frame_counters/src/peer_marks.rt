@@ -1,12 +1,11 @@
 //! The marks of the senders: the counter that was last admitted of each.
-ghost use Rattle.std.specs.Prelude.{◌≡◌, ◌≢◌, ◌≤◌, Ok, Some, None, List, is_ok, IfOk, IfErr, OnOk, OnErr, map, IsSorted, IsPermutation};
+ghost use Rattle.std.specs.Prelude.{◌≡◌, ◌≤◌, Ok, Some, None, List, is_ok, IfOk, IfErr, OnOk, OnErr, map, IsSorted, IsPermutation};
 ghost use Rattle.std.specs.Bool.{OnTrue};
 ghost use Rattle.std.specs.Ordering.{nat_cmp};
 ghost use Rattle.plc_base.specs.Keeper.{Stores, OutsideStays, IsOldOrNew};
 ghost use Rattle.plc_base.specs.SlotTables.{IsTable, IsGapless, IsReading, IsBad, Reopens, opened};
 ghost use Rattle.frame_counters.specs.Admitted.{Admitted, Admits, AllEarlier};
 ghost use Rattle.frame_counters.specs.PeerMarks.{Table, peers, IsKept, IsCovered, at_rest, peer_ahead, mark_of, room_for, keep_write, kept_after, admit_result, admit_write, admit_after, is_stored};
-ghost use Rattle.frame_counters.specs.declared.fault.PeerFault.TheVariants.{Store};
 
 use crate::PeerFault;
 use arrayvec::ArrayVec;
@@ -150,8 +149,7 @@ impl PeerMarks {
     /// Replayed exactly where the sender is held and `counter` is not above its mark. PeersFull exactly for a sender that is
     /// not held with 64 held.
     pub fn room(&self, from: Short, counter: u32) -> Result<(), PeerFault>
-        ensures answer { result ≡ room_for self.now from counter }
-        ensures no_put { IfErr result (λ fault. fault ≢ Store) }
+        ensures { result ≡ room_for self.now from counter }
     {
         match self.table.place_of(from.key()) {
             Some(place) if counter <= self.table.get(place).mark => Err(PeerFault::Replayed),

@@ -1,6 +1,6 @@
 //! Laws of tags, of sorted numbers, and of puts one after another. Each is the contract of a function that does nothing.
 ghost use Rattle.plc_base.specs.Laws.{WritesCompose, WritesStop, APrefixIsWritten, OtherSlotsStay, APutStaysInItsSlot};
-ghost use Rattle.plc_base.specs.Orders.{OneSortedPermutation, SortedNumbersAreOrdered};
+ghost use Rattle.plc_base.specs.Orders.{OneSortedPermutation, SortedNumbersAreOrdered, SortedKeysFindAll};
 ghost use Rattle.plc_base.specs.Tags.{OneSpellingOneTag};
 
 /// Two tags with one spelling are the same.
@@ -34,4 +34,9 @@ pub fn one_sorted_permutation()
 /// The numbers of a list, sorted, are those of the list in their order.
 pub fn sorted_numbers_are_ordered<A>()
     ensures { SortedNumbersAreOrdered A }
+{}
+
+/// The sorted keys of a table, looked up one by one, give its entries in the order of their keys.
+pub fn sorted_keys_find_all<A>()
+    ensures { SortedKeysFindAll A }
 {}
