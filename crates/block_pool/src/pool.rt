@@ -2,7 +2,7 @@ ghost use Rattle.std.specs.Prelude.{◌≡◌, ℕ, ◌+◌, ◌<◌, ◌≤◌,
 ghost use Rattle.std.specs.Int.{div_ceil};
 ghost use Rattle.std.specs.List.{sum_by};
 ghost use Rattle.std.specs.FinMap as map;
-ghost use Rattle.block_pool.specs.Pool.{IsChain, chain_octets, overwrite};
+ghost use Rattle.block_pool.specs.Pool.{IsChain, HasBlocks, HasChain, OthersStay, chain_octets, overwrite};
 
 use crate::blocks::{BLOCK, Blocks, Place};
 use crate::numbers::{slot_of, unused_number};
@@ -89,6 +89,13 @@ impl Pool {
         self.free
     }
 
+    /// How many blocks there are: each is free or in exactly one chain.
+    pub fn blocks(&self) -> u16
+        ensures { HasBlocks self.now result }
+    {
+        self.table.len() as u16
+    }
+
     /// A new chain of so many zeros, 1 to 1,280.
     ///
     /// PoolFull exactly where fewer blocks are free than `octets / 64`, rounded up. The pool is then as it was.
@@ -98,6 +105,8 @@ impl Pool {
         ensures new_number { IfOk result (λ c. IsChain self.old c → ⊥) }
         ensures free { IfOk result (λ _. self.new.free + div_ceil octets 64 ≡ self.old.free) }
         ensures chains { IfOk result (λ c. self.new.chains ≡ map.insert self.old.chains c (replicate octets 0)) }
+        ensures there { IfOk result (λ c. HasChain self.new c (replicate octets 0)) }
+        ensures others { IfOk result (λ c. OthersStay self.old self.new c) }
         ensures err { OnErr result (self.new ≡ self.old) }
     {
         let needed = octets.div_ceil(BLOCK);
@@ -118,6 +127,8 @@ impl Pool {
         requires room { at + length piece.now ≤ length (chain_octets self.old chain.now) }
         ensures free { self.new.free ≡ self.old.free }
         ensures chains { self.new.chains ≡ map.insert self.old.chains chain.now (overwrite (chain_octets self.old chain.now) at piece.now) }
+        ensures there { HasChain self.new chain.now (overwrite (chain_octets self.old chain.now) at piece.now) }
+        ensures others { OthersStay self.old self.new chain.now }
     {
         let slot = slot_of(&self.table, chain.number);
         self.blocks.write_run(slot.first, at, piece);
@@ -138,6 +149,8 @@ impl Pool {
         requires { IsChain self.old chain }
         ensures free { self.new.free ≡ self.old.free + div_ceil (length (chain_octets self.old chain)) 64 }
         ensures chains { self.new.chains ≡ map.remove self.old.chains chain }
+        ensures ended { IsChain self.new chain → ⊥ }
+        ensures others { OthersStay self.old self.new chain }
     {
         let Chain { number } = chain;
         let slot = slot_of(&self.table, number);

@@ -10,3 +10,4 @@ pub mod RoundTrip
 pub mod Rule
 pub mod Settling
 pub mod Writing
+pub mod Beside

@@ -1,7 +1,9 @@
 -- Laws of cutting and reassembly.
 use Rattle.std.specs.Prelude.{◌≡◌, ℕ, ◌+◌, ◌<◌, ◌≤◌, Bool, true, false, ◌==◌, List, [], ◌∷◌, ◌++◌, length, get_or, replicate, Some, None, slice_get}
 use Rattle.std.specs.List.{list_any, All, AllPairs}
+use Rattle.block_pool.specs.Pool.{PoolState, IsChain, OthersStay, chain_octets}
 use Rattle.mesh_header.specs.Pieces.{Placed}
+use Rattle.fragment_buffers.specs.Entries.{Entry, Keeps, IsBounded, IsOther, entry_at, blocks_used, told}
 use Rattle.fragment_buffers.specs.Cutting.{pieces_of, piece_of}
 use Rattle.fragment_buffers.specs.Reassembly.{Reassembly, PlacedPiece, datagram_of, octet_of, overlap, begun}
 use Rattle.fragment_buffers.specs.Taking.{Held, Whole, blocks, blocks_held, same_name, taken, unexpired}
@@ -90,3 +92,26 @@ PiecesComeTogether =
     let all = cs ++ c ∷ [] in
     (((k : ℕ) → k < pieces_of (length datagram) → has_come k all ≡ true) → t ≡ record { held = held; outcome = Whole (note_of_first all) datagram })
     × ((k : ℕ) → k < pieces_of (length datagram) → has_come k all ≡ false → t.outcome ≡ Held)
+
+-- # Chains of the pool that no reassembly has
+
+-- A new chain is reserved in the pool, or one that no reassembly has is written or given back, and the blocks that are left are
+-- enough for the reassemblies.
+pub record IsBeside (p q : PoolState) (es : List Entry) (c : ℕ) : Type 0 where
+  pub own : (i : ℕ) → i < length es → (entry_at es i).chain ≡ c → ⊥
+  pub others : OthersStay p q c
+  pub room : 80 ≤ q.free + blocks_used es
+
+-- The reassemblies are kept and stay as they were, and so is each other chain that none of them has.
+pub record AreKept (p q : PoolState) (es : List Entry) (c : ℕ) : Type 0 where
+  pub keeps : Keeps q es
+  pub same : told q es ≡ told p es
+  pub others : (d : ℕ) → (d ≡ c → ⊥) → IsOther p es d → IsOther q es d × (chain_octets q d ≡ chain_octets p d)
+
+abbrev pub OtherChainsKeepReassemblies : Type 0
+OtherChainsKeepReassemblies = (p q : PoolState) (es : List Entry) (c : ℕ) → IsBounded es → Keeps p es → IsBeside p q es c → AreKept p q es c
+
+-- a chain that the pool did not have before is none of a reassembly
+abbrev pub NewChainsAreOthers : Type 0
+NewChainsAreOthers =
+    (p : PoolState) (es : List Entry) (c : ℕ) → IsBounded es → Keeps p es → (IsChain p c → ⊥) → (i : ℕ) → i < length es → (entry_at es i).chain ≡ c → ⊥

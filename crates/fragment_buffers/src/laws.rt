@@ -1,5 +1,5 @@
 //! Laws of cutting and reassembly. A function here does nothing: its contract is the law.
-ghost use Rattle.fragment_buffers.specs.Laws.{OverlapBeginsAnew, WholeIsOfItsPieces, GapIsInNoPiece, PiecesStayApart, PiecesComeTogether};
+ghost use Rattle.fragment_buffers.specs.Laws.{OverlapBeginsAnew, WholeIsOfItsPieces, GapIsInNoPiece, PiecesStayApart, PiecesComeTogether, OtherChainsKeepReassemblies, NewChainsAreOthers};
 
 /// A whole reassembly has, at each position, the octet that one of its pieces has there; in one that is not whole some position
 /// lies in no piece.
@@ -23,4 +23,12 @@ pub fn the_pieces_of_a_datagram_come_together()
 /// second and the third make it whole, and the second alone would have ended 60 seconds after it came.
 pub fn an_overlap_begins_anew()
     ensures { OverlapBeginsAnew }
+{}
+
+/// A chain of the pool that no reassembly has may be reserved, written and given back: the reassemblies are kept, and stay as
+/// they were, as long as the blocks that are left are enough for them. A chain that the pool did not have before is none of a
+/// reassembly.
+pub fn other_chains_keep_reassemblies()
+    ensures kept { OtherChainsKeepReassemblies }
+    ensures new { NewChainsAreOthers }
 {}

@@ -4,15 +4,13 @@ use Rattle.std.specs.Prelude.{nat_lt, IfSome, OnOk, is_ok, unwrap_or}
 use Rattle.std.proofs.lemmas.Bool.Decides.{nat_tests}
 use Rattle.std.specs.FinMap.{get, insert}
 use Rattle.byteorder.specs.Endian.{big_bytes}
-use Rattle.byteorder.specs.Numbers.{big_number-reads_back}
 use Rattle.plc_base.specs.Keeper.{Records, Store, Write, Stores, SameOutside}
-use Rattle.plc_base.proofs.StoreLemmas.{get-insert_same}
-use Rattle.frame_counters.specs.SendCounter.{Counting, IsKept, limit_in, limit_slot, limit_write, stored_limit, raised, passes, reserve_write, reserved, counting_at}
+use Rattle.plc_base.proofs.NumberSlots.{stored-insert, number_either}
+use Rattle.frame_counters.specs.SendCounter.{Counting, IsKept, limit_at, limit_in, limit_slot, limit_write, stored_limit, raised, passes, reserve_write, reserved, counting_at}
 
 -- a limit that was stored is read back
 pub limit_in-insert : (records : Records) (limit : ℕ) → limit < 2 ^ 32 → limit_in (get (insert records limit_slot (big_bytes 4 limit)) limit_slot) ≡ Some limit
-limit_in-insert records limit h =
-    ap limit_in (get-insert_same records limit_slot limit_slot (big_bytes 4 limit) refl) ∙ ap Some (big_number-reads_back 4 limit [] (omega arith))
+limit_in-insert records limit h = stored-insert limit_at records limit (omega arith) (omega arith)
 
 reserved_kept : (counting : Counting) (count : ℕ) (old new : Store) (due : Bool) → IsKept counting old.records → counting.limit < 2 ^ 32
     → count ≤ 1024 → counting.next + count ≤ 4294967295 → passes counting count ≡ due
@@ -57,14 +55,7 @@ stored_limit-kept counting records kept = ap (λ o. unwrap_or o 0) kept.limit
 pub kept_elsewhere : (counting : Counting) (old new : Records) (first last : ℕ) → IsKept counting old → SameOutside first last old new → (limit_slot < first) ⊎ (last < limit_slot) → IsKept counting new
 kept_elsewhere counting old new first last kept same apart = record { limit = ap limit_in (same limit_slot apart) ∙ kept.limit; below = kept.below }
 
--- a put of a limit that succeeded is read back
-pub limit_stored : {T E : Type 0} (r : Result T E) (old new : Store) (limit : ℕ) → limit < 2 ^ 32 → Stores old (limit_write limit) (is_ok r) new
-    → OnOk r (limit_in (get new.records limit_slot) ≡ Some limit)
-limit_stored (Ok done) old new limit fits stores = ap (λ m. limit_in (get m limit_slot)) stores.stored ∙ limit_in-insert old.records limit fits
-limit_stored (Err fault) old new limit fits stores = tt
-
 -- whatever became of a put of a limit, the old one is read or the new one
 pub limit_either : (old new : Records) (limit : ℕ) → limit < 2 ^ 32 → (new ≡ old) ⊎ (new ≡ insert old limit_slot (big_bytes 4 limit))
     → (limit_in (get new limit_slot) ≡ limit_in (get old limit_slot)) ⊎ (limit_in (get new limit_slot) ≡ Some limit)
-limit_either old new limit fits (inl same) = inl (ap (λ m. limit_in (get m limit_slot)) same)
-limit_either old new limit fits (inr written) = inr (ap (λ m. limit_in (get m limit_slot)) written ∙ limit_in-insert old limit fits)
+limit_either old new limit fits stores = number_either limit_at old new limit (omega arith) (omega arith) stores

@@ -1,9 +1,10 @@
 -- The counter of the frames that a node sends, and what its calls do to it.
-use Rattle.std.specs.Prelude.{◌≡◌, ℕ, ◌+◌, ◌≤◌, min, Bool, true, false, ◌==◌, nat_lt, if◌then◌else◌, List, length, Option, Some, None, unwrap_or, Result, Ok, Err, refl}
+use Rattle.std.specs.Prelude.{◌≡◌, ◌⊎◌, ℕ, ◌+◌, ◌≤◌, min, Bool, true, false, ◌==◌, nat_lt, if◌then◌else◌, List, Option, Some, None, unwrap_or, Result, Ok, Err, refl}
 use Rattle.std.specs.Coded.{Coded, code_by, coded×, coded_ℕ}
 use Rattle.std.specs.FinMap.{get}
-use Rattle.byteorder.specs.Endian.{big_number, big_bytes}
 use Rattle.plc_base.specs.Keeper.{Records, Write}
+use Rattle.plc_base.specs.NumberSlots.{number_in, stored_number, number_write}
+use Rattle.plc_base.specs.declared.number_slot.NumberSlot.{NumberSlot}
 use Rattle.plc_base.specs.declared.keeper.BadStore.{BadStore}
 use Rattle.frame_counters.specs.declared.fault.CounterFault.{CounterFault}
 use Rattle.frame_counters.specs.declared.fault.CounterFault.TheVariants.{Spent, Store}
@@ -17,14 +18,17 @@ pub record Counting : Type 0 where
 abbrev pub counting_code : Coded Counting
 counting_code = code_by (ℕ × ℕ) (coded× coded_ℕ coded_ℕ) (λ c. (c.limit, c.next)) (λ p. record { limit = p.0; next = p.1 }) (λ _. refl)
 
+-- where the limit is stored: 4 octets at slot 2, 0 where none is there
+abbrev pub limit_at : NumberSlot
+limit_at = record { slot = 2; width = 4; first = 0; least = 0 }
+
 -- the slot of the limit
 abbrev pub limit_slot : ℕ
-limit_slot = 2
+limit_slot = limit_at.slot
 
 -- the limit that the record of the slot gives: 0 where none is there, and no reading where it has not 4 octets
 abbrev pub limit_in : Option (List ℕ) → Option ℕ
-limit_in None = Some 0
-limit_in (Some octets) = if length octets == 4 then Some (big_number 4 octets) else None
+limit_in octets = number_in limit_at octets
 
 -- the limit that the records give
 abbrev pub stored_limit : Records → ℕ
@@ -47,9 +51,13 @@ pub record IsKept (counting : Counting) (records : Records) : Type 0 where
   pub limit : limit_in (get records limit_slot) ≡ Some counting.limit
   pub below : counting.next ≤ counting.limit
 
+-- The limit is that of the records from before, or what the counter holds is what the new records give.
+abbrev pub IsOldLimitOrKept : Counting → Records → Records → Type 0
+IsOldLimitOrKept counting old new = (stored_number limit_at new ≡ stored_number limit_at old) ⊎ IsKept counting new
+
 -- the put of a limit
 abbrev pub limit_write : ℕ → Option Write
-limit_write limit = Some (record { slot = limit_slot; octets = big_bytes 4 limit })
+limit_write limit = Some (number_write limit_at limit)
 
 -- the next limit
 abbrev pub raised : ℕ → ℕ

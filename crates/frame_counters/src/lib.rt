@@ -2,6 +2,7 @@
 #![tactic(auto)]
 
 mod fault;
+pub mod laws;
 mod peer_marks;
 mod send_counter;
 #[cfg(test)]

@@ -1,11 +1,11 @@
 //! The marks of the senders: the counter that was last admitted of each.
-ghost use Rattle.std.specs.Prelude.{◌≡◌, ◌⊎◌, ◌<◌, ◌≤◌, Ok, Some, None, List, is_ok, IfOk, IfErr, OnOk, OnErr, map, IsSorted, IsPermutation};
+ghost use Rattle.std.specs.Prelude.{◌≡◌, ◌≤◌, Ok, Some, None, List, is_ok, IfOk, IfErr, OnOk, OnErr, map, IsSorted, IsPermutation};
 ghost use Rattle.std.specs.Bool.{OnTrue};
 ghost use Rattle.std.specs.Ordering.{nat_cmp};
-ghost use Rattle.plc_base.specs.Keeper.{Stores, SameOutside};
-ghost use Rattle.plc_base.specs.SlotTables.{IsTable, IsGapless, IsReading, IsBad, opened};
+ghost use Rattle.plc_base.specs.Keeper.{Stores, OutsideStays, IsOldOrNew};
+ghost use Rattle.plc_base.specs.SlotTables.{IsTable, IsGapless, IsReading, IsBad, Reopens, opened};
 ghost use Rattle.frame_counters.specs.Admitted.{Admitted, Admits, AllEarlier};
-ghost use Rattle.frame_counters.specs.PeerMarks.{Table, peers, IsKept, at_rest, peer_ahead, mark_of, room_for, keep_write, kept_after, admit_result, admit_write, admit_after, is_stored};
+ghost use Rattle.frame_counters.specs.PeerMarks.{Table, peers, IsKept, IsCovered, at_rest, peer_ahead, mark_of, room_for, keep_write, kept_after, admit_result, admit_write, admit_after, is_stored};
 
 use crate::PeerFault;
 use arrayvec::ArrayVec;
@@ -41,7 +41,7 @@ impl SlotEntry for Peer {
     ghost keeps_key = { λ _. refl };
 
     fn key(&self) -> u64 {
-        u64::from(self.address.number())
+        self.address.key()
     }
 
     fn slot(place: usize) -> u32 {
@@ -105,9 +105,10 @@ impl PeerMarks {
         ensures table { result ≡ opened peers (K.store keeper.now).records }
         ensures reading { IfOk result (λ table. IsReading peers table (K.store keeper.now).records) }
         ensures bad { IfErr result (λ bad. IsBad peers (K.store keeper.now).records bad.slot) }
-        ensures kept { IsGapless peers (K.store keeper.now).records → IfOk result (λ table. IsKept table (K.store keeper.now).records) }
+        ensures kept { IsGapless peers (K.store keeper.now).records
+            → IfOk result (λ table. IsKept table (K.store keeper.now).records) }
         // Marks that were kept are opened again, each at its stored mark.
-        ensures reopened { (table : Table) → IsTable peers table → IsKept table (K.store keeper.now).records → result ≡ Ok (map at_rest table) }
+        ensures reopened { Reopens peers (K.store keeper.now).records result }
     {
         let table = SlotTable::open(keeper)?;
         Ok(PeerMarks { table })
@@ -117,8 +118,17 @@ impl PeerMarks {
     pub fn mark(&self, from: Short) -> Option<u32>
         ensures { result ≡ mark_of self.now from }
     {
-        let place = self.table.place_of(key_of(from))?;
+        let place = self.table.place_of(from.key())?;
         Some(self.table.get(place).mark)
+    }
+
+    /// The senders in the order of their slots: no two of one address, at most 64, and no mark above the stored one.
+    pub fn entries(&self) -> &[Peer]
+        ensures value { result.now ≡ self.now }
+        ensures table { IsTable peers self.now }
+        ensures covered { IsCovered self.now }
+    {
+        self.table.as_slice()
     }
 
     /// The senders that are held, in ascending order.
@@ -141,7 +151,7 @@ impl PeerMarks {
     pub fn room(&self, from: Short, counter: u32) -> Result<(), PeerFault>
         ensures { result ≡ room_for self.now from counter }
     {
-        match self.table.place_of(key_of(from)) {
+        match self.table.place_of(from.key()) {
             Some(place) if counter <= self.table.get(place).mark => Err(PeerFault::Replayed),
             None if self.table.is_full() => Err(PeerFault::PeersFull),
             _ => Ok(()),
@@ -165,10 +175,10 @@ impl PeerMarks {
         ensures store { Stores (K.store keeper.old) (keep_write self.old from counter) (is_ok result) (K.store keeper.new) }
         ensures kept { OnOk result (IsKept self.new (K.store keeper.new).records) }
         // Whatever became of the put, the records are those of the marks before or of those after.
-        ensures either { IsKept self.old (K.store keeper.new).records ⊎ IsKept (kept_after self.old from counter) (K.store keeper.new).records }
-        ensures elsewhere { SameOutside 0x0100 0x013F (K.store keeper.old).records (K.store keeper.new).records }
+        ensures either { IsOldOrNew IsKept self.old (kept_after self.old from counter) (K.store keeper.new).records }
+        ensures elsewhere { OutsideStays 0x0100 0x013F (K.store keeper.old) (K.store keeper.new) }
     {
-        match self.table.place_of(key_of(from)) {
+        match self.table.place_of(from.key()) {
             Some(place) => {
                 let peer = self.table.get(place);
                 if counter <= peer.stored {
@@ -202,12 +212,13 @@ impl PeerMarks {
         requires { IsKept self.old (K.store keeper.old).records }
         ensures answer { result ≡ admit_result self.old from counter (is_stored result) }
         // It is above all that was admitted of the sender before, over any frames, failed puts and new starts.
-        ensures fresh { (before : List Admitted) → Admits before (Some self.old) (K.store keeper.old).records → OnOk result (AllEarlier from counter before) }
+        ensures fresh { (before : List Admitted) → Admits before (Some self.old) (K.store keeper.old).records
+            → OnOk result (AllEarlier from counter before) }
         ensures table { self.new ≡ admit_after self.old from counter (is_stored result) }
         ensures store { Stores (K.store keeper.old) (admit_write self.old from counter) (is_stored result) (K.store keeper.new) }
         ensures kept { OnTrue (is_stored result) (IsKept self.new (K.store keeper.new).records) }
-        ensures either { IsKept self.old (K.store keeper.new).records ⊎ IsKept (kept_after self.old from counter) (K.store keeper.new).records }
-        ensures elsewhere { SameOutside 0x0100 0x013F (K.store keeper.old).records (K.store keeper.new).records }
+        ensures either { IsOldOrNew IsKept self.old (kept_after self.old from counter) (K.store keeper.new).records }
+        ensures elsewhere { OutsideStays 0x0100 0x013F (K.store keeper.old) (K.store keeper.new) }
     {
         match self.room(from, counter) {
             Ok(()) => self
@@ -216,14 +227,6 @@ impl PeerMarks {
             Err(fault) => Err(fault),
         }
     }
-}
-
-// The number that names a sender.
-fn key_of(from: Short) -> u64
-    ensures value { result ≡ from }
-    ensures valid { result < 0xFFFE }
-{
-    u64::from(from.number())
 }
 
 // A sender whose stored mark is ahead of its counter.

@@ -1,15 +1,12 @@
 //! The counter of the frames that a node sends.
-ghost use Rattle.std.specs.Prelude.{◌≡◌, ◌⊎◌, ◌+◌, ◌<◌, ◌≤◌, IfOk, OnOk, OnErr, is_ok, Some, List, ℕ};
-ghost use Rattle.std.specs.FinMap.{get};
+ghost use Rattle.std.specs.Prelude.{◌≡◌, ◌+◌, ◌<◌, ◌≤◌, IfOk, OnOk, OnErr, is_ok, List, ℕ};
 ghost use Rattle.std.specs.Bool.{OnTrue};
-ghost use Rattle.plc_base.specs.Keeper.{Stores, SameOutside};
-ghost use Rattle.frame_counters.specs.SendCounter.{IsKept, limit_in, limit_slot, stored_limit, opened, reserve_write, reserved, limit_write, counting_at, take_result, take_write, take_after, is_stored, preset_result};
+ghost use Rattle.plc_base.specs.Keeper.{Stores, OutsideStays, IsOldOrNew};
+ghost use Rattle.frame_counters.specs.SendCounter.{IsKept, IsOldLimitOrKept, stored_limit, opened, reserve_write, reserved, limit_write, counting_at, take_result, take_write, take_after, is_stored, preset_result};
 ghost use Rattle.frame_counters.specs.Given.{Gives, AllBelow};
-ghost use Rattle.byteorder.specs.Endian.{big_bytes};
 
 use crate::CounterFault;
-use byteorder::{BigEndian, ByteOrder};
-use plc_base::{BadStore, Failed, Keeper, Record};
+use plc_base::{BadStore, Failed, Keeper, NumberSlot};
 use std::marker::Model;
 
 /// Gives out each counter once, also over losses of power: a limit is stored ahead of the counters that are given out,
@@ -35,31 +32,16 @@ impl Model for SendCounter {
     ghost invariant = { λ c. c.next ≤ c.limit };
 }
 
-/// The slot of the limit.
-const LIMIT_SLOT: u32 = 2;
+/// Where the limit is stored.
+const LIMIT: NumberSlot = NumberSlot {
+    slot: 2,
+    width: 4,
+    first: 0,
+    least: 0,
+};
 
 /// How far the limit is stored ahead.
 const STRIDE: u32 = 1024;
-
-// The record of a limit.
-fn limit_record(limit: u32) -> Record
-    ensures { result ≡ big_bytes 4 limit }
-{
-    let mut octets = [0; 4];
-    BigEndian::write_u32(&mut octets, limit);
-    Record::from_octets(&octets)
-}
-
-// Stores a limit.
-fn store_limit<K: Keeper>(keeper: &mut K, limit: u32) -> Result<(), Failed>
-    ensures store { Stores (K.store keeper.old) (limit_write limit) (is_ok result) (K.store keeper.new) }
-    ensures stored { OnOk result (limit_in (get (K.store keeper.new).records limit_slot) ≡ Some limit) }
-    ensures either { (limit_in (get (K.store keeper.new).records limit_slot) ≡ limit_in (get (K.store keeper.old).records limit_slot))
-        ⊎ (limit_in (get (K.store keeper.new).records limit_slot) ≡ Some limit) }
-    ensures elsewhere { SameOutside 2 2 (K.store keeper.old).records (K.store keeper.new).records }
-{
-    keeper.put(LIMIT_SLOT, &limit_record(limit))
-}
 
 impl SendCounter {
     /// The counter that the record at slot 2 gives: the next counter is the stored limit, 0 where none is stored.
@@ -69,12 +51,9 @@ impl SendCounter {
         ensures counter { result ≡ opened (K.store keeper.now).records }
         ensures kept { IfOk result (λ counter. IsKept counter (K.store keeper.now).records) }
         ensures limit { IfOk result (λ counter. counter.next ≡ stored_limit (K.store keeper.now).records) }
+        ensures fits { IfOk result (λ counter. counter.next ≤ 4294967295) }
     {
-        let limit = match keeper.get(LIMIT_SLOT) {
-            None => 0,
-            Some(limit) if limit.len() == 4 => BigEndian::read_u32(limit.octets()),
-            Some(_) => return Err(BadStore { slot: LIMIT_SLOT }),
-        };
+        let limit = LIMIT.read(keeper)?;
         Ok(SendCounter { limit, next: limit })
     }
 
@@ -94,19 +73,21 @@ impl SendCounter {
         requires kept { IsKept self.old (K.store keeper.old).records }
         ensures number { IfOk result (λ number. number ≡ self.old.next) }
         // It is above all that was given out before, over any reservations, failed puts and new starts.
-        ensures fresh { (given : List ℕ) → Gives given (Some self.old) (K.store keeper.old).records → IfOk result (λ number. AllBelow number given) }
+        ensures fresh { (given : List ℕ) → Gives given (Some self.old) (K.store keeper.old).records
+            → IfOk result (λ number. AllBelow number given) }
         ensures counter { OnOk result (self.new ≡ reserved self.old count) }
         ensures same { OnErr result (self.new ≡ self.old) }
         ensures store { Stores (K.store keeper.old) (reserve_write self.old count) (is_ok result) (K.store keeper.new) }
         ensures kept { OnOk result (IsKept self.new (K.store keeper.new).records) }
         // Whatever became of the put, the record is that of the counter before or of the one after.
-        ensures either { IsKept self.old (K.store keeper.new).records ⊎ IsKept (reserved self.old count) (K.store keeper.new).records }
-        ensures elsewhere { SameOutside 2 2 (K.store keeper.old).records (K.store keeper.new).records }
+        ensures either { IsOldOrNew IsKept self.old (reserved self.old count) (K.store keeper.new).records }
+        ensures elsewhere { OutsideStays 2 2 (K.store keeper.old) (K.store keeper.new) }
+        ensures fits { self.new.next ≤ 4294967295 }
     {
         let number = self.next;
         if self.limit < number + count {
             let limit = self.limit.saturating_add(STRIDE);
-            store_limit(keeper, limit)?;
+            LIMIT.store(keeper, limit)?;
             self.limit = limit;
         }
         self.next = number + count;
@@ -124,10 +105,12 @@ impl SendCounter {
         ensures store { Stores (K.store keeper.old) (take_write self.old) (is_stored result) (K.store keeper.new) }
         ensures below { IfOk result (λ number. number < stored_limit (K.store keeper.new).records) }
         // It is above all that was given out before, over any takes, failed puts and new starts.
-        ensures fresh { (given : List ℕ) → Gives given (Some self.old) (K.store keeper.old).records → IfOk result (λ number. AllBelow number given) }
+        ensures fresh { (given : List ℕ) → Gives given (Some self.old) (K.store keeper.old).records
+            → IfOk result (λ number. AllBelow number given) }
         ensures kept { OnTrue (is_stored result) (IsKept self.new (K.store keeper.new).records) }
-        ensures either { IsKept self.old (K.store keeper.new).records ⊎ IsKept (reserved self.old 1) (K.store keeper.new).records }
-        ensures elsewhere { SameOutside 2 2 (K.store keeper.old).records (K.store keeper.new).records }
+        ensures either { IsOldOrNew IsKept self.old (reserved self.old 1) (K.store keeper.new).records }
+        ensures elsewhere { OutsideStays 2 2 (K.store keeper.old) (K.store keeper.new) }
+        ensures fits { self.new.next ≤ 4294967295 }
     {
         if self.left() == 0 {
             return Err(CounterFault::Spent);
@@ -143,11 +126,10 @@ impl SendCounter {
         ensures same { OnErr result (self.new ≡ self.old) }
         ensures store { Stores (K.store keeper.old) (limit_write value) (is_ok result) (K.store keeper.new) }
         ensures kept { OnOk result (IsKept self.new (K.store keeper.new).records) }
-        ensures either { (limit_in (get (K.store keeper.new).records limit_slot) ≡ limit_in (get (K.store keeper.old).records limit_slot))
-            ⊎ IsKept (counting_at value) (K.store keeper.new).records }
-        ensures elsewhere { SameOutside 2 2 (K.store keeper.old).records (K.store keeper.new).records }
+        ensures either { IsOldLimitOrKept (counting_at value) (K.store keeper.old).records (K.store keeper.new).records }
+        ensures elsewhere { OutsideStays 2 2 (K.store keeper.old) (K.store keeper.new) }
     {
-        store_limit(keeper, value)?;
+        LIMIT.store(keeper, value)?;
         self.limit = value;
         self.next = value;
         Ok(())
@@ -162,9 +144,8 @@ impl SendCounter {
         ensures same { OnErr result (self.new ≡ self.old) }
         ensures store { Stores (K.store keeper.old) (limit_write value) (is_ok result) (K.store keeper.new) }
         ensures kept { OnOk result (IsKept self.new (K.store keeper.new).records) }
-        ensures either { (limit_in (get (K.store keeper.new).records limit_slot) ≡ limit_in (get (K.store keeper.old).records limit_slot))
-            ⊎ IsKept (counting_at value) (K.store keeper.new).records }
-        ensures elsewhere { SameOutside 2 2 (K.store keeper.old).records (K.store keeper.new).records }
+        ensures either { IsOldLimitOrKept (counting_at value) (K.store keeper.old).records (K.store keeper.new).records }
+        ensures elsewhere { OutsideStays 2 2 (K.store keeper.old) (K.store keeper.new) }
     {
         self.set_limit(keeper, value)
             .map_err(|_| CounterFault::Store)

@@ -1,5 +1,5 @@
 -- The coordinator's book: one entry for each meter, the k-th with the address k.
-use Rattle.std.specs.Prelude.{ℕ, ◌+◌, ◌==◌, ◌&&◌, ◌||◌, nat_lt, Bool, true, false, nat_eq, if◌then◌else◌, List, [], ◌∷◌, ◌++◌, length, take, drop, set, slice_index, Option, Some, None, is_some, Result, Ok, Err, refl}
+use Rattle.std.specs.Prelude.{◌≡◌, ℕ, ◌+◌, ◌==◌, ◌&&◌, ◌||◌, nat_lt, Bool, true, false, nat_eq, if◌then◌else◌, List, [], ◌∷◌, ◌++◌, length, take, drop, set, slice_index, Option, Some, None, is_some, Result, Ok, Err, refl}
 use Rattle.std.specs.Option.{option_map, option_map_or, option_eq}
 use Rattle.std.specs.Cmp.Lexicographic.{pointwise}
 use mathlib.Core.Bool.{beq}
@@ -8,6 +8,7 @@ use Rattle.byteorder.specs.Endian.{big_number, big_bytes}
 use Rattle.plc_base.specs.Keeper.{Records, Write}
 use Rattle.plc_base.specs.SlotTables as slots
 use Rattle.plc_base.specs.Grant.{Granted, key_code}
+pub use Rattle.plc_base.specs.Addresses.{eui_number}
 use Rattle.plc_base.specs.declared.address.Eui.{Eui}
 use Rattle.plc_base.specs.declared.key.Key.{Key}
 use Rattle.group_keys.specs.Fields.{key_in, held_in, held_octets, flag_in, flag_octet}
@@ -27,10 +28,6 @@ book_code =
     (λ e. (e.eui.0, (e.psk, (e.allowed, (e.issued0, e.issued1)))))
     (λ t. record { eui = record { 0 = t.0 }; psk = t.1.0; allowed = t.1.1.0; issued0 = t.1.1.1.0; issued1 = t.1.1.1.1 })
     (λ _. refl))
-
--- the number that an EUI is
-abbrev pub eui_number : Eui → ℕ
-eui_number eui = big_number 8 eui.0
 
 -- # The record: EUI, pair key, address, whether it is allowed, and the two keys that may be issued
 
@@ -170,10 +167,43 @@ abbrev pub changing_result : Book → Result BookEntry BookFault → Bool → Re
 changing_result book (Ok entry) done = if done then Ok (place_for book entry.eui + 1) else Err Store
 changing_result book (Err fault) done = Err fault
 
+-- The calls `allow`, `kick` and `issue`: the put, the book afterwards, and the answer.
+
+abbrev pub allow_write : Book → Eui → Key → Option Write
+allow_write book eui psk = changing_write book (allow_change book eui psk)
+
+abbrev pub allow_after : Book → Eui → Key → Bool → Book
+allow_after book eui psk done = changing_after book (allow_change book eui psk) done
+
+abbrev pub allow_result : Book → Eui → Key → Bool → Result ℕ BookFault
+allow_result book eui psk done = changing_result book (allow_change book eui psk) done
+
+abbrev pub kick_write : Book → Eui → Option Write
+kick_write book eui = changing_write book (kick_change book eui)
+
+abbrev pub kick_after : Book → Eui → Bool → Book
+kick_after book eui done = changing_after book (kick_change book eui) done
+
+abbrev pub kick_result : Book → Eui → Bool → Result ℕ BookFault
+kick_result book eui done = changing_result book (kick_change book eui) done
+
+abbrev pub issue_write : Book → Eui → Granted → Option Write
+issue_write book eui granted = changing_write book (issue_change book eui granted)
+
+abbrev pub issue_after : Book → Eui → Granted → Bool → Book
+issue_after book eui granted done = changing_after book (issue_change book eui granted) done
+
 -- the same answer without the address
 abbrev pub done_result : Result ℕ BookFault → Result (Unit {0}) BookFault
 done_result (Ok address) = Ok tt
 done_result (Err fault) = Err fault
+
+abbrev pub issue_result : Book → Eui → Granted → Bool → Result (Unit {0}) BookFault
+issue_result book eui granted done = done_result (changing_result book (issue_change book eui granted) done)
+
+-- each meter that has an address keeps it
+abbrev pub AddressesStay : Book → Book → Type 0
+AddressesStay old new = (meter : Eui) (address : ℕ) → address_of old meter ≡ Some address → address_of new meter ≡ Some address
 
 -- whether no put of a call failed
 abbrev pub is_stored : {A : Type 0} → Result A BookFault → Bool

@@ -1,5 +1,5 @@
 -- The ring of a node: none, or its grant with the later changes.
-use Rattle.std.specs.Prelude.{◌≡◌, ℕ, Bool, true, false, ◌==◌, ◌&&◌, nat_lt, nat_le, if◌then◌else◌, List, ◌∷◌, ◌++◌, length, take, drop, replicate, slice_index, Option, Some, None, is_some, Result, Ok, Err}
+use Rattle.std.specs.Prelude.{◌≡◌, ◌⊎◌, ℕ, Bool, true, false, ◌==◌, ◌&&◌, nat_lt, nat_le, if◌then◌else◌, List, ◌∷◌, ◌++◌, length, take, drop, replicate, slice_index, Option, Some, None, is_some, Result, Ok, Err}
 use Rattle.std.specs.Option.{option_map, option_map_or, option_and_then}
 use Rattle.std.specs.Coded.{Coded, coded_option}
 use Rattle.std.specs.FinMap.{get}
@@ -63,6 +63,14 @@ opened records = ring_from (ring_at (get records ring_slot))
 -- What the ring holds is what the records give.
 pub record IsKept (ring : Ring) (records : Records) : Type 0 where
   pub stored : ring_at (get records ring_slot) ≡ Some ring
+
+-- the slot gives the ring that it gave in the records from before, or this one
+abbrev pub IsOldOrNewRing : Ring → Records → Records → Type 0
+IsOldOrNewRing ring old new = (ring_at (get new ring_slot) ≡ ring_at (get old ring_slot)) ⊎ (ring_at (get new ring_slot) ≡ Some ring)
+
+-- The same, where what the ring holds is what the new records give.
+abbrev pub IsOldRingOrKept : Ring → Records → Records → Type 0
+IsOldRingOrKept ring old new = (ring_at (get new ring_slot) ≡ ring_at (get old ring_slot)) ⊎ IsKept ring new
 
 -- the put of a ring
 abbrev pub ring_write : Ring → Option Write

@@ -1,11 +1,11 @@
 //! The coordinator's book of meters.
-ghost use Rattle.std.specs.Prelude.{◌≡◌, ◌⊎◌, ◌+◌, ◌<◌, ◌≤◌, true, ℕ, Ok, Some, is_ok, map, IfOk, IfErr, OnOk, OnErr, OnSome};
+ghost use Rattle.std.specs.Prelude.{◌≡◌, ◌+◌, ◌<◌, ◌≤◌, true, ℕ, Ok, Some, is_ok, map, IfOk, IfErr, OnOk, OnErr, OnSome};
 ghost use Rattle.std.specs.Bool.{OnTrue};
 ghost use Rattle.std.specs.Option.{option_map, option_and_then};
-ghost use Rattle.plc_base.specs.Keeper.{Stores, SameOutside};
-ghost use Rattle.plc_base.specs.SlotTables.{IsTable, IsGapless, IsReading, IsBad, opened, read_into};
+ghost use Rattle.plc_base.specs.Keeper.{Stores, OutsideStays, IsOldOrNew};
+ghost use Rattle.plc_base.specs.SlotTables.{IsTable, IsGapless, IsReading, IsBad, Reopens, ReopensInto, opened, read_into};
 ghost use Rattle.plc_base.specs.declared.address.Eui.{Eui};
-ghost use Rattle.group_keys.specs.KeyBook.{Book, entries, IsKept, eui_number, entry_for, address_of, is_allowed, issued_at, has_room, place_for, with_entry, change_write, allowed_one, allow_change, kick_change, issue_change, changing_result, changing_after, changing_write, done_result, is_stored};
+ghost use Rattle.group_keys.specs.KeyBook.{Book, entries, IsKept, AddressesStay, entry_for, holds, address_of, is_allowed, issued_at, has_room, place_for, with_entry, change_write, allowed_one, allow_result, allow_after, allow_write, kick_result, kick_after, kick_write, issue_result, issue_after, issue_write, is_stored};
 
 use crate::BookFault;
 use crate::fields::{HELD, flag_in, held_in, key_in, push_held};
@@ -58,7 +58,7 @@ impl SlotEntry for BookEntry {
     ghost keeps_key = { λ _. refl };
 
     fn key(&self) -> u64 {
-        BigEndian::read_u64(&self.eui.0)
+        self.eui.number()
     }
 
     fn slot(place: usize) -> u32 {
@@ -120,13 +120,6 @@ impl Model for KeyBook {
     ghost view = { λ b. b.table };
 }
 
-// The number that an EUI is.
-fn key_of(eui: &Eui) -> u64
-    ensures { result ≡ eui_number eui.now }
-{
-    BigEndian::read_u64(&eui.0)
-}
-
 // The address of the entry at a place.
 fn address_at(place: usize) -> Short
     requires { place < 999 }
@@ -144,9 +137,10 @@ impl KeyBook {
         ensures book { result ≡ opened entries (K.store keeper.now).records }
         ensures reading { IfOk result (λ book. IsReading entries book (K.store keeper.now).records) }
         ensures bad { IfErr result (λ bad. IsBad entries (K.store keeper.now).records bad.slot) }
-        ensures kept { IsGapless entries (K.store keeper.now).records → IfOk result (λ book. IsKept book (K.store keeper.now).records) }
+        ensures kept { IsGapless entries (K.store keeper.now).records
+            → IfOk result (λ book. IsKept book (K.store keeper.now).records) }
         // A book that was kept is opened again as it was.
-        ensures reopened { (book : Book) → IsTable entries book → IsKept book (K.store keeper.now).records → result ≡ Ok (map (λ entry. entry) book) }
+        ensures reopened { Reopens entries (K.store keeper.now).records result }
     {
         let table = SlotTable::open(keeper)?;
         Ok(KeyBook { table })
@@ -156,8 +150,9 @@ impl KeyBook {
     pub fn reload<K: Keeper>(&mut self, keeper: &K) -> Result<(), BadStore>
         ensures book { read_into result self.new ≡ opened entries (K.store keeper.now).records }
         ensures reading { OnOk result (IsReading entries self.new (K.store keeper.now).records) }
-        ensures kept { IsGapless entries (K.store keeper.now).records → OnOk result (IsKept self.new (K.store keeper.now).records) }
-        ensures reopened { (book : Book) → IsTable entries book → IsKept book (K.store keeper.now).records → (result ≡ Ok tt) × (self.new ≡ map (λ entry. entry) book) }
+        ensures kept { IsGapless entries (K.store keeper.now).records
+            → OnOk result (IsKept self.new (K.store keeper.now).records) }
+        ensures reopened { ReopensInto entries (K.store keeper.now).records result self.new }
     {
         self.table.reload(keeper)
     }
@@ -166,14 +161,14 @@ impl KeyBook {
     pub fn entry(&self, eui: Eui) -> Option<BookEntry>
         ensures { result ≡ entry_for self.now eui }
     {
-        self.table.find(key_of(&eui))
+        self.table.find(eui.number())
     }
 
     /// The address of a meter, None exactly where it is not known.
     pub fn address(&self, eui: Eui) -> Option<Short>
         ensures { result ≡ address_of self.now eui }
     {
-        let place = self.table.place_of(key_of(&eui))?;
+        let place = self.table.place_of(eui.number())?;
         Some(address_at(place))
     }
 
@@ -207,11 +202,29 @@ impl KeyBook {
         }
     }
 
+    /// The entries in the order of their slots: no two of one meter, and at most 999.
+    pub fn entries(&self) -> &[BookEntry]
+        ensures value { result.now ≡ self.now }
+        ensures table { IsTable entries self.now }
+    {
+        self.table.as_slice()
+    }
+
+    /// Whether the book has this very entry.
+    pub fn holds(&self, entry: &BookEntry) -> bool
+        ensures { result ≡ holds self.now entry.now }
+    {
+        match self.entry(entry.eui) {
+            Some(held) => held == *entry,
+            None => false,
+        }
+    }
+
     /// Whether there is a place for the entry of a meter: it is known, or fewer than 999 are.
     pub fn has_room(&self, eui: Eui) -> bool
         ensures { result ≡ has_room self.now eui }
     {
-        self.table.place_of(key_of(&eui)).is_some() || !self.table.is_full()
+        self.table.place_of(eui.number()).is_some() || !self.table.is_full()
     }
 
     /// Makes an entry the one of its meter, and answers the meter's address. It is stored first, where the book has not this
@@ -225,14 +238,14 @@ impl KeyBook {
         ensures book { OnOk result (self.new ≡ with_entry self.old entry) }
         ensures same { OnErr result (self.new ≡ self.old) }
         // The address of a meter never changes.
-        ensures addresses { (meter : Eui) (address : ℕ) → address_of self.old meter ≡ Some address → address_of self.new meter ≡ Some address }
+        ensures addresses { AddressesStay self.old self.new }
         ensures store { Stores (K.store keeper.old) (change_write self.old entry) (is_ok result) (K.store keeper.new) }
         ensures kept { OnOk result (IsKept self.new (K.store keeper.new).records) }
         // Whatever became of the put, the records are those of the book before or of the one after.
-        ensures either { IsKept self.old (K.store keeper.new).records ⊎ IsKept (with_entry self.old entry) (K.store keeper.new).records }
-        ensures elsewhere { SameOutside 0x1000 0x13E6 (K.store keeper.old).records (K.store keeper.new).records }
+        ensures either { IsOldOrNew IsKept self.old (with_entry self.old entry) (K.store keeper.new).records }
+        ensures elsewhere { OutsideStays 0x1000 0x13E6 (K.store keeper.old) (K.store keeper.new) }
     {
-        match self.table.place_of(key_of(&entry.eui)) {
+        match self.table.place_of(entry.eui.number()) {
             Some(place) => {
                 if self.table.get(place) == entry {
                     return Ok(address_at(place));
@@ -260,13 +273,13 @@ impl KeyBook {
         psk: &Key,
     ) -> Result<Short, BookFault>
         requires { IsKept self.old (K.store keeper.old).records }
-        ensures answer { result ≡ changing_result self.old (allow_change self.old eui psk.now) (is_stored result) }
-        ensures book { self.new ≡ changing_after self.old (allow_change self.old eui psk.now) (is_stored result) }
-        ensures addresses { (meter : Eui) (address : ℕ) → address_of self.old meter ≡ Some address → address_of self.new meter ≡ Some address }
-        ensures store { Stores (K.store keeper.old) (changing_write self.old (allow_change self.old eui psk.now)) (is_stored result) (K.store keeper.new) }
+        ensures answer { result ≡ allow_result self.old eui psk.now (is_stored result) }
+        ensures book { self.new ≡ allow_after self.old eui psk.now (is_stored result) }
+        ensures addresses { AddressesStay self.old self.new }
+        ensures store { Stores (K.store keeper.old) (allow_write self.old eui psk.now) (is_stored result) (K.store keeper.new) }
         ensures kept { OnTrue (is_stored result) (IsKept self.new (K.store keeper.new).records) }
-        ensures either { IsKept self.old (K.store keeper.new).records ⊎ IsKept (changing_after self.old (allow_change self.old eui psk.now) true) (K.store keeper.new).records }
-        ensures elsewhere { SameOutside 0x1000 0x13E6 (K.store keeper.old).records (K.store keeper.new).records }
+        ensures either { IsOldOrNew IsKept self.old (allow_after self.old eui psk.now true) (K.store keeper.new).records }
+        ensures elsewhere { OutsideStays 0x1000 0x13E6 (K.store keeper.old) (K.store keeper.new) }
     {
         if !self.has_room(eui) {
             return Err(BookFault::MetersFull);
@@ -291,13 +304,13 @@ impl KeyBook {
     /// used until it is opened again. After each error the book is as it was.
     pub fn kick<K: Keeper>(&mut self, keeper: &mut K, eui: Eui) -> Result<Short, BookFault>
         requires { IsKept self.old (K.store keeper.old).records }
-        ensures answer { result ≡ changing_result self.old (kick_change self.old eui) (is_stored result) }
-        ensures book { self.new ≡ changing_after self.old (kick_change self.old eui) (is_stored result) }
-        ensures addresses { (meter : Eui) (address : ℕ) → address_of self.old meter ≡ Some address → address_of self.new meter ≡ Some address }
-        ensures store { Stores (K.store keeper.old) (changing_write self.old (kick_change self.old eui)) (is_stored result) (K.store keeper.new) }
+        ensures answer { result ≡ kick_result self.old eui (is_stored result) }
+        ensures book { self.new ≡ kick_after self.old eui (is_stored result) }
+        ensures addresses { AddressesStay self.old self.new }
+        ensures store { Stores (K.store keeper.old) (kick_write self.old eui) (is_stored result) (K.store keeper.new) }
         ensures kept { OnTrue (is_stored result) (IsKept self.new (K.store keeper.new).records) }
-        ensures either { IsKept self.old (K.store keeper.new).records ⊎ IsKept (changing_after self.old (kick_change self.old eui) true) (K.store keeper.new).records }
-        ensures elsewhere { SameOutside 0x1000 0x13E6 (K.store keeper.old).records (K.store keeper.new).records }
+        ensures either { IsOldOrNew IsKept self.old (kick_after self.old eui true) (K.store keeper.new).records }
+        ensures elsewhere { OutsideStays 0x1000 0x13E6 (K.store keeper.old) (K.store keeper.new) }
     {
         let Some(entry) = self.allowed_one(eui) else {
             return Err(BookFault::NotAllowed);
@@ -324,13 +337,13 @@ impl KeyBook {
         grant: &Grant,
     ) -> Result<(), BookFault>
         requires { IsKept self.old (K.store keeper.old).records }
-        ensures answer { result ≡ done_result (changing_result self.old (issue_change self.old eui grant.now) (is_stored result)) }
-        ensures book { self.new ≡ changing_after self.old (issue_change self.old eui grant.now) (is_stored result) }
-        ensures addresses { (meter : Eui) (address : ℕ) → address_of self.old meter ≡ Some address → address_of self.new meter ≡ Some address }
-        ensures store { Stores (K.store keeper.old) (changing_write self.old (issue_change self.old eui grant.now)) (is_stored result) (K.store keeper.new) }
+        ensures answer { result ≡ issue_result self.old eui grant.now (is_stored result) }
+        ensures book { self.new ≡ issue_after self.old eui grant.now (is_stored result) }
+        ensures addresses { AddressesStay self.old self.new }
+        ensures store { Stores (K.store keeper.old) (issue_write self.old eui grant.now) (is_stored result) (K.store keeper.new) }
         ensures kept { OnTrue (is_stored result) (IsKept self.new (K.store keeper.new).records) }
-        ensures either { IsKept self.old (K.store keeper.new).records ⊎ IsKept (changing_after self.old (issue_change self.old eui grant.now) true) (K.store keeper.new).records }
-        ensures elsewhere { SameOutside 0x1000 0x13E6 (K.store keeper.old).records (K.store keeper.new).records }
+        ensures either { IsOldOrNew IsKept self.old (issue_after self.old eui grant.now true) (K.store keeper.new).records }
+        ensures elsewhere { OutsideStays 0x1000 0x13E6 (K.store keeper.old) (K.store keeper.new) }
     {
         let Some(entry) = self.allowed_one(eui) else {
             return Err(BookFault::NotAllowed);

@@ -3,8 +3,8 @@ ghost use Rattle.std.specs.FinMap.{get};
 ghost use Rattle.std.specs.Prelude.{◌≡◌, ◌⊎◌, ◌≤◌, true, Some, None, Ok, is_ok, is_some, IsSome, IfOk, OnOk, OnErr, length};
 ghost use Rattle.std.specs.Bool.{OnTrue};
 ghost use Rattle.std.specs.Option.{option_map};
-ghost use Rattle.plc_base.specs.Keeper.{Stores, SameOutside};
-ghost use Rattle.group_keys.specs.KeyRing.{IsKept, opened, ring_at, ring_slot, ring_in, grant_in, ring_octets, ring_write, key_in_ring, with_key, with_active, stored_result, activate_result, activate_write, activate_after, is_stored};
+ghost use Rattle.plc_base.specs.Keeper.{Stores, OutsideStays};
+ghost use Rattle.group_keys.specs.KeyRing.{IsKept, IsOldRingOrKept, IsOldOrNewRing, opened, ring_at, ring_slot, ring_in, grant_in, ring_octets, ring_write, key_in_ring, with_key, with_active, stored_result, activate_result, activate_write, activate_after, is_stored};
 
 use crate::RingFault;
 use crate::fields::{HELD, held_in, push_held};
@@ -94,9 +94,8 @@ fn ring_in(octets: &[u8]) -> Option<Option<Grant>>
 fn store_ring<K: Keeper>(keeper: &mut K, grant: &Option<Grant>) -> Result<(), Failed>
     ensures store { Stores (K.store keeper.old) (ring_write grant.now) (is_ok result) (K.store keeper.new) }
     ensures stored { OnOk result (ring_at (get (K.store keeper.new).records ring_slot) ≡ Some grant.now) }
-    ensures either { (ring_at (get (K.store keeper.new).records ring_slot) ≡ ring_at (get (K.store keeper.old).records ring_slot))
-        ⊎ (ring_at (get (K.store keeper.new).records ring_slot) ≡ Some grant.now) }
-    ensures elsewhere { SameOutside 1 1 (K.store keeper.old).records (K.store keeper.new).records }
+    ensures either { IsOldOrNewRing grant.now (K.store keeper.old).records (K.store keeper.new).records }
+    ensures elsewhere { OutsideStays 1 1 (K.store keeper.old) (K.store keeper.new) }
 {
     keeper.put(RING_SLOT, &ring_record(grant))
 }
@@ -157,9 +156,8 @@ impl KeyRing {
         ensures store { Stores (K.store keeper.old) (ring_write grant) (is_ok result) (K.store keeper.new) }
         ensures kept { OnOk result (IsKept self.new (K.store keeper.new).records) }
         // Whatever became of the put, the slot gives the ring that it gave before or this one.
-        ensures either { (ring_at (get (K.store keeper.new).records ring_slot) ≡ ring_at (get (K.store keeper.old).records ring_slot))
-            ⊎ IsKept grant (K.store keeper.new).records }
-        ensures elsewhere { SameOutside 1 1 (K.store keeper.old).records (K.store keeper.new).records }
+        ensures either { IsOldRingOrKept grant (K.store keeper.old).records (K.store keeper.new).records }
+        ensures elsewhere { OutsideStays 1 1 (K.store keeper.old) (K.store keeper.new) }
     {
         store_ring(keeper, &grant)?;
         self.grant = grant;
@@ -175,9 +173,8 @@ impl KeyRing {
         ensures same { OnErr result (self.new ≡ self.old) }
         ensures store { Stores (K.store keeper.old) (ring_write (Some grant.now)) (is_ok result) (K.store keeper.new) }
         ensures kept { OnOk result (IsKept self.new (K.store keeper.new).records) }
-        ensures either { (ring_at (get (K.store keeper.new).records ring_slot) ≡ ring_at (get (K.store keeper.old).records ring_slot))
-            ⊎ IsKept (Some grant.now) (K.store keeper.new).records }
-        ensures elsewhere { SameOutside 1 1 (K.store keeper.old).records (K.store keeper.new).records }
+        ensures either { IsOldRingOrKept (Some grant.now) (K.store keeper.old).records (K.store keeper.new).records }
+        ensures elsewhere { OutsideStays 1 1 (K.store keeper.old) (K.store keeper.new) }
     {
         self.keep(keeper, Some(*grant))
             .map_err(|_| RingFault::Store)
@@ -194,9 +191,8 @@ impl KeyRing {
         ensures same { OnErr result (self.new ≡ self.old) }
         ensures store { Stores (K.store keeper.old) (ring_write (with_key self.old index key.now)) (is_ok result) (K.store keeper.new) }
         ensures kept { OnOk result (IsKept self.new (K.store keeper.new).records) }
-        ensures either { (ring_at (get (K.store keeper.new).records ring_slot) ≡ ring_at (get (K.store keeper.old).records ring_slot))
-            ⊎ IsKept (with_key self.old index key.now) (K.store keeper.new).records }
-        ensures elsewhere { SameOutside 1 1 (K.store keeper.old).records (K.store keeper.new).records }
+        ensures either { IsOldRingOrKept (with_key self.old index key.now) (K.store keeper.old).records (K.store keeper.new).records }
+        ensures elsewhere { OutsideStays 1 1 (K.store keeper.old) (K.store keeper.new) }
     {
         let grant = self.grant.map(|grant| grant.with_key(index, key));
         self.keep(keeper, grant).map_err(|_| RingFault::Store)
@@ -211,10 +207,10 @@ impl KeyRing {
         ensures answer { result ≡ activate_result self.old index (is_stored result) }
         ensures ring { self.new ≡ activate_after self.old index (is_stored result) }
         ensures store { Stores (K.store keeper.old) (activate_write self.old index) (is_stored result) (K.store keeper.new) }
-        ensures kept { IsKept self.old (K.store keeper.old).records → OnTrue (is_stored result) (IsKept self.new (K.store keeper.new).records) }
-        ensures either { (ring_at (get (K.store keeper.new).records ring_slot) ≡ ring_at (get (K.store keeper.old).records ring_slot))
-            ⊎ IsKept (with_active self.old index) (K.store keeper.new).records }
-        ensures elsewhere { SameOutside 1 1 (K.store keeper.old).records (K.store keeper.new).records }
+        ensures kept { IsKept self.old (K.store keeper.old).records
+            → OnTrue (is_stored result) (IsKept self.new (K.store keeper.new).records) }
+        ensures either { IsOldRingOrKept (with_active self.old index) (K.store keeper.old).records (K.store keeper.new).records }
+        ensures elsewhere { OutsideStays 1 1 (K.store keeper.old) (K.store keeper.new) }
     {
         if self.key(index).is_none() {
             return Err(RingFault::NotHeld);
@@ -232,9 +228,8 @@ impl KeyRing {
         ensures same { OnErr result (self.new ≡ self.old) }
         ensures store { Stores (K.store keeper.old) (ring_write (with_active self.old index)) (is_ok result) (K.store keeper.new) }
         ensures kept { OnOk result (IsKept self.new (K.store keeper.new).records) }
-        ensures either { (ring_at (get (K.store keeper.new).records ring_slot) ≡ ring_at (get (K.store keeper.old).records ring_slot))
-            ⊎ IsKept (with_active self.old index) (K.store keeper.new).records }
-        ensures elsewhere { SameOutside 1 1 (K.store keeper.old).records (K.store keeper.new).records }
+        ensures either { IsOldRingOrKept (with_active self.old index) (K.store keeper.old).records (K.store keeper.new).records }
+        ensures elsewhere { OutsideStays 1 1 (K.store keeper.old) (K.store keeper.new) }
     {
         let grant = self.grant.map(|grant| grant.with_active(index));
         self.keep(keeper, grant)
@@ -249,9 +244,8 @@ impl KeyRing {
         ensures same { OnErr result (self.new ≡ self.old) }
         ensures store { Stores (K.store keeper.old) (ring_write None) (is_ok result) (K.store keeper.new) }
         ensures kept { OnOk result (IsKept self.new (K.store keeper.new).records) }
-        ensures either { (ring_at (get (K.store keeper.new).records ring_slot) ≡ ring_at (get (K.store keeper.old).records ring_slot))
-            ⊎ IsKept None (K.store keeper.new).records }
-        ensures elsewhere { SameOutside 1 1 (K.store keeper.old).records (K.store keeper.new).records }
+        ensures either { IsOldRingOrKept None (K.store keeper.old).records (K.store keeper.new).records }
+        ensures elsewhere { OutsideStays 1 1 (K.store keeper.old) (K.store keeper.new) }
     {
         self.keep(keeper, None).map_err(|_| RingFault::Store)
     }

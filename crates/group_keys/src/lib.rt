@@ -5,6 +5,7 @@ mod fault;
 mod fields;
 mod key_book;
 mod key_ring;
+pub mod laws;
 #[cfg(test)]
 mod tests;
 

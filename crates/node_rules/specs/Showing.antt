@@ -1,25 +1,14 @@
 -- What is shown of a node.
-use Rattle.std.specs.Prelude.{ℕ, true, false, nat_lt, List, [], ◌∷◌, map, replicate, None, if◌then◌else◌}
+use Rattle.std.specs.Prelude.{true, false, [], map, replicate, None}
 use Rattle.std.specs.Option.{option_map, option_map_or, option_and_then}
 use Rattle.plc_base.specs.Grant.{Granted}
+pub use Rattle.plc_base.specs.Orders.{placed_by, ordered_by}
 use Rattle.frame_counters.specs.declared.peer_marks.Peer.{Peer}
 use Rattle.routing_set.specs.declared.entry.RoutingEntry.{RoutingEntry}
 use Rattle.node_rules.specs.Memory.{StationMemory, Node, address_of}
 use Rattle.node_rules.specs.declared.shown.Shown.{Shown}
 use Rattle.node_rules.specs.declared.shown.ShownRoute.{ShownRoute}
 use Rattle.node_rules.specs.declared.shown.ShownPeer.{ShownPeer}
-
--- # In the order of addresses
-
--- an item before the first one of a higher number
-abbrev pub placed_by : {A : Type 0} → (A → ℕ) → A → List A → List A
-placed_by number x [] = x ∷ []
-placed_by number x (y ∷ ys) = if nat_lt (number x) (number y) then x ∷ (y ∷ ys) else y ∷ placed_by number x ys
-
--- a list in the order of a number
-abbrev pub ordered_by : {A : Type 0} → (A → ℕ) → List A → List A
-ordered_by number [] = []
-ordered_by number (x ∷ xs) = placed_by number x (ordered_by number xs)
 
 -- a rank, with its next hop where the route is valid
 abbrev pub shown_route : RoutingEntry → ShownRoute

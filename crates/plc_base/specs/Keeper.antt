@@ -86,6 +86,14 @@ Stores old (Some write) done new = Puts old write.slot write.octets done new
 abbrev pub SameOutside : ℕ → ℕ → Records → Records → Type 0
 SameOutside first last old new = (slot : ℕ) → (slot < first) ⊎ (last < slot) → get new slot ≡ get old slot
 
+-- whatever became of a put, the records are those of the value before or those of the value after
+abbrev pub IsOldOrNew : {A : Type 0} → (A → Records → Type 0) → A → A → Records → Type 0
+IsOldOrNew Kept old new records = Kept old records ⊎ Kept new records
+
+-- no slot of a store outside these has changed
+abbrev pub OutsideStays : ℕ → ℕ → Store → Store → Type 0
+OutsideStays first last old new = SameOutside first last old.records new.records
+
 -- whether the put of a call succeeds, where the cut is told
 abbrev pub write_succeeds : Option Cut → Option Write → Bool
 write_succeeds cut None = true

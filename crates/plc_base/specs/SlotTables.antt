@@ -1,5 +1,5 @@
 -- A table whose entries stand in a row of slots, read from the first slot to the first empty one.
-use Rattle.std.specs.Prelude.{◌≡◌, ◌≢◌, ◌⊎◌, ℕ, zero, suc, ◌+◌, ◌-◌, ◌<◌, ◌≤◌, ◌==◌, Bool, List, [], ◌∷◌, ◌++◌, length, slice_get, position, is_some, if◌then◌else◌, AllPairs, Option, Some, None, Result, Ok, Err, IfSome, IsSome}
+use Rattle.std.specs.Prelude.{◌≡◌, ◌≢◌, ◌⊎◌, ℕ, zero, suc, ◌+◌, ◌-◌, ◌<◌, ◌≤◌, ◌==◌, Bool, List, [], ◌∷◌, ◌++◌, length, map, slice_get, position, is_some, if◌then◌else◌, AllPairs, Option, Some, None, Result, Ok, Err, IfSome, IsSome}
 use Rattle.std.specs.Option.{option_map, option_map_or, option_and_then}
 use Rattle.std.specs.FinMap.{get}
 use Rattle.plc_base.specs.declared.keeper.BadStore.{BadStore}
@@ -82,6 +82,15 @@ opened layout records = opened_from layout layout.slots 0 records []
 abbrev pub read_into : {A : Type 0} → Result (Unit {0}) BadStore → List A → Result (List A) BadStore
 read_into (Ok _) table = Ok table
 read_into (Err bad) table = Err bad
+
+-- a table that was stored is opened again, each entry at rest
+abbrev pub Reopens : {A : Type 0} → Layout A → Records → Result (List A) BadStore → Type 0
+Reopens {A} layout records result = (table : List A) → IsTable layout table → IsStored layout table records → result ≡ Ok (map layout.rest table)
+
+-- so it is read into a table
+abbrev pub ReopensInto : {A : Type 0} → Layout A → Records → Result (Unit {0}) BadStore → List A → Type 0
+ReopensInto {A} layout records result new =
+    (table : List A) → IsTable layout table → IsStored layout table records → (result ≡ Ok tt) × (new ≡ map layout.rest table)
 
 -- The same, where every slot has room in the table.
 pub record IsTableOf {A : Type 0} (layout : Layout A) (room : ℕ) (table : List A) : Type 0 where

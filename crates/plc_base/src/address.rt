@@ -1,7 +1,8 @@
 //! The addresses of nodes.
 ghost use Rattle.std.specs.Prelude.{◌≡◌, ◌↔◌, IsSome, IfSome};
-ghost use Rattle.plc_base.specs.Addresses.{IsAddress};
+ghost use Rattle.plc_base.specs.Addresses.{IsAddress, eui_number};
 
+use byteorder::{BigEndian, ByteOrder};
 use std::marker::Model;
 
 /// The identifier of the personal area network that every node of this profile belongs to.
@@ -10,6 +11,15 @@ pub const PAN: u16 = 0x781D;
 /// An EUI-64: the identity that a device has from its maker, in the order of its text (IEEE 802.15.4-2006, 7.2.1.4).
 #[derive(Clone, Copy, Debug, PartialEq, Eq, PartialOrd, Ord, Hash)]
 pub struct Eui(pub [u8; 8]);
+
+impl Eui {
+    /// The identity as a number, the first octet highest.
+    pub fn number(&self) -> u64
+        ensures { result ≡ eui_number self.now }
+    {
+        BigEndian::read_u64(&self.0)
+    }
+}
 
 /// The short address of one node: any number of 16 bits but FFFE and FFFF, which name no node (IEEE 802.15.4-2006, 7.2.1.4).
 ///
@@ -50,5 +60,13 @@ impl Short {
         ensures valid { IsAddress result }
     {
         self.number
+    }
+
+    /// The number as the key of a table's entry.
+    pub fn key(self) -> u64
+        ensures value { result ≡ self }
+        ensures valid { IsAddress result }
+    {
+        u64::from(self.number)
     }
 }

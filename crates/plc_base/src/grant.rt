@@ -1,5 +1,5 @@
 //! What a joining node is given.
-ghost use Rattle.std.specs.Prelude.{◌≡◌, ◌≤◌, true, is_some};
+ghost use Rattle.std.specs.Prelude.{◌≡◌, ◌≤◌, true, is_some, Some};
 ghost use Rattle.plc_base.specs.Grant.{key_at, keyed};
 
 use crate::{Key, Short};
@@ -41,6 +41,13 @@ impl Grant {
         ensures { result ≡ key_at self.now index }
     {
         self.keys[usize::from(index)]
+    }
+
+    /// The key that seals: the one at the active index.
+    pub fn sealing_key(&self) -> Key
+        ensures { key_at self.now self.now.active ≡ Some result }
+    {
+        self.key(self.active).unwrap()
     }
 
     /// The grant with a key at an index, 0 or 1.

@@ -1,5 +1,8 @@
 //! Octet strings of bounded length, which take no memory.
-ghost use Rattle.std.specs.Prelude.{◌≡◌, ◌≤◌, ◌<◌, ◌+◌, ◌++◌, ◌∷◌, ◌↔◌, List, [], length, IsTrue};
+ghost use Rattle.std.specs.Prelude.{◌≡◌, ◌≤◌, ◌<◌, ◌+◌, ◌++◌, ◌∷◌, ◌↔◌, List, [], length, IsTrue, nat_eq};
+ghost use Rattle.std.proofs.Common.{rules};
+ghost use Rattle.std.specs.Cmp.Lexicographic.{pointwise};
+ghost use Rattle.std.specs.Cmp.Rules.{comparing};
 ghost use Rattle.byteorder.specs.Endian.{big_bytes};
 
 use arrayvec::ArrayVec;
@@ -108,7 +111,17 @@ impl<const N: usize> Octets<N> {
         self.append(&octets);
     }
 
-    /// The same octets again.
+    /// Appends a number of four octets, the highest first.
+    pub fn push_be_u32(&mut self, number: u32)
+        requires { length self.old + 4 ≤ N }
+        ensures { self.new ≡ self.old ++ big_bytes 4 number }
+    {
+        let mut octets = [0; 4];
+        BigEndian::write_u32(&mut octets, number);
+        self.append(&octets);
+    }
+
+    /// The same octets again. Unlike `Clone` it has no answer for want of memory, since it takes none.
     pub fn copied(&self) -> Octets<N>
         ensures { result ≡ self.now }
     {
@@ -123,4 +136,18 @@ impl<const N: usize> Default for Octets<N> {
     {
         Octets::new()
     }
+}
+
+impl<const N: usize> PartialEq for Octets<N> {
+    ghost eq = { pointwise nat_eq };
+
+    ghost laws = { Prim.search (comparing, rules) };
+
+    fn eq(&self, other: &Octets<N>) -> bool {
+        self.octets() == other.octets()
+    }
+}
+
+impl<const N: usize> Eq for Octets<N> {
+    ghost laws = { Prim.search (comparing, rules) };
 }

@@ -1,12 +1,12 @@
 //! The frames that a node sends.
-ghost use Rattle.std.specs.Prelude.{◌≡◌, ◌<◌, ◌++◌, ◌∷◌, [], length};
+ghost use Rattle.std.specs.Prelude.{◌≡◌, ◌<◌, ◌++◌, ◌∷◌, [], length, None};
 
 use crate::{FrameBuf, Key, TagList};
 use arrayvec::ArrayVec;
 use std::marker::Model;
 
 /// A frame to be sent, with what its sender knows of it.
-#[derive(Debug, Drop, Default)]
+#[derive(Debug, Drop)]
 pub struct OutFrame {
     /// The octets of the frame.
     pub octets: FrameBuf,
@@ -14,6 +14,19 @@ pub struct OutFrame {
     pub note: u32,
     /// The group key that sealed the frame, None for a plain one.
     pub key: Option<Key>,
+}
+
+impl Default for OutFrame {
+    /// A blank, for an unused place of a list.
+    fn default() -> OutFrame
+        ensures { result ≡ record { octets = []; note = 0; key = None } }
+    {
+        OutFrame {
+            octets: FrameBuf::new(),
+            note: 0,
+            key: None,
+        }
+    }
 }
 
 /// The frames of one step, at most 24. A contract sees the list of them.
@@ -90,5 +103,14 @@ impl Out {
     {
         self.frames.clear();
         self.tags.clear();
+    }
+}
+
+impl Default for Out {
+    /// Nothing.
+    fn default() -> Out
+        ensures { result ≡ record { frames = []; tags = record { made = []; opened = [] } } }
+    {
+        Out::new()
     }
 }

@@ -1,8 +1,8 @@
 //! A table whose entries stand in a row of slots of a keeper.
-ghost use Rattle.std.specs.Prelude.{◌≡◌, ◌⊎◌, ◌==◌, ◌<◌, ◌≤◌, ◌+◌, ◌∷◌, ◌++◌, [], List, length, map, set, is_ok, is_some, slice_get, IsTrue, IfSome, MatchOption, IfOk, IfErr, OnOk, OnErr, Some, Ok};
+ghost use Rattle.std.specs.Prelude.{◌≡◌, ◌==◌, ◌<◌, ◌≤◌, ◌+◌, ◌∷◌, ◌++◌, [], List, length, map, set, is_ok, is_some, slice_get, IsTrue, IfSome, MatchOption, IfOk, IfErr, OnOk, OnErr, Some, Ok};
 ghost use Rattle.std.specs.Prelude.{ℕ};
-ghost use Rattle.plc_base.specs.Keeper.{IsSlot, Records, Puts, Stores, SameOutside};
-ghost use Rattle.plc_base.specs.SlotTables.{Layout, slot_of, IsTable, IsFree, IsStored, IsGapless, IsReading, IsBad, place_of, entry_of, entry_write, last_of, opened, read_into};
+ghost use Rattle.plc_base.specs.Keeper.{IsSlot, Records, Puts, Stores, OutsideStays, IsOldOrNew};
+ghost use Rattle.plc_base.specs.SlotTables.{Layout, slot_of, IsTable, IsFree, IsStored, IsGapless, IsReading, IsBad, Reopens, ReopensInto, place_of, entry_of, entry_write, last_of, opened, read_into};
 
 use crate::{BadStore, Failed, Keeper, Record};
 use arrayvec::ArrayVec;
@@ -73,8 +73,7 @@ impl<E: SlotEntry, const N: usize> SlotTable<E, N> {
         ensures kept { IsGapless E.layout (K.store keeper.now).records
             → IfOk result (λ table. IsStored E.layout table (K.store keeper.now).records) }
         // A table that was stored is opened again, each entry at rest.
-        ensures reopened { (table : List E) → IsTable E.layout table → IsStored E.layout table (K.store keeper.now).records
-            → result ≡ Ok (map E.layout.rest table) }
+        ensures reopened { Reopens E.layout (K.store keeper.now).records result }
     {
         let mut entries: ArrayVec<E, N> = ArrayVec::new();
         match read_all(&mut entries, keeper) {
@@ -88,9 +87,9 @@ impl<E: SlotEntry, const N: usize> SlotTable<E, N> {
     pub fn reload<K: Keeper>(&mut self, keeper: &K) -> Result<(), BadStore>
         ensures table { read_into result self.new ≡ opened E.layout (K.store keeper.now).records }
         ensures reading { OnOk result (IsReading E.layout self.new (K.store keeper.now).records) }
-        ensures kept { IsGapless E.layout (K.store keeper.now).records → OnOk result (IsStored E.layout self.new (K.store keeper.now).records) }
-        ensures reopened { (table : List E) → IsTable E.layout table → IsStored E.layout table (K.store keeper.now).records
-            → (result ≡ Ok tt) × (self.new ≡ map E.layout.rest table) }
+        ensures kept { IsGapless E.layout (K.store keeper.now).records
+            → OnOk result (IsStored E.layout self.new (K.store keeper.now).records) }
+        ensures reopened { ReopensInto E.layout (K.store keeper.now).records result self.new }
     {
         self.entries.clear();
         read_all(&mut self.entries, keeper)
@@ -131,7 +130,8 @@ impl<E: SlotEntry, const N: usize> SlotTable<E, N> {
         ensures place { result ≡ place_of E.layout self.now key }
         ensures within { IfSome result (λ place. place < length self.now) }
         ensures short { length self.now ≤ E.layout.slots }
-        ensures free { MatchOption result (IsFree E.layout self.now (length self.now) key) (λ place. IsFree E.layout self.now place key) }
+        ensures free { MatchOption result (IsFree E.layout self.now (length self.now) key)
+            (λ place. IsFree E.layout self.now place key) }
     {
         place_of(&self.entries, key)
     }
@@ -171,8 +171,8 @@ impl<E: SlotEntry, const N: usize> SlotTable<E, N> {
         ensures store { Stores (K.store keeper.old) (Some (entry_write E.layout place entry)) (is_ok result) (K.store keeper.new) }
         ensures kept { OnOk result (IsStored E.layout self.new (K.store keeper.new).records) }
         // Whatever became of the put, the records are those of the table before or of the one after.
-        ensures either { IsStored E.layout self.old (K.store keeper.new).records ⊎ IsStored E.layout (set self.old place entry) (K.store keeper.new).records }
-        ensures elsewhere { SameOutside E.layout.first (last_of E.layout) (K.store keeper.old).records (K.store keeper.new).records }
+        ensures either { IsOldOrNew (IsStored E.layout) self.old (set self.old place entry) (K.store keeper.new).records }
+        ensures elsewhere { OutsideStays E.layout.first (last_of E.layout) (K.store keeper.old) (K.store keeper.new) }
     {
         let _ = &self.entries;
         store_entry(keeper, place, &entry)?;
@@ -193,8 +193,8 @@ impl<E: SlotEntry, const N: usize> SlotTable<E, N> {
         ensures same { OnErr result (self.new ≡ self.old) }
         ensures store { Stores (K.store keeper.old) (Some (entry_write E.layout (length self.old) entry)) (is_ok result) (K.store keeper.new) }
         ensures kept { OnOk result (IsStored E.layout self.new (K.store keeper.new).records) }
-        ensures either { IsStored E.layout self.old (K.store keeper.new).records ⊎ IsStored E.layout (self.old ++ entry ∷ []) (K.store keeper.new).records }
-        ensures elsewhere { SameOutside E.layout.first (last_of E.layout) (K.store keeper.old).records (K.store keeper.new).records }
+        ensures either { IsOldOrNew (IsStored E.layout) self.old (self.old ++ entry ∷ []) (K.store keeper.new).records }
+        ensures elsewhere { OutsideStays E.layout.first (last_of E.layout) (K.store keeper.old) (K.store keeper.new) }
     {
         store_entry(keeper, self.entries.len(), &entry)?;
         self.entries.push(entry);
@@ -255,7 +255,7 @@ fn store_entry<E: SlotEntry, K: Keeper>(
     requires storable { IsTrue (E.layout.storable entry.now) }
     ensures store { Puts (K.store keeper.old) (slot_of E.layout place) (E.layout.octets place entry.now) (is_ok result) (K.store keeper.new) }
     ensures reads_back { E.layout.read place (E.layout.octets place entry.now) ≡ Some (E.layout.rest entry.now) }
-    ensures elsewhere { SameOutside E.layout.first (last_of E.layout) (K.store keeper.old).records (K.store keeper.new).records }
+    ensures elsewhere { OutsideStays E.layout.first (last_of E.layout) (K.store keeper.old) (K.store keeper.new) }
 {
     keeper.put(E::slot(place), &entry.record(place))
 }

@@ -1,5 +1,6 @@
 //! The tags that authenticate the messages of a joining, by what they were computed over.
 ghost use Rattle.std.specs.Prelude.{◌≡◌, ◌<◌, ◌++◌, ◌∷◌, [], length};
+ghost use Rattle.plc_base.specs.Tags.{IsTag, blank_tag, tag_octets};
 
 use crate::{Eui, Octets, Rand};
 use arrayvec::ArrayVec;
@@ -8,9 +9,12 @@ use std::marker::Model;
 /// What a tag was computed over: at most 64 octets.
 pub type TagText = Octets<64>;
 
+/// The spelling of a tag: at most 158 octets.
+pub type TagOctets = Octets<158>;
+
 /// A tag between a joining node and the coordinator, named by the node and by what the tag was computed over (RFC 4764, 3.2
 /// and 3.3).
-#[derive(Debug, Drop)]
+#[derive(Debug, Drop, PartialEq, Eq)]
 pub enum PairTag {
     /// MAC_P: by it the node shows that it holds the pair key.
     MacP {
@@ -43,11 +47,80 @@ pub enum PairTag {
 
 impl Default for PairTag {
     /// A blank, for an unused place of a list.
-    fn default() -> PairTag {
+    fn default() -> PairTag
+        ensures { result ≡ blank_tag }
+    {
         PairTag::MacS {
             eui: Eui([0; 8]),
             text: TagText::new(),
         }
+    }
+}
+
+impl PairTag {
+    /// The same tag again.
+    pub fn copied(&self) -> PairTag
+        ensures { result ≡ self.now }
+    {
+        match self {
+            PairTag::MacP { eui, text } => PairTag::MacP {
+                eui: *eui,
+                text: text.copied(),
+            },
+            PairTag::MacS { eui, text } => PairTag::MacS {
+                eui: *eui,
+                text: text.copied(),
+            },
+            PairTag::Channel {
+                eui,
+                rand_p,
+                nonce,
+                header,
+                text,
+            } => PairTag::Channel {
+                eui: *eui,
+                rand_p: *rand_p,
+                nonce: *nonce,
+                header: header.copied(),
+                text: text.copied(),
+            },
+        }
+    }
+
+    /// A spelling that no other tag has, so that tags can be keys of a map: which tag it is, and what it was computed over.
+    pub fn spelling(&self) -> TagOctets
+        ensures octets { result ≡ tag_octets self.now }
+        ensures sound { IsTag self.now }
+    {
+        let mut octets = TagOctets::new();
+        match self {
+            PairTag::MacP { eui, text } => {
+                octets.push(0);
+                octets.append(&eui.0);
+                octets.append(text.octets());
+            }
+            PairTag::MacS { eui, text } => {
+                octets.push(1);
+                octets.append(&eui.0);
+                octets.append(text.octets());
+            }
+            PairTag::Channel {
+                eui,
+                rand_p,
+                nonce,
+                header,
+                text,
+            } => {
+                octets.push(2);
+                octets.append(&eui.0);
+                octets.append(&rand_p.0);
+                octets.push_be_u32(*nonce);
+                octets.push(header.len() as u8);
+                octets.append(header.octets());
+                octets.append(text.octets());
+            }
+        }
+        octets
     }
 }
 
@@ -101,7 +174,9 @@ impl PairTags {
 
 impl Default for PairTags {
     /// No tag.
-    fn default() -> PairTags {
+    fn default() -> PairTags
+        ensures { result ≡ [] }
+    {
         PairTags::new()
     }
 }
@@ -137,7 +212,9 @@ impl TagList {
 
 impl Default for TagList {
     /// No tags.
-    fn default() -> TagList {
+    fn default() -> TagList
+        ensures { result ≡ record { made = []; opened = [] } }
+    {
         TagList::new()
     }
 }

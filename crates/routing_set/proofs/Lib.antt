@@ -11,3 +11,5 @@ pub mod Histories
 pub mod Forgetting
 pub mod Beside
 pub mod Resting
+pub mod Losing
+pub mod Leading

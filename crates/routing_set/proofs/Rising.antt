@@ -181,6 +181,18 @@ half_rises r at now h dest = by_gone (forgotten r at now)
     by_gone None = inl refl
     by_gone (Some g) = found_same r (half_of r (Some g)) dest refl (floor_up r.floors g (class_of dest) h.sixteen)
 
+-- # What came is found
+
+-- the rank of the entry that came, and its route
+pub entered_found : (r : Routing) (e : RoutingEntry) (now : ℕ) → IsRouting r → is_full r e.address now ≡ false
+    → (rank_of (entered r e now) e.address ≡ Some e.rank) × (route_of (entered r e now) e.address ≡ e.route)
+entered_found r e now h room =
+    let k = steps r e now h room in
+    let here = k.1.came.here in (
+      rank-by (entered r e now) e.address ∙ ap (option_map (λ (x : RoutingEntry). x.rank)) here,
+      route-by (entered r e now) e.address ∙ ap (option_and_then (λ (x : RoutingEntry). x.route)) here,
+    )
+
 -- # Routes
 
 -- a route to an address is as before or has ended, or is the one of the entry that came

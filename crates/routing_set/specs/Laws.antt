@@ -1,11 +1,14 @@
 -- What holds of ranks, routes and floors, whatever is offered.
-use Rattle.std.specs.Prelude.{◌≡◌, ◌⊎◌, ℕ, Bool, true, false, List, slice_get, Some, None, MatchOption}
+use Rattle.std.specs.Prelude.{◌≡◌, ◌⊎◌, ℕ, ◌<◌, ◌≤◌, ◌^◌, Bool, true, false, ◌==◌, ◌&&◌, if◌then◌else◌, List, slice_get, get_or, All, Option, Some, None, MatchOption}
 use Rattle.std.specs.List.{list_all}
 use Rattle.plc_base.specs.Keeper.{Records}
+use Rattle.plc_base.specs.Writes.{puts_of}
+use Rattle.plc_base.specs.LeadingPuts.{PutsLead}
 use Rattle.routing_set.specs.declared.rank.Rank.{Rank}
 use Rattle.routing_set.specs.declared.entry.RoutingEntry.{RoutingEntry}
 use Rattle.routing_set.specs.Ranks.{IsAtLeast}
-use Rattle.routing_set.specs.RoutingSet.{Routing, held, rank_of, route_of, is_full, is_fresh, goes_before, first_to_go, offered, ended}
+use Rattle.routing_set.specs.RoutingSet.{Routing, IsKept, held, rank_of, route_of, next_of, is_full, is_fresh, goes_before, first_to_go, offered_entry, offer_writes, offered, ended, without_next_to}
+use Rattle.routing_set.specs.OwnNumber as numbers
 use Rattle.routing_set.specs.Histories.{IsRouting, Leads}
 
 -- The rank of each address, kept or a floor, is no lower than it was at any time before, over any offers, failed puts, routes
@@ -44,3 +47,64 @@ pub record IsFirstToGo (now : ℕ) (entries : List RoutingEntry) (e : RoutingEnt
 -- The entry that is forgotten is the first that may be, and there is one exactly where not all are fresh.
 abbrev pub TheFirstIsForgotten : Type 0
 TheFirstIsForgotten = (now : ℕ) (entries : List RoutingEntry) → MatchOption (first_to_go now entries) (list_all (is_fresh now) entries ≡ true) (IsFirstToGo now entries)
+
+-- An offer that is taken is the rank of its address, and the route to it.
+pub record IsOffered (routing : Routing) (dest : ℕ) (rank : Rank) (next now : ℕ) : Type 0 where
+  pub rank_is : rank_of (offered routing dest rank next now) dest ≡ Some rank
+  pub route_is : route_of (offered routing dest rank next now) dest ≡ Some (record { next = next; offered = now })
+
+abbrev pub AnOfferIsFound : Type 0
+AnOfferIsFound = (routing : Routing) (dest : ℕ) (rank : Rank) (next now : ℕ) → IsRouting routing → is_full routing dest now ≡ false → IsOffered routing dest rank next now
+
+-- # A route that ends
+
+-- the next hop that is left where the route to the lost address by a neighbour has ended
+abbrev pub hop_after : Bool → ℕ → Option ℕ → Option ℕ
+hop_after is_lost by None = None
+hop_after is_lost by (Some hop) = if is_lost && (hop == by) then None else Some hop
+
+-- Where the route to a lost address by a neighbour ends, each next hop stays but that one.
+abbrev pub OtherHopsStay : Type 0
+OtherHopsStay = (routing : Routing) (lost by to : ℕ) → next_of (without_next_to routing lost by) to ≡ hop_after (to == lost) by (next_of routing to)
+
+-- # Puts that fail
+
+-- An entry whose record is read back.
+pub record IsReadableEntry (e : RoutingEntry) : Type 0 where
+  pub address : e.address < 0xFFFE
+  pub low : 1 ≤ e.rank.number
+  pub number : e.rank.number < 2 ^ 16
+  pub cost : e.rank.cost < 2 ^ 16
+
+-- the number of a rank has two octets
+abbrev pub HasNumber : RoutingEntry → Type 0
+HasNumber e = e.rank.number < 2 ^ 16
+
+-- Ranks and floors are in the range of their records.
+pub record IsRanged (routing : Routing) : Type 0 where
+  pub sound : IsRouting routing
+  pub floors : (class : ℕ) → get_or routing.floors class 0 < 2 ^ 16
+  pub ranks : All HasNumber routing.entries
+
+-- They are what the records give.
+pub record IsRoutingIn (routing : Routing) (records : Records) : Type 0 where
+  pub ranged : IsRanged routing
+  pub kept : IsKept routing records
+
+-- Whatever becomes of the puts of an offer, some ranks and floors are what the records give.
+abbrev pub OffersLead : Type 0
+OffersLead =
+    (routing : Routing) (dest : ℕ) (rank : Rank) (next now : ℕ) → IsReadableEntry (offered_entry dest rank next now) → is_full routing dest now ≡ false
+    → PutsLead IsRoutingIn routing (offer_writes routing dest rank next now) (offered routing dest rank next now)
+
+-- A number is what the records give, and its limit has a record.
+pub record IsNumberIn (numbering : numbers.Numbering) (records : Records) : Type 0 where
+  pub kept : numbers.IsKept numbering records
+  pub low : 1 ≤ numbering.limit
+  pub fits : numbering.limit < 2 ^ 16
+
+-- Whatever becomes of the put of a number, some number is what the records give.
+abbrev pub NumbersLead : Type 0
+NumbersLead =
+    (numbering : numbers.Numbering) → numbering.last < 65535
+    → PutsLead IsNumberIn numbering (puts_of (numbers.advance_write numbering)) (numbers.advanced numbering)

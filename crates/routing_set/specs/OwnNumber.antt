@@ -1,9 +1,10 @@
 -- The number of the route messages that a node begins, and what its calls do to it.
-use Rattle.std.specs.Prelude.{◌≡◌, ℕ, ◌+◌, ◌≤◌, min, Bool, true, false, ◌==◌, nat_lt, if◌then◌else◌, List, length, Option, Some, None, Result, Ok, Err, refl}
+use Rattle.std.specs.Prelude.{◌≡◌, ◌⊎◌, ℕ, ◌+◌, ◌≤◌, min, Bool, true, false, ◌==◌, nat_lt, if◌then◌else◌, List, Option, Some, None, Result, Ok, Err, refl}
 use Rattle.std.specs.Coded.{Coded, code_by, coded×, coded_ℕ}
 use Rattle.std.specs.FinMap.{get}
-use Rattle.byteorder.specs.Endian.{big_number, big_bytes}
 use Rattle.plc_base.specs.Keeper.{Records, Write}
+use Rattle.plc_base.specs.NumberSlots.{number_in, stored_number, number_write}
+use Rattle.plc_base.specs.declared.number_slot.NumberSlot.{NumberSlot}
 use Rattle.plc_base.specs.declared.keeper.BadStore.{BadStore}
 use Rattle.routing_set.specs.declared.fault.NumberFault.{NumberFault}
 use Rattle.routing_set.specs.declared.fault.NumberFault.TheVariants.{SeqSpent, Store}
@@ -17,17 +18,17 @@ pub record Numbering : Type 0 where
 abbrev pub numbering_code : Coded Numbering
 numbering_code = code_by (ℕ × ℕ) (coded× coded_ℕ coded_ℕ) (λ n. (n.limit, n.last)) (λ p. record { limit = p.0; last = p.1 }) (λ _. refl)
 
+-- where the limit is stored: 2 octets at slot 3, at least 1, and 1 where none is there
+abbrev pub limit_at : NumberSlot
+limit_at = record { slot = 3; width = 2; first = 1; least = 1 }
+
 -- the slot of the limit
 abbrev pub limit_slot : ℕ
-limit_slot = 3
-
-abbrev pub limit_of : ℕ → Option ℕ
-limit_of limit = if limit == 0 then None else Some limit
+limit_slot = limit_at.slot
 
 -- the limit that the record of the slot gives: 1 where none is there, and no reading where it has not 2 octets or is 0
 abbrev pub limit_in : Option (List ℕ) → Option ℕ
-limit_in None = Some 1
-limit_in (Some octets) = if length octets == 2 then limit_of (big_number 2 octets) else None
+limit_in octets = number_in limit_at octets
 
 -- a number that goes on at a limit
 abbrev pub numbering_at : ℕ → Numbering
@@ -46,9 +47,13 @@ pub record IsKept (numbering : Numbering) (records : Records) : Type 0 where
   pub limit : limit_in (get records limit_slot) ≡ Some numbering.limit
   pub below : numbering.last ≤ numbering.limit
 
+-- The limit is that of the records from before, or what the number holds is what the new records give.
+abbrev pub IsOldLimitOrKept : Numbering → Records → Records → Type 0
+IsOldLimitOrKept numbering old new = (stored_number limit_at new ≡ stored_number limit_at old) ⊎ IsKept numbering new
+
 -- the put of a limit
 abbrev pub limit_write : ℕ → Option Write
-limit_write limit = Some (record { slot = limit_slot; octets = big_bytes 2 limit })
+limit_write limit = Some (number_write limit_at limit)
 
 -- the limit that is stored for the number behind the last one
 abbrev pub raised : ℕ → ℕ

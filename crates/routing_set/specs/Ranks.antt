@@ -18,3 +18,7 @@ beats r s = nat_lt s.number r.number || (r.number == s.number && nat_lt r.cost s
 -- It is the other rank or beats it.
 abbrev pub IsAtLeast : Rank → Rank → Type 0
 IsAtLeast r s = (r ≡ s) ⊎ Beats r s
+
+-- the rank of a number and a cost
+abbrev pub rank_by : ℕ → ℕ → Rank
+rank_by number cost = record { number = number; cost = cost }

@@ -92,6 +92,14 @@ floors_octets floors = flat_map (big_bytes 2) floors
 abbrev pub floors_write : List ℕ → Write
 floors_write floors = record { slot = floor_slot; octets = floors_octets floors }
 
+-- these are the floors that the records give
+abbrev pub AreFloorsOf : List ℕ → Records → Type 0
+AreFloorsOf floors records = floors_in (get records floor_slot) ≡ Some floors
+
+-- the floors are those of the records from before, or new ones
+abbrev pub AreOldOrNewFloors : List ℕ → Records → Records → Type 0
+AreOldOrNewFloors floors old new = (floors_in (get new floor_slot) ≡ floors_in (get old floor_slot)) ⊎ AreFloorsOf floors new
+
 -- What is held as stored is what the records give, and no record of a rank stands behind them.
 pub record IsKept (routing : Routing) (records : Records) : Type 0 where
   pub floors : floors_in (get records floor_slot) ≡ Some routing.floors
@@ -258,6 +266,11 @@ half_offered routing dest now = half_entered routing dest now
 
 abbrev pub offered : Routing → ℕ → Rank → ℕ → ℕ → Routing
 offered routing dest rank next now = entered routing (offered_entry dest rank next now) now
+
+-- the records are those of what is kept before an offer, between its puts, or after it
+abbrev pub IsSomeOffered : Routing → ℕ → Rank → ℕ → ℕ → Records → Type 0
+IsSomeOffered routing dest rank next now records =
+    IsKept routing records ⊎ IsKept (half_offered routing dest now) records ⊎ IsKept (offered routing dest rank next now) records
 
 -- What becomes of the records where an entry comes, whatever becomes of its puts; done says that none failed.
 pub record Keeps (old half after : Routing) (done : Bool) (before records : Records) : Type 0 where

@@ -46,7 +46,7 @@ impl SlotEntry for RoutingEntry {
     ghost keeps_key = { λ _. refl };
 
     fn key(&self) -> u64 {
-        u64::from(self.address.number())
+        self.address.key()
     }
 
     fn slot(place: usize) -> u32 {

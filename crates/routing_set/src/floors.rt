@@ -1,10 +1,10 @@
 //! The floors of the classes of addresses, as they are stored.
-ghost use Rattle.std.specs.Prelude.{◌≡◌, ◌⊎◌, ◌<◌, ◌%◌, Some, is_ok, IfOk, OnOk};
+ghost use Rattle.std.specs.Prelude.{◌≡◌, ◌<◌, ◌%◌, Some, is_ok, IfOk, OnOk};
 ghost use Rattle.std.specs.List.{flat_map};
 ghost use Rattle.std.specs.FinMap.{get};
 ghost use Rattle.byteorder.specs.Endian.{big_bytes};
-ghost use Rattle.plc_base.specs.Keeper.{Stores, SameOutside};
-ghost use Rattle.routing_set.specs.RoutingSet.{class_of, floor_slot, floors_in, floors_write, floors_due, raised};
+ghost use Rattle.plc_base.specs.Keeper.{Stores, OutsideStays, IsOldOrNew};
+ghost use Rattle.routing_set.specs.RoutingSet.{class_of, AreFloorsOf, AreOldOrNewFloors, floor_slot, floors_in, floors_write, floors_due, raised};
 
 use crate::RoutingEntry;
 use byteorder::{BigEndian, ByteOrder};
@@ -58,9 +58,8 @@ fn floors_record(floors: &[u16; 16]) -> Record
 fn store_floors<K: Keeper>(keeper: &mut K, floors: &[u16; 16]) -> Result<(), Failed>
     ensures store { Stores (K.store keeper.old) (Some (floors_write floors.now)) (is_ok result) (K.store keeper.new) }
     ensures stored { OnOk result (floors_in (get (K.store keeper.new).records floor_slot) ≡ Some floors.now) }
-    ensures either { (floors_in (get (K.store keeper.new).records floor_slot) ≡ floors_in (get (K.store keeper.old).records floor_slot))
-        ⊎ (floors_in (get (K.store keeper.new).records floor_slot) ≡ Some floors.now) }
-    ensures elsewhere { SameOutside 5 5 (K.store keeper.old).records (K.store keeper.new).records }
+    ensures either { AreOldOrNewFloors floors.now (K.store keeper.old).records (K.store keeper.new).records }
+    ensures elsewhere { OutsideStays 5 5 (K.store keeper.old) (K.store keeper.new) }
 {
     keeper.put(FLOOR_SLOT, &floors_record(floors))
 }
@@ -76,9 +75,8 @@ pub(crate) fn raise_floor<K: Keeper>(
     ensures floors { IfOk result (λ after. after ≡ raised floors.now gone.now) }
     ensures store { Stores (K.store keeper.old) (floors_due floors.now (Some gone.now)) (is_ok result) (K.store keeper.new) }
     ensures stored { OnOk result (floors_in (get (K.store keeper.new).records floor_slot) ≡ Some (raised floors.now gone.now)) }
-    ensures either { (floors_in (get (K.store keeper.new).records floor_slot) ≡ Some floors.now)
-        ⊎ (floors_in (get (K.store keeper.new).records floor_slot) ≡ Some (raised floors.now gone.now)) }
-    ensures elsewhere { SameOutside 5 5 (K.store keeper.old).records (K.store keeper.new).records }
+    ensures either { IsOldOrNew AreFloorsOf floors.now (raised floors.now gone.now) (K.store keeper.new).records }
+    ensures elsewhere { OutsideStays 5 5 (K.store keeper.old) (K.store keeper.new) }
 {
     let class = class_of(gone.address);
     let number = gone.rank.number;

@@ -1,5 +1,5 @@
 //! Laws of ranks, routes and floors. Each is the contract of a function that does nothing.
-ghost use Rattle.routing_set.specs.Laws.{RanksOnlyRise, OffersBeginTheirRoute, EndingsKeepRanks, TheFirstIsForgotten};
+ghost use Rattle.routing_set.specs.Laws.{RanksOnlyRise, OffersBeginTheirRoute, EndingsKeepRanks, TheFirstIsForgotten, AnOfferIsFound, OtherHopsStay, OffersLead, NumbersLead};
 
 /// The rank of an address, kept or a floor, only rises: over any offers, failed puts, forgetting, routes that end and new
 /// starts.
@@ -21,4 +21,24 @@ pub fn endings_keep_ranks()
 /// valid route that was offered less than 60 seconds ago.
 pub fn the_first_is_forgotten()
     ensures { TheFirstIsForgotten }
+{}
+
+/// An offer that is taken is then the rank of its address, and the route to it.
+pub fn an_offer_is_found()
+    ensures { AnOfferIsFound }
+{}
+
+/// Where the route to a lost address by a neighbour ends, each next hop stays but that one.
+pub fn other_hops_stay()
+    ensures { OtherHopsStay }
+{}
+
+/// After an offer ranks and floors are what the records give, and where one of its puts failed some ranks and floors are.
+pub fn offers_lead()
+    ensures { OffersLead }
+{}
+
+/// After a number was given out it is what the records give, and where its put failed some number is.
+pub fn numbers_lead()
+    ensures { NumbersLead }
 {}

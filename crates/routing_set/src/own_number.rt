@@ -1,14 +1,12 @@
 //! The number of the route messages that a node begins.
-ghost use Rattle.std.specs.Prelude.{◌≡◌, ◌⊎◌, ◌+◌, ◌<◌, ◌≤◌, IfOk, OnOk, OnErr, is_ok, Some, Ok};
-ghost use Rattle.std.specs.FinMap.{get};
+ghost use Rattle.std.specs.Prelude.{◌≡◌, ◌+◌, ◌<◌, ◌≤◌, IfOk, OnOk, OnErr, is_ok, Some, Ok};
 ghost use Rattle.std.specs.Bool.{OnTrue};
-ghost use Rattle.plc_base.specs.Keeper.{Stores, SameOutside};
-ghost use Rattle.routing_set.specs.OwnNumber.{Numbering, IsKept, limit_in, limit_slot, opened, numbering_at, limit_write, advance_write, advanced, next_result, next_write, next_after, is_stored, preset_result};
-ghost use Rattle.byteorder.specs.Endian.{big_bytes};
+ghost use Rattle.plc_base.specs.Keeper.{Stores, OutsideStays, IsOldOrNew};
+ghost use Rattle.plc_base.specs.NumberSlots.{IsOldOrNewNumber, stored_number};
+ghost use Rattle.routing_set.specs.OwnNumber.{Numbering, IsKept, IsOldLimitOrKept, limit_at, opened, numbering_at, limit_write, advance_write, advanced, next_result, next_write, next_after, is_stored, preset_result};
 
 use crate::NumberFault;
-use byteorder::{BigEndian, ByteOrder};
-use plc_base::{BadStore, Failed, Keeper, Record};
+use plc_base::{BadStore, Failed, Keeper, NumberSlot};
 use std::marker::Model;
 
 /// Gives out the numbers of the route messages that a node begins, each higher than the last, also over losses of power: a
@@ -34,45 +32,26 @@ impl Model for OwnNumber {
     ghost invariant = { λ n. n.last ≤ n.limit };
 }
 
-/// The slot of the limit.
-const LIMIT_SLOT: u32 = 3;
-
-/// The last number where no limit is stored.
-const FIRST: u16 = 1;
+/// Where the limit is stored: the last number is 1 where none is.
+const LIMIT: NumberSlot = NumberSlot {
+    slot: 3,
+    width: 2,
+    first: 1,
+    least: 1,
+};
 
 /// How far the limit is stored ahead of the last number.
 const STRIDE: u16 = 32;
-
-// The record of a limit.
-fn limit_record(limit: u16) -> Record
-    ensures { result ≡ big_bytes 2 limit }
-{
-    let mut octets = [0; 2];
-    BigEndian::write_u16(&mut octets, limit);
-    Record::from_octets(&octets)
-}
 
 // Stores a limit.
 fn store_limit<K: Keeper>(keeper: &mut K, limit: u16) -> Result<(), Failed>
     requires { 1 ≤ limit }
     ensures store { Stores (K.store keeper.old) (limit_write limit) (is_ok result) (K.store keeper.new) }
-    ensures stored { OnOk result (limit_in (get (K.store keeper.new).records limit_slot) ≡ Some limit) }
-    ensures either { (limit_in (get (K.store keeper.new).records limit_slot) ≡ limit_in (get (K.store keeper.old).records limit_slot))
-        ⊎ (limit_in (get (K.store keeper.new).records limit_slot) ≡ Some limit) }
-    ensures elsewhere { SameOutside 3 3 (K.store keeper.old).records (K.store keeper.new).records }
+    ensures stored { OnOk result (stored_number limit_at (K.store keeper.new).records ≡ Some limit) }
+    ensures either { IsOldOrNewNumber limit_at limit (K.store keeper.old).records (K.store keeper.new).records }
+    ensures elsewhere { OutsideStays 3 3 (K.store keeper.old) (K.store keeper.new) }
 {
-    keeper.put(LIMIT_SLOT, &limit_record(limit))
-}
-
-// The limit that a record gives. None exactly where it has not 2 octets or is 0.
-fn limit_of(octets: &[u8]) -> Option<u16>
-    ensures { result ≡ limit_in (Some octets.now) }
-{
-    if octets.len() != 2 {
-        return None;
-    }
-    let limit = BigEndian::read_u16(octets);
-    if limit == 0 { None } else { Some(limit) }
+    LIMIT.store(keeper, u32::from(limit))
 }
 
 impl OwnNumber {
@@ -83,18 +62,11 @@ impl OwnNumber {
         ensures number { result ≡ opened (K.store keeper.now).records }
         ensures kept { IfOk result (λ number. IsKept number (K.store keeper.now).records) }
         // A number that was kept goes on at its limit.
-        ensures reopened { (numbering : Numbering) → IsKept numbering (K.store keeper.now).records → result ≡ Ok (numbering_at numbering.limit) }
+        ensures reopened { (numbering : Numbering) → IsKept numbering (K.store keeper.now).records
+            → result ≡ Ok (numbering_at numbering.limit) }
     {
-        let Some(octets) = keeper.get(LIMIT_SLOT) else {
-            return Ok(OwnNumber {
-                limit: FIRST,
-                last: FIRST,
-            });
-        };
-        match limit_of(octets.octets()) {
-            Some(limit) => Ok(OwnNumber { limit, last: limit }),
-            None => Err(BadStore { slot: LIMIT_SLOT }),
-        }
+        let limit = LIMIT.read(keeper)? as u16;
+        Ok(OwnNumber { limit, last: limit })
     }
 
     /// The number that was given out last. No number is left exactly where it is 65,535.
@@ -117,8 +89,8 @@ impl OwnNumber {
         ensures store { Stores (K.store keeper.old) (advance_write self.old) (is_ok result) (K.store keeper.new) }
         ensures kept { OnOk result (IsKept self.new (K.store keeper.new).records) }
         // Whatever became of the put, the record is that of the number before or of the one after.
-        ensures either { IsKept self.old (K.store keeper.new).records ⊎ IsKept (advanced self.old) (K.store keeper.new).records }
-        ensures elsewhere { SameOutside 3 3 (K.store keeper.old).records (K.store keeper.new).records }
+        ensures either { IsOldOrNew IsKept self.old (advanced self.old) (K.store keeper.new).records }
+        ensures elsewhere { OutsideStays 3 3 (K.store keeper.old) (K.store keeper.new) }
     {
         let number = self.last + 1;
         if self.limit < number {
@@ -141,8 +113,8 @@ impl OwnNumber {
         ensures numbering { self.new ≡ next_after self.old (is_stored result) }
         ensures store { Stores (K.store keeper.old) (next_write self.old) (is_stored result) (K.store keeper.new) }
         ensures kept { OnTrue (is_stored result) (IsKept self.new (K.store keeper.new).records) }
-        ensures either { IsKept self.old (K.store keeper.new).records ⊎ IsKept (advanced self.old) (K.store keeper.new).records }
-        ensures elsewhere { SameOutside 3 3 (K.store keeper.old).records (K.store keeper.new).records }
+        ensures either { IsOldOrNew IsKept self.old (advanced self.old) (K.store keeper.new).records }
+        ensures elsewhere { OutsideStays 3 3 (K.store keeper.old) (K.store keeper.new) }
     {
         if self.last == u16::MAX {
             return Err(NumberFault::SeqSpent);
@@ -159,9 +131,8 @@ impl OwnNumber {
         ensures same { OnErr result (self.new ≡ self.old) }
         ensures store { Stores (K.store keeper.old) (limit_write value) (is_ok result) (K.store keeper.new) }
         ensures kept { OnOk result (IsKept self.new (K.store keeper.new).records) }
-        ensures either { (limit_in (get (K.store keeper.new).records limit_slot) ≡ limit_in (get (K.store keeper.old).records limit_slot))
-            ⊎ IsKept (numbering_at value) (K.store keeper.new).records }
-        ensures elsewhere { SameOutside 3 3 (K.store keeper.old).records (K.store keeper.new).records }
+        ensures either { IsOldLimitOrKept (numbering_at value) (K.store keeper.old).records (K.store keeper.new).records }
+        ensures elsewhere { OutsideStays 3 3 (K.store keeper.old) (K.store keeper.new) }
     {
         store_limit(keeper, value)?;
         self.limit = value;
@@ -179,9 +150,8 @@ impl OwnNumber {
         ensures same { OnErr result (self.new ≡ self.old) }
         ensures store { Stores (K.store keeper.old) (limit_write value) (is_ok result) (K.store keeper.new) }
         ensures kept { OnOk result (IsKept self.new (K.store keeper.new).records) }
-        ensures either { (limit_in (get (K.store keeper.new).records limit_slot) ≡ limit_in (get (K.store keeper.old).records limit_slot))
-            ⊎ IsKept (numbering_at value) (K.store keeper.new).records }
-        ensures elsewhere { SameOutside 3 3 (K.store keeper.old).records (K.store keeper.new).records }
+        ensures either { IsOldLimitOrKept (numbering_at value) (K.store keeper.old).records (K.store keeper.new).records }
+        ensures elsewhere { OutsideStays 3 3 (K.store keeper.old) (K.store keeper.new) }
     {
         self.set_limit(keeper, value)
             .map_err(|_| NumberFault::Store)

@@ -1,14 +1,14 @@
 //! The ranks of addresses and the valid routes to them.
-ghost use Rattle.std.specs.Prelude.{◌≡◌, ◌⊎◌, ◌==◌, ◌<◌, ◌≤◌, ℕ, Ok, Some, None, Option, true, false, is_ok, map, IfOk, IfErr, OnOk, OnErr, IsSorted, IsPermutation};
+ghost use Rattle.std.specs.Prelude.{◌≡◌, ◌==◌, ◌<◌, ◌≤◌, ℕ, Ok, Some, None, Option, true, false, is_ok, map, IfOk, IfErr, OnOk, OnErr, IsSorted, IsPermutation};
 ghost use Rattle.std.specs.Bool.{OnTrue};
 ghost use Rattle.std.specs.Ordering.{nat_cmp};
 ghost use Rattle.std.specs.List.{list_all};
 ghost use Rattle.plc_base.specs.Keeper.{Records};
 ghost use Rattle.plc_base.specs.Writes.{Wrote};
 ghost use Rattle.plc_base.specs.SlotTables.{IsTable, IsGapless, IsReading};
-ghost use Rattle.routing_set.specs.Ranks.{beats};
+ghost use Rattle.routing_set.specs.Ranks.{beats, rank_by};
 ghost use Rattle.routing_set.specs.Endings.{takes};
-ghost use Rattle.routing_set.specs.RoutingSet.{Routing, ranks, IsKept, IsBad, SameElsewhere, opened, at_rest, place_of, rank_of, route_of, next_of, held, floor_of, is_better, is_full, is_fresh, first_to_go, offered, half_offered, offer_writes, entered, half_entered, entry_writes, Keeps, writes_of, half_of, after_of, offer_result, offer_puts, offer_after, is_stored, ended, without_next, without_next_to, expired};
+ghost use Rattle.routing_set.specs.RoutingSet.{Routing, ranks, IsKept, IsSomeOffered, IsBad, SameElsewhere, opened, at_rest, place_of, rank_of, route_of, next_of, held, floor_of, is_better, is_full, is_fresh, first_to_go, offered, half_offered, offer_writes, entered, half_entered, entry_writes, Keeps, writes_of, half_of, after_of, offer_result, offer_puts, offer_after, is_stored, ended, without_next, without_next_to, expired};
 
 use crate::ending::Ending;
 use crate::entry::first_of;
@@ -41,14 +41,6 @@ impl Model for RoutingSet {
     ghost view = { λ r. record { entries = r.table; floors = r.floors } };
 }
 
-// The number that names an address.
-fn key_of(address: Short) -> u64
-    ensures value { result ≡ address }
-    ensures valid { result < 0xFFFE }
-{
-    u64::from(address.number())
-}
-
 impl RoutingSet {
     /// What the records at slot 5 and from slot 0200 (hexadecimal) on give, up to the first empty slot: the floors, 0 where
     /// slot 5 is empty, and the ranks, each with no valid route.
@@ -60,9 +52,11 @@ impl RoutingSet {
         ensures reading { IfOk result (λ routing. IsReading ranks routing.entries (K.store keeper.now).records) }
         ensures bad { IfErr result (λ bad. IsBad (K.store keeper.now).records bad.slot) }
         ensures unrouted { IfOk result (λ routing. (dest : ℕ) → route_of routing dest ≡ None) }
-        ensures kept { IsGapless ranks (K.store keeper.now).records → IfOk result (λ routing. IsKept routing (K.store keeper.now).records) }
+        ensures kept { IsGapless ranks (K.store keeper.now).records
+            → IfOk result (λ routing. IsKept routing (K.store keeper.now).records) }
         // What was kept is opened again, with no valid route.
-        ensures reopened { (routing : Routing) → IsTable ranks routing.entries → IsKept routing (K.store keeper.now).records → result ≡ Ok (at_rest routing) }
+        ensures reopened { (routing : Routing) → IsTable ranks routing.entries → IsKept routing (K.store keeper.now).records
+            → result ≡ Ok (at_rest routing) }
     {
         let Some(floors) = stored_floors(keeper) else {
             return Err(BadStore { slot: FLOOR_SLOT });
@@ -112,7 +106,7 @@ impl RoutingSet {
     pub fn rank(&self, dest: Short) -> Option<Rank>
         ensures { result ≡ rank_of self.now dest }
     {
-        let place = self.table.place_of(key_of(dest))?;
+        let place = self.table.place_of(dest.key())?;
         Some(self.table.get(place).rank)
     }
 
@@ -121,7 +115,7 @@ impl RoutingSet {
     pub fn route(&self, dest: Short) -> Option<Short>
         ensures { result ≡ next_of self.now dest }
     {
-        let entry = self.table.find(key_of(dest))?;
+        let entry = self.table.find(dest.key())?;
         let route = entry.route?;
         Some(route.next)
     }
@@ -142,7 +136,7 @@ impl RoutingSet {
 
     /// Whether a number and a cost beat the rank of an address. The cost may be one that no rank has.
     pub fn is_better(&self, dest: Short, number: u16, cost: u32) -> bool
-        ensures { result ≡ is_better self.now dest (record { number = number; cost = cost }) }
+        ensures { result ≡ is_better self.now dest (rank_by number cost) }
     {
         let held = self.held(dest);
         held.number < number || (number == held.number && cost < u32::from(held.cost))
@@ -154,7 +148,7 @@ impl RoutingSet {
     pub fn full(&self, dest: Short, now: u64) -> bool
         ensures { result ≡ is_full self.now dest now }
     {
-        if self.table.place_of(key_of(dest)).is_some() {
+        if self.table.place_of(dest.key()).is_some() {
             return false;
         }
         self.table.is_full() && self.all_fresh(now)
@@ -201,7 +195,7 @@ impl RoutingSet {
         ensures keeps { Keeps self.old (half_of self.old (first_to_go now self.old.entries)) (after_of self.old (first_to_go now self.old.entries) entry) (is_ok result) (K.store keeper.old).records (K.store keeper.new).records }
     {
         let gone = self.first_to_go(now).unwrap();
-        let place = self.table.place_of(key_of(gone.address)).unwrap();
+        let place = self.table.place_of(gone.address.key()).unwrap();
         let floors = raise_floor(keeper, &self.floors, &gone)?;
         self.table.set_stored(keeper, place, entry)?;
         self.floors = floors;
@@ -223,7 +217,7 @@ impl RoutingSet {
         ensures store { Wrote (K.store keeper.old) (entry_writes self.old entry now) (is_ok result) (K.store keeper.new) }
         ensures keeps { Keeps self.old (half_entered self.old entry.address now) (entered self.old entry now) (is_ok result) (K.store keeper.old).records (K.store keeper.new).records }
     {
-        match self.table.place_of(key_of(entry.address)) {
+        match self.table.place_of(entry.address.key()) {
             Some(place) => self.table.set_stored(keeper, place, entry),
             None if self.table.is_full() => self.replace(keeper, entry, now),
             None => self.table.push_stored(keeper, entry),
@@ -253,8 +247,7 @@ impl RoutingSet {
         ensures store { Wrote (K.store keeper.old) (offer_writes self.old dest rank next now) (is_ok result) (K.store keeper.new) }
         ensures kept { OnOk result (IsKept self.new (K.store keeper.new).records) }
         // Whatever became of the puts, the records are those of what was kept before, between the puts, or after.
-        ensures either { IsKept self.old (K.store keeper.new).records ⊎ IsKept (half_offered self.old dest now) (K.store keeper.new).records
-            ⊎ IsKept (offered self.old dest rank next now) (K.store keeper.new).records }
+        ensures either { IsSomeOffered self.old dest rank next now (K.store keeper.new).records }
         ensures elsewhere { SameElsewhere (K.store keeper.old).records (K.store keeper.new).records }
     {
         let entry = RoutingEntry {
@@ -282,12 +275,11 @@ impl RoutingSet {
     ) -> Result<Offered, OfferFault>
         requires valid { 1 ≤ number }
         requires kept { IsKept self.old (K.store keeper.old).records }
-        ensures answer { result ≡ offer_result self.old dest (record { number = number; cost = cost }) now (is_stored result) }
-        ensures routing { self.new ≡ offer_after self.old dest (record { number = number; cost = cost }) next now (is_stored result) }
-        ensures store { Wrote (K.store keeper.old) (offer_puts self.old dest (record { number = number; cost = cost }) next now) (is_stored result) (K.store keeper.new) }
+        ensures answer { result ≡ offer_result self.old dest (rank_by number cost) now (is_stored result) }
+        ensures routing { self.new ≡ offer_after self.old dest (rank_by number cost) next now (is_stored result) }
+        ensures store { Wrote (K.store keeper.old) (offer_puts self.old dest (rank_by number cost) next now) (is_stored result) (K.store keeper.new) }
         ensures kept { OnTrue (is_stored result) (IsKept self.new (K.store keeper.new).records) }
-        ensures either { IsKept self.old (K.store keeper.new).records ⊎ IsKept (half_offered self.old dest now) (K.store keeper.new).records
-            ⊎ IsKept (offered self.old dest (record { number = number; cost = cost }) next now) (K.store keeper.new).records }
+        ensures either { IsSomeOffered self.old dest (rank_by number cost) next now (K.store keeper.new).records }
         ensures elsewhere { SameElsewhere (K.store keeper.old).records (K.store keeper.new).records }
     {
         if !self.is_better(dest, number, u32::from(cost)) {

@@ -20,7 +20,7 @@ unwrap-place-requires g c =
     let first : first_to_go c.args.now c.args.self.now.entries ≡ Some gone = sym c.first_to_go.ensures.entry ∙ c.unwrap-gone.ensures in
     let same : c.args.self.now.entries ≡ items = ap (λ (r : Routing). r.entries) (sym c.self.view_is) in
     let among : Among items gone = subst (λ (es : List RoutingEntry). Among es gone) same (gone_among c.args.now c.args.self.now.entries gone first) in
-    ap is_some (c.place_of.ensures.place ∙ ap (place_of items) c.key_of.ensures.value) ∙ place_there items gone among
+    ap is_some (c.place_of.ensures.place ∙ ap (place_of items) c.key.ensures.value) ∙ place_there items gone among
 
 pub set_stored-requires : goal.set_stored-requires
 set_stored-requires g c =
@@ -47,7 +47,7 @@ returns-in_err-floors-clause-store g c =
     let gone = c.unwrap-gone.result in
     let s = g.K.Keeper.store c.args.keeper.now in
     let t = g.K.Keeper.store c.raise_floor.new.keeper in
-    let at : place_of r.entries gone.address ≡ Some c.unwrap-place.result = ap (place_of r.entries) (sym c.key_of.ensures.value) ∙ sym c.place_of.ensures.place ∙ c.unwrap-place.ensures in
+    let at : place_of r.entries gone.address ≡ Some c.unwrap-place.result = ap (place_of r.entries) (sym c.key.ensures.value) ∙ sym c.place_of.ensures.place ∙ c.unwrap-place.ensures in
     let first : first_to_go c.args.now c.args.self.now.entries ≡ Some gone = sym c.first_to_go.ensures.entry ∙ c.unwrap-gone.ensures in
     let stops : Wrote s (writes_of r (Some gone) c.args.entry) false t = gone_stops r gone c.args.entry c.unwrap-place.result s t at c.in_err-floors.ensures.store in
     let moved : Wrote s (writes_of c.args.self.now (Some gone) c.args.entry) false t = subst (λ (k : Routing). Wrote s (writes_of k (Some gone) c.args.entry) false t) c.self.view_is stops in
@@ -62,7 +62,7 @@ returns-in_err-set_stored-clause-store g c =
     let s = g.K.Keeper.store c.args.keeper.now in
     let m = g.K.Keeper.store c.raise_floor.new.keeper in
     let t = g.K.Keeper.store c.set_stored.new.keeper in
-    let at : place_of r.entries gone.address ≡ Some c.unwrap-place.result = ap (place_of r.entries) (sym c.key_of.ensures.value) ∙ sym c.place_of.ensures.place ∙ c.unwrap-place.ensures in
+    let at : place_of r.entries gone.address ≡ Some c.unwrap-place.result = ap (place_of r.entries) (sym c.key.ensures.value) ∙ sym c.place_of.ensures.place ∙ c.unwrap-place.ensures in
     let first : first_to_go c.args.now c.args.self.now.entries ≡ Some gone = sym c.first_to_go.ensures.entry ∙ c.unwrap-gone.ensures in
     let stops : Wrote s (writes_of r (Some gone) c.args.entry) false t
     = gone_goes_on r gone c.args.entry c.unwrap-place.result false s m t at c.in_ok-floors.ensures.store c.in_err-set_stored.ensures.store in
@@ -78,7 +78,7 @@ returns-clause-store g c =
     let s = g.K.Keeper.store c.args.keeper.now in
     let m = g.K.Keeper.store c.raise_floor.new.keeper in
     let t = g.K.Keeper.store c.set_stored.new.keeper in
-    let at : place_of r.entries gone.address ≡ Some c.unwrap-place.result = ap (place_of r.entries) (sym c.key_of.ensures.value) ∙ sym c.place_of.ensures.place ∙ c.unwrap-place.ensures in
+    let at : place_of r.entries gone.address ≡ Some c.unwrap-place.result = ap (place_of r.entries) (sym c.key.ensures.value) ∙ sym c.place_of.ensures.place ∙ c.unwrap-place.ensures in
     let first : first_to_go c.args.now c.args.self.now.entries ≡ Some gone = sym c.first_to_go.ensures.entry ∙ c.unwrap-gone.ensures in
     let done : Wrote s (writes_of r (Some gone) c.args.entry) true t
     = gone_goes_on r gone c.args.entry c.unwrap-place.result true s m t at c.in_ok-floors.ensures.store c.in_ok-set_stored.ensures.store in

@@ -1,0 +1,5 @@
+use Rattle.frame_counters.proofs.Leading.{no_reservation}
+use Rattle.frame_counters.proofs.laws.no_reservation_changes_nothing.Goals as goal
+
+pub returns : goal.returns
+returns c = no_reservation

@@ -1,0 +1,5 @@
+use Rattle.group_keys.proofs.Leading.{no_change}
+use Rattle.group_keys.proofs.laws.a_held_entry_changes_nothing.Goals as goal
+
+pub returns : goal.returns
+returns c = no_change

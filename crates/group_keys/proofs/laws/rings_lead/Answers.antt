@@ -1,0 +1,5 @@
+use Rattle.group_keys.proofs.Leading.{ring_leads}
+use Rattle.group_keys.proofs.laws.rings_lead.Goals as goal
+
+pub returns : goal.returns
+returns c = ring_leads

@@ -1,0 +1,5 @@
+use Rattle.routing_set.proofs.Leading.{number_leads}
+use Rattle.routing_set.proofs.laws.numbers_lead.Goals as goal
+
+pub returns : goal.returns
+returns c = number_leads

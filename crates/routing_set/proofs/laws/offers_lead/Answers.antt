@@ -1,0 +1,5 @@
+use Rattle.routing_set.proofs.Leading.{offer_leads}
+use Rattle.routing_set.proofs.laws.offers_lead.Goals as goal
+
+pub returns : goal.returns
+returns c = offer_leads

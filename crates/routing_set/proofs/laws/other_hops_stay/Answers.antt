@@ -1,0 +1,5 @@
+use Rattle.routing_set.proofs.Losing.{hop_left}
+use Rattle.routing_set.proofs.laws.other_hops_stay.Goals as goal
+
+pub returns : goal.returns
+returns c = hop_left
