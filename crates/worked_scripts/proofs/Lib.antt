@@ -1,2 +1,6 @@
 mod Computing
-pub mod Witness
+pub mod HopScripts
+pub mod RankScripts
+pub mod PieceScripts
+pub mod WaitingScripts
+pub mod JoiningScripts

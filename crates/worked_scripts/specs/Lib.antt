@@ -1,2 +1,6 @@
 pub mod Scripts
-pub mod Rows
+pub mod HopScripts
+pub mod RankScripts
+pub mod PieceScripts
+pub mod WaitingScripts
+pub mod JoiningScripts
