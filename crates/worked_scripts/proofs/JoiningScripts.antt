@@ -4,37 +4,37 @@ use Rattle.worked_scripts.proofs.Computing.{computed}
 use Rattle.worked_scripts.specs.JoiningScripts.{AMeterJoinsOverTheAir, AnOldThirdPacketIsRefused, PlainFramesTakeNoCounter, AMeterJoinsThroughAnAgent, ASessionEndsAfterTwoMinutes, ChallengesAreJudgedInOrder, AForgedGrantIsNamed, EightSessionsAreOpen, AKickedMeterMayNotKnow}
 
 pub a_meter_joins_over_the_air : AMeterJoinsOverTheAir
-unfolding computed
+unfolding computed AMeterJoinsOverTheAir
 a_meter_joins_over_the_air = (refl, refl, refl, refl, refl, refl)
 
 pub an_old_third_packet_is_refused : AnOldThirdPacketIsRefused
-unfolding computed
+unfolding computed AnOldThirdPacketIsRefused
 an_old_third_packet_is_refused = refl
 
 pub plain_frames_take_no_counter : PlainFramesTakeNoCounter
-unfolding computed
+unfolding computed PlainFramesTakeNoCounter
 plain_frames_take_no_counter = refl
 
 pub a_meter_joins_through_an_agent : AMeterJoinsThroughAnAgent
-unfolding computed
+unfolding computed AMeterJoinsThroughAnAgent
 a_meter_joins_through_an_agent = (refl, refl, refl, refl, refl)
 
 pub a_session_ends_after_two_minutes : ASessionEndsAfterTwoMinutes
-unfolding computed
+unfolding computed ASessionEndsAfterTwoMinutes
 a_session_ends_after_two_minutes = (refl, refl, refl, refl, refl, refl)
 
 pub challenges_are_judged_in_order : ChallengesAreJudgedInOrder
-unfolding computed
+unfolding computed ChallengesAreJudgedInOrder
 challenges_are_judged_in_order = refl
 
 pub a_forged_grant_is_named : AForgedGrantIsNamed
-unfolding computed
+unfolding computed AForgedGrantIsNamed
 a_forged_grant_is_named = (refl, refl, refl, refl, refl, refl, refl)
 
 pub eight_sessions_are_open : EightSessionsAreOpen
-unfolding computed
+unfolding computed EightSessionsAreOpen
 eight_sessions_are_open = (refl, refl)
 
 pub a_kicked_meter_may_not_know : AKickedMeterMayNotKnow
-unfolding computed
+unfolding computed AKickedMeterMayNotKnow
 a_kicked_meter_may_not_know = (refl, refl)

@@ -4,45 +4,45 @@ use Rattle.worked_scripts.proofs.Computing.{computed}
 use Rattle.worked_scripts.specs.RankScripts.{CostsAreSpent, RequestsOfferRanks, RepliesOfferRanks, AReplyGoesByTheHopFromBefore, AnAnswerTakesANumber, ARouteEndsAfterSixHours, AFullTableRefuses, AFullTableForgetsTheEarliest, AFullTableForgetsTheBroken, FloorsAreStoredFirst, ANodeHearsSixtyFourSenders}
 
 pub costs_are_spent : CostsAreSpent
-unfolding computed
+unfolding computed CostsAreSpent
 costs_are_spent = (refl, refl, refl)
 
 pub requests_offer_ranks : RequestsOfferRanks
-unfolding computed
+unfolding computed RequestsOfferRanks
 requests_offer_ranks = (refl, refl, refl, refl, refl, refl, refl)
 
 pub replies_offer_ranks : RepliesOfferRanks
-unfolding computed
+unfolding computed RepliesOfferRanks
 replies_offer_ranks = (refl, refl, refl, refl)
 
 pub a_reply_goes_by_the_hop_from_before : AReplyGoesByTheHopFromBefore
-unfolding computed
+unfolding computed AReplyGoesByTheHopFromBefore
 a_reply_goes_by_the_hop_from_before = (refl, refl, refl)
 
 pub an_answer_takes_a_number : AnAnswerTakesANumber
-unfolding computed
+unfolding computed AnAnswerTakesANumber
 an_answer_takes_a_number = (refl, refl)
 
 pub a_route_ends_after_six_hours : ARouteEndsAfterSixHours
-unfolding computed
+unfolding computed ARouteEndsAfterSixHours
 a_route_ends_after_six_hours = (refl, refl, refl, refl)
 
 pub a_full_table_refuses : AFullTableRefuses
-unfolding computed
+unfolding computed AFullTableRefuses
 a_full_table_refuses = refl
 
 pub a_full_table_forgets_the_earliest : AFullTableForgetsTheEarliest
-unfolding computed
+unfolding computed AFullTableForgetsTheEarliest
 a_full_table_forgets_the_earliest = (refl, refl, refl, refl, refl)
 
 pub a_full_table_forgets_the_broken : AFullTableForgetsTheBroken
-unfolding computed
+unfolding computed AFullTableForgetsTheBroken
 a_full_table_forgets_the_broken = (refl, refl, refl, refl, refl)
 
 pub floors_are_stored_first : FloorsAreStoredFirst
-unfolding computed
+unfolding computed FloorsAreStoredFirst
 floors_are_stored_first = (refl, refl, refl)
 
 pub a_node_hears_sixty_four_senders : ANodeHearsSixtyFourSenders
-unfolding computed
+unfolding computed ANodeHearsSixtyFourSenders
 a_node_hears_sixty_four_senders = (refl, refl)

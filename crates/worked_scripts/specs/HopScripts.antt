@@ -18,7 +18,7 @@ abbrev pub one_hop : List Event
 one_hop = two_meters ++ (Near 1 2 3 ∷ Send 1 2 (0x48 ∷ 0x65 ∷ 0x6c ∷ 0x6c ∷ 0x6f ∷ []) ∷ Deliver 1 2 3 ∷ Deliver 1 2 3 ∷ [])
 
 -- A datagram over one hop is handed up, and its repeat is refused.
-abbrev pub ARepeatIsRefused : Type 0
+unfoldable pub ARepeatIsRefused : Type 0
 ARepeatIsRefused =
     (answers_after 5 one_hop ≡ said.Set ∷ said.Sent ∷ said.Up ∷ said.Replayed ∷ [])
     × (counts_of one_hop ≡ record { events = 9; flights = 1; sends = 1; ups = 1; forged = 0 })
@@ -33,7 +33,7 @@ sizes =
     ∷ Deliver 3 2 3 ∷ Deliver 2 2 3 ∷ [])
 
 -- A datagram of 375 octets goes whole, a longer one goes in pieces, and a piece that was overtaken on one hop is refused.
-abbrev pub DatagramsOfEverySize : Type 0
+unfoldable pub DatagramsOfEverySize : Type 0
 DatagramsOfEverySize =
     (answers_after 6 sizes ≡ said.Sent ∷ said.Sent ∷ said.Sent ∷ said.BadSize ∷ said.Held ∷ said.Replayed ∷ [])
     × (counts_of sizes ≡ record { events = 12; flights = 7; sends = 3; ups = 0; forged = 0 })
@@ -52,7 +52,7 @@ sought_anew = discovery ++ (Break 1 2 ∷ Send 1 4 (0xbb ∷ []) ∷ [])
 
 -- A route over two relays is found by the cheaper way, and what waited is handed up; it waits no more, so that the next datagram seeks
 -- the route again.
-abbrev pub DiscoveryOverTwoRelays : Type 0
+unfoldable pub DiscoveryOverTwoRelays : Type 0
 DiscoveryOverTwoRelays =
     (answers_after 9 discovery ≡ said.Waiting ∷ said.Relayed ∷ said.Relayed ∷ said.Answered ∷ said.NotBetter ∷ said.Relayed ∷ said.Learned ∷ said.Relayed ∷ said.Up ∷ [])
     × (handed_at_last (run plain start discovery) ≡ Some (record { node = 4; note = 1; octets = 0xaa ∷ [] }))
@@ -69,7 +69,7 @@ broken =
     ++ (Send 3 1 (0xaa ∷ []) ∷ Deliver 1 2 1 ∷ Deliver 2 1 1 ∷ Deliver 3 2 1 ∷ Break 2 3 ∷ Send 1 3 (0xbb ∷ []) ∷ Deliver 5 2 1 ∷ Deliver 6 1 1 ∷ Deliver 1 1 9 ∷ Show 1 ∷ [])
 
 -- An old request does not revive a route that broke, whose rank stays.
-abbrev pub ABrokenRouteStaysBroken : Type 0
+unfoldable pub ABrokenRouteStaysBroken : Type 0
 ABrokenRouteStaysBroken =
     (answers_after 7 broken ≡ said.Waiting ∷ said.Relayed ∷ said.Answered ∷ said.Relayed ∷ said.Broken ∷ said.Sent ∷ said.Reported ∷ said.Broken ∷ said.NotBetter ∷ said.Shown ∷ [])
     × (shown_at_last (run plain start broken) ≡ Some (record {
@@ -93,7 +93,7 @@ lost =
     ++ (Send 3 1 (0xaa ∷ []) ∷ Deliver 1 2 1 ∷ Deliver 2 1 1 ∷ Deliver 3 2 1 ∷ Break 2 3 ∷ Send 1 3 (0xbb ∷ []) ∷ Deliver 5 2 1 ∷ Deliver 6 1 1 ∷ Lose 1 ∷ [])
 
 -- A flight that was lost is not there any more.
-abbrev pub ALostFlightComesNoMore : Type 0
+unfoldable pub ALostFlightComesNoMore : Type 0
 ALostFlightComesNoMore = (answers_after 15 lost ≡ said.Lost ∷ []) × (fault_after lost (Deliver 1 1 9) ≡ Some faults.Flight)
 
 -- # Hops that are left
@@ -103,7 +103,7 @@ abbrev pub with_hops : ℕ → List Event
 with_hops hops = three_meters ++ (Near 1 2 1 ∷ Inject 1 1 (sealed 1 3 9 (whole hops 3 2 (0xaa ∷ []))) ∷ [])
 
 -- A unit goes on with one hop less while it has two, and its hops are spelled in their shortest form.
-abbrev pub AUnitGoesOnWhileHopsAreLeft : Type 0
+unfoldable pub AUnitGoesOnWhileHopsAreLeft : Type 0
 AUnitGoesOnWhileHopsAreLeft =
     (answers_after 8 (with_hops 0) ≡ said.HopsSpent ∷ [])
     × (answers_after 8 (with_hops 1) ≡ said.HopsSpent ∷ [])
@@ -118,7 +118,7 @@ abbrev pub other_units : List Event
 other_units = three_meters ++ (Near 1 2 1 ∷ Inject 1 1 (sealed 1 3 9 (part_of 3 2 16 5 1 (replicate 8 7))) ∷ Inject 1 1 (sealed 1 3 10 (command 3 2 (9 ∷ []))) ∷ [])
 
 -- Pieces and joining commands for another node go on as datagrams do, unread.
-abbrev pub EveryUnitGoesOn : Type 0
+unfoldable pub EveryUnitGoesOn : Type 0
 EveryUnitGoesOn =
     (answers_after 8 other_units ≡ said.Relayed ∷ said.Relayed ∷ [])
     × (octets_of other_units 1 ≡ Some (sealed 2 1 0 (Part (record { hops = 13; origin = 3; to = 2 }) (record { size = 16; tag = 5; offset = 1; octets = replicate 8 7 }))))
@@ -131,7 +131,7 @@ abbrev pub without_route : (hops origin : ℕ) → List Event
 without_route hops origin = three_meters ++ (Near 1 3 1 ∷ Inject 1 1 (sealed 1 3 9 (whole hops origin 2 (0xaa ∷ []))) ∷ [])
 
 -- A unit that can't go on is reported to its origin, where a route leads there and it is another node; no hop need be left to it.
-abbrev pub AUnitWithoutARouteIsReported : Type 0
+unfoldable pub AUnitWithoutARouteIsReported : Type 0
 AUnitWithoutARouteIsReported =
     (answers_after 8 (without_route 14 3) ≡ said.Reported ∷ [])
     × (octets_of (without_route 14 3) 1 ≡ Some (sealed 3 1 0 (routing_unit (Rerr 2 3))))
@@ -145,7 +145,7 @@ abbrev pub counters_gone : ℕ → List Event
 counters_gone gone = three_meters ++ (Near 1 2 1 ∷ Near 1 3 1 ∷ Counter 1 gone ∷ [])
 
 -- Going on and reporting take one counter each, and hops are judged before counters.
-abbrev pub GoingOnTakesACounter : Type 0
+unfoldable pub GoingOnTakesACounter : Type 0
 GoingOnTakesACounter =
     (answers_to (counters_gone 4294967295)
     (Inject 1 1 (sealed 1 3 9 (whole 2 3 2 (0xaa ∷ []))) ∷ Inject 1 1 (sealed 1 3 10 (whole 1 3 2 (0xaa ∷ []))) ∷ Inject 1 1 (sealed 1 3 11 (whole 2 3 0 (0xaa ∷ []))) ∷ [])
@@ -160,7 +160,7 @@ abbrev pub error_by : (by lost to : ℕ) → List Event
 error_by by lost to = three_meters ++ (Near 1 2 1 ∷ Near 1 3 1 ∷ Inject 1 1 (sealed 1 by 9 (routing_unit (Rerr lost to))) ∷ [])
 
 -- A route error ends the route to the lost address where it goes by the neighbour, keeps its rank, and goes on to another target.
-abbrev pub AnErrorGoesOnToItsTarget : Type 0
+unfoldable pub AnErrorGoesOnToItsTarget : Type 0
 AnErrorGoesOnToItsTarget =
     (answers_after 9 (error_by 2 2 3) ≡ said.Broken ∷ [])
     × (octets_of (error_by 2 2 3) 1 ≡ Some (sealed 3 1 0 (routing_unit (Rerr 2 3))))
@@ -181,7 +181,7 @@ abbrev pub error_without_counters : List Event
 error_without_counters = counters_gone 4294967295 ++ (Inject 1 1 (sealed 1 2 9 (routing_unit (Rerr 2 3))) ∷ [])
 
 -- An error that can't go on is refused and ends no route; one that need not go on takes no counter.
-abbrev pub AnErrorThatGoesOnTakesACounter : Type 0
+unfoldable pub AnErrorThatGoesOnTakesACounter : Type 0
 AnErrorThatGoesOnTakesACounter =
     (answers_after 10 error_without_counters ≡ said.CounterSpent ∷ [])
     × (route_at error_without_counters 1 2 ≡ Some 2)
@@ -201,7 +201,7 @@ error_by_its_hop = two_meters ++ (Near 0 1 1 ∷ Inject 1 1 (error_for 0) ∷ []
 
 -- A route error whose lost address is its target goes on by a route that another hop leads, which takes a counter; where the route goes by
 -- the sender, none is left, and no frame goes out.
-abbrev pub AnErrorForItsTargetGoesOn : Type 0
+unfoldable pub AnErrorForItsTargetGoesOn : Type 0
 AnErrorForItsTargetGoesOn =
     (answers_after 6 error_by_another ≡ said.Broken ∷ [])
     × (octets_of error_by_another 1 ≡ Some (sealed 2 1 0 (routing_unit (Rerr 2 2))))

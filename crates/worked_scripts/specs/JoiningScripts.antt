@@ -29,7 +29,7 @@ joined = joining ++ (Deliver 5 0 1 ∷ Activate 1 0 ∷ [])
 
 -- A meter joins over the air: both ends come to an end, and the meter has its address; its session is over, and the keys of its grant are
 -- known as issued.
-abbrev pub AMeterJoinsOverTheAir : Type 0
+unfoldable pub AMeterJoinsOverTheAir : Type 0
 AMeterJoinsOverTheAir =
     (answers_after 2 joining
     ≡ said.Allowed ∷ said.Given ∷ said.Given ∷ said.Asked ∷ said.Challenged ∷ said.Replied ∷ said.Keyed ∷ said.Took ∷ said.Done ∷ said.Noted ∷ [])
@@ -45,7 +45,7 @@ joining_again =
     asking ++ (Deliver 1 0 1 ∷ Deliver 2 1 1 ∷ Deliver 3 0 1 ∷ Rand 0 rand_p ∷ Rand 1 rand_q ∷ Join 1 0 ∷ Deliver 5 0 1 ∷ Deliver 6 1 1 ∷ Deliver 4 1 1 ∷ [])
 
 -- A meter that has asked again hears only what answers that: the third packet of its earlier session is refused.
-abbrev pub AnOldThirdPacketIsRefused : Type 0
+unfoldable pub AnOldThirdPacketIsRefused : Type 0
 AnOldThirdPacketIsRefused = answers_after 13 joining_again ≡ said.Replied ∷ said.OtherSession ∷ []
 
 -- the joining of a meter and a coordinator that have no counter and no own number left
@@ -55,7 +55,7 @@ joining_without_counters =
     ∷ Allow 1 ∷ Rand 0 rand_k ∷ Rand 1 rand_r ∷ Join 1 0 ∷ Deliver 1 0 1 ∷ Deliver 2 1 1 ∷ Deliver 3 0 1 ∷ Deliver 4 1 1 ∷ Deliver 5 0 1 ∷ Deliver 6 1 1 ∷ []
 
 -- Plain frames take no counter and no own number.
-abbrev pub PlainFramesTakeNoCounter : Type 0
+unfoldable pub PlainFramesTakeNoCounter : Type 0
 PlainFramesTakeNoCounter =
     answers_after 10 joining_without_counters ≡ said.Challenged ∷ said.Replied ∷ said.Keyed ∷ said.Took ∷ said.Done ∷ said.Noted ∷ []
 
@@ -69,7 +69,7 @@ by_agent =
     ∷ Deliver 11 1 1 ∷ Deliver 12 2 1 ∷ []
 
 -- A meter joins through another one that is joined, as over the air.
-abbrev pub AMeterJoinsThroughAnAgent : Type 0
+unfoldable pub AMeterJoinsThroughAnAgent : Type 0
 AMeterJoinsThroughAnAgent =
     (answers_after 9 by_agent
     ≡ said.Carried ∷ said.Challenged ∷ said.Carried ∷ said.Replied ∷ said.Carried ∷ said.Keyed ∷ said.Carried ∷ said.Took ∷ said.Carried ∷ said.Done ∷ said.Carried
@@ -87,7 +87,7 @@ challenged = asking ++ (Deliver 1 0 1 ∷ [])
 
 -- A meter's session lasts less than 120 seconds from the call that began it, and again from its answer; the coordinator's lasts less than 120
 -- seconds from its first packet, which the third does not lengthen.
-abbrev pub ASessionEndsAfterTwoMinutes : Type 0
+unfoldable pub ASessionEndsAfterTwoMinutes : Type 0
 ASessionEndsAfterTwoMinutes =
     (answers_to challenged (Tick 119 ∷ Deliver 2 1 1 ∷ Deliver 3 0 1 ∷ Tick 119 ∷ Deliver 4 1 1 ∷ []) ≡ said.Ticked ∷ said.Replied ∷ said.Keyed ∷ said.Ticked ∷ said.Took ∷ [])
     × (answers_to challenged (Tick 120 ∷ Deliver 2 1 1 ∷ []) ≡ said.Ticked ∷ said.NoSession ∷ [])
@@ -115,7 +115,7 @@ first_packet = packets.head 1 1 30 0 rand_k.0 ++ (eui 1).0
 
 -- A challenge comes by the agent that was asked. A packet whose sixth octet begins with two zero bits is a first one, which needs a random value
 -- before its form is judged, and leaves it where it is refused; each other one is a third, which needs an answered challenge.
-abbrev pub ChallengesAreJudgedInOrder : Type 0
+unfoldable pub ChallengesAreJudgedInOrder : Type 0
 ChallengesAreJudgedInOrder =
     answers_to asking_early
     (challenge_by 1 (big_bytes 6 0) ∷ challenge_by 0 (big_bytes 6 0) ∷ Rand 1 rand_r ∷ challenge_by 0 (big_bytes 6 0) ∷ challenge_by 0 (big_bytes 6 0x40) ∷ challenge_by 0 (big_bytes 5 0)
@@ -143,7 +143,7 @@ abbrev pub replied : List Event
 replied = challenged ++ (Deliver 2 1 1 ∷ [])
 
 -- A pair tag that no node made is named as forged where the node found it right, also where its store fails then; a wrong one is refused.
-abbrev pub AForgedGrantIsNamed : Type 0
+unfoldable pub AForgedGrantIsNamed : Type 0
 AForgedGrantIsNamed =
     (answers_to replied (forged_third pair_key ∷ []) ≡ said.Took ∷ [])
     × (forged_at_last (run plain start (replied ++ (forged_third pair_key ∷ []))) ≡ true)
@@ -165,7 +165,7 @@ eight_sessions =
     alone ++ (map (λ n. Meter (eui n) pair_key) (range_with_len 2 9) ++ (map (λ n. Allow n) (range_with_len 1 9) ++ (replicate 8 (Rand 0 rand_k) ++ map asks (range_with_len 2 8))))
 
 -- The coordinator has eight sessions at most; room is judged before random values, and a meter with a session needs none. A kick makes room.
-abbrev pub EightSessionsAreOpen : Type 0
+unfoldable pub EightSessionsAreOpen : Type 0
 EightSessionsAreOpen =
     (answers_after 27 eight_sessions ≡ replicate 8 said.Challenged)
     × (answers_to eight_sessions (asks 10 ∷ Challenge 9 ∷ asks 2 ∷ Challenge 1 ∷ Rand 0 rand_k ∷ asks 10 ∷ asks 2 ∷ Kick 1 ∷ asks 10 ∷ Rand 0 rand_k ∷ asks 10 ∷ [])
@@ -178,7 +178,7 @@ abbrev pub kicked_unaware : List Event
 kicked_unaware = joining ++ (Kick 1 ∷ Join 1 0 ∷ [])
 
 -- A meter that was kicked without a route knows nothing of it.
-abbrev pub AKickedMeterMayNotKnow : Type 0
+unfoldable pub AKickedMeterMayNotKnow : Type 0
 AKickedMeterMayNotKnow =
     (answers_after 12 kicked_unaware ≡ said.Kicked ∷ said.AlreadyJoined ∷ [])
     × (counts_of kicked_unaware ≡ record { events = 14; flights = 6; sends = 0; ups = 0; forged = 0 })

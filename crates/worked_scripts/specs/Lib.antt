@@ -3,4 +3,9 @@ pub mod HopScripts
 pub mod RankScripts
 pub mod PieceScripts
 pub mod WaitingScripts
+pub mod FrameScripts
 pub mod JoiningScripts
+pub mod WayScripts
+pub mod KeyScripts
+pub mod StoreScripts
+pub mod CallScripts

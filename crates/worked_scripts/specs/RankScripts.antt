@@ -15,7 +15,7 @@ abbrev pub dear : ℕ → List Event
 dear link = two_meters ++ (Inject 1 link (sealed everyone 2 9 (routing_unit (Rreq 5 65500 2 7))) ∷ [])
 
 -- A request goes on as long as its cost has a number of 16 bits.
-abbrev pub CostsAreSpent : Type 0
+unfoldable pub CostsAreSpent : Type 0
 CostsAreSpent =
     (answers_after 5 (dear 36) ≡ said.CostSpent ∷ [])
     × (answers_after 5 (dear 35) ≡ said.Relayed ∷ [])
@@ -40,7 +40,7 @@ requests =
 
 -- A request is taken where its rank beats the kept one: by a greater number, or by a lower cost at the same number. Its own origin refuses it,
 -- a sum above 65,535 is compared whole, and one that is not for all is no request. The node that is sought answers with a number of its own.
-abbrev pub RequestsOfferRanks : Type 0
+unfoldable pub RequestsOfferRanks : Type 0
 RequestsOfferRanks =
     (answers_to three_meters requests
     ≡ said.NotBetter ∷ said.Relayed ∷ said.NotBetter ∷ said.NotBetter ∷ said.CostSpent ∷ said.NotBetter ∷ said.Relayed ∷ said.Answered ∷ said.NotBetter ∷ said.BadUnit ∷ [])
@@ -73,7 +73,7 @@ abbrev pub beside_two : List Event
 beside_two = three_meters ++ (Near 1 2 1 ∷ [])
 
 -- A reply to another node needs a route to it; then its rank is judged as that of a request, and one to all is no reply.
-abbrev pub RepliesOfferRanks : Type 0
+unfoldable pub RepliesOfferRanks : Type 0
 RepliesOfferRanks =
     (answers_to beside_two replies
     ≡ said.NoRoute ∷ said.NoRoute ∷ said.NotBetter ∷ said.NotBetter ∷ said.NotBetter ∷ said.NotBetter ∷ said.CostSpent ∷ said.Learned ∷ said.Learned ∷ said.BadUnit ∷ [])
@@ -86,7 +86,7 @@ abbrev pub reply_to_its_origin : List Event
 reply_to_its_origin = four_meters ++ (Near 1 4 1 ∷ Inject 1 1 (sealed 1 3 9 (routing_unit (Rrep 5 0 4 4))) ∷ [])
 
 -- A reply goes on by the hop that led to its target before its own offer, also where its origin is its target.
-abbrev pub AReplyGoesByTheHopFromBefore : Type 0
+unfoldable pub AReplyGoesByTheHopFromBefore : Type 0
 AReplyGoesByTheHopFromBefore =
     (answers_after 10 reply_to_its_origin ≡ said.Relayed ∷ [])
     × (octets_of reply_to_its_origin 1 ≡ Some (sealed 4 1 0 (routing_unit (Rrep 5 1 4 4))))
@@ -99,7 +99,7 @@ abbrev pub numbers_gone : List Event
 numbers_gone = two_meters ++ (Number 1 65535 ∷ [])
 
 -- Only the node that is sought needs an own number, which is judged after the rank and before the counters.
-abbrev pub AnAnswerTakesANumber : Type 0
+unfoldable pub AnAnswerTakesANumber : Type 0
 AnAnswerTakesANumber =
     (answers_to numbers_gone
     (Inject 1 1 (sealed everyone 2 1 (routing_unit (Rreq 5 0 2 1))) ∷ Inject 1 1 (sealed everyone 2 2 (routing_unit (Rreq 5 0 2 0))) ∷ Inject 1 1 (sealed everyone 2 3 (routing_unit (Rreq 5 0 2 1))) ∷ [])
@@ -115,7 +115,7 @@ abbrev pub route_of_age : ℕ → List Event
 route_of_age seconds = two_meters ++ (Near 1 2 1 ∷ Tick seconds ∷ [])
 
 -- A route is valid for less than 21,600 seconds, and its rank stays.
-abbrev pub ARouteEndsAfterSixHours : Type 0
+unfoldable pub ARouteEndsAfterSixHours : Type 0
 ARouteEndsAfterSixHours =
     (answers_to (route_of_age 21599) (Send 1 2 (0xaa ∷ []) ∷ []) ≡ said.Sent ∷ [])
     × (answers_to (route_of_age 21600) (Send 1 2 (0xaa ∷ []) ∷ []) ≡ said.Waiting ∷ [])
@@ -142,7 +142,7 @@ full_after seconds = full ++ (Tick seconds ∷ [])
 
 -- A full table takes an offer for an address that it keeps, and refuses another one while each of its routes was offered less than 60 seconds
 -- ago; the cost is judged before.
-abbrev pub AFullTableRefuses : Type 0
+unfoldable pub AFullTableRefuses : Type 0
 AFullTableRefuses =
     answers_to full
     (numbered_reply 200 9 200 ∷ Inject 1 1 (sealed 1 2 201 (routing_unit (Rrep 9 65535 200 1))) ∷ Inject 1 1 (sealed everyone 2 202 (routing_unit (Rreq 9 0 200 3)))
@@ -155,7 +155,7 @@ offered_again = full ++ (Tick 10 ∷ numbered_reply 100 201 200 ∷ Tick 50 ∷ 
 
 -- After 60 seconds the earliest offer is forgotten, of equal ones the lowest address; its number is the floor of its class, which a rank of that
 -- class has to pass.
-abbrev pub AFullTableForgetsTheEarliest : Type 0
+unfoldable pub AFullTableForgetsTheEarliest : Type 0
 AFullTableForgetsTheEarliest =
     (answers_to (full_after 60)
     (numbered_reply 200 9 200 ∷ numbered_reply 100 200 201 ∷ numbered_reply 164 200 202 ∷ numbered_reply 164 201 203 ∷ numbered_reply 165 199 204 ∷ numbered_reply 165 200 205 ∷ [])
@@ -170,7 +170,7 @@ abbrev pub two_broken : List Event
 two_broken = full ++ (Inject 1 1 (sealed 1 2 200 (routing_unit (Rerr 120 1))) ∷ Inject 1 1 (sealed 1 2 201 (routing_unit (Rerr 150 1))) ∷ numbered_reply 200 9 202 ∷ [])
 
 -- A rank without a valid route is forgotten before any other one and at once, of several the lowest number.
-abbrev pub AFullTableForgetsTheBroken : Type 0
+unfoldable pub AFullTableForgetsTheBroken : Type 0
 AFullTableForgetsTheBroken =
     (answers_after 69 two_broken ≡ said.Broken ∷ said.Broken ∷ said.Learned ∷ [])
     × (rank_at two_broken 1 150 ≡ None)
@@ -180,7 +180,7 @@ AFullTableForgetsTheBroken =
     × (rank_at (two_broken ++ (numbered_reply 150 151 204 ∷ [])) 1 120 ≡ None)
 
 -- Forgetting stores the floors before the rank, which takes the slot of the forgotten one; nothing of a floor is stored where none rises.
-abbrev pub FloorsAreStoredFirst : Type 0
+unfoldable pub FloorsAreStoredFirst : Type 0
 FloorsAreStoredFirst =
     (hearing_writes (full_after 60) 1 2 (routing_unit (Rrep 9 0 200 1))
     ≡ record { slot = 5; octets = big_bytes 8 0 ++ (big_bytes 2 200 ++ big_bytes 22 0) }
@@ -202,7 +202,7 @@ abbrev pub senders : ℕ → List Event
 senders count = two_meters ++ map (λ sender. error_of sender 5) (range_with_len 100 count)
 
 -- A node hears 64 senders, each by counters that rise, and no other sender.
-abbrev pub ANodeHearsSixtyFourSenders : Type 0
+unfoldable pub ANodeHearsSixtyFourSenders : Type 0
 ANodeHearsSixtyFourSenders =
     (answers_to (senders 64) (error_of 200 9 ∷ error_of 100 5 ∷ error_of 100 6 ∷ error_of 163 4 ∷ error_of 163 6 ∷ error_of 2 9 ∷ [])
     ≡ said.PeersFull ∷ said.Replayed ∷ said.Broken ∷ said.Replayed ∷ said.Broken ∷ said.PeersFull ∷ [])

@@ -17,7 +17,7 @@ leaving =
     ++ (Send 1 2 (0xaa ∷ []) ∷ Send 1 0 (0xdd ∷ []) ∷ Send 1 2 (replicate 376 7) ∷ Send 1 2 (0xcc ∷ []) ∷ Deliver 1 2 1 ∷ Deliver 3 1 1 ∷ [])
 
 -- One request seeks a route for all that waits; then what waits for it leaves, in the order of its arrival, and the rest waits.
-abbrev pub WhatWaitsLeavesInOrder : Type 0
+unfoldable pub WhatWaitsLeavesInOrder : Type 0
 WhatWaitsLeavesInOrder =
     (answers_after 5 leaving ≡ said.Waiting ∷ said.Waiting ∷ said.Waiting ∷ said.Waiting ∷ said.Answered ∷ said.Learned ∷ [])
     × (octets_of leaving 1 ≡ Some (sealed everyone 1 0 (routing_unit (Rreq 2 0 1 2))))
@@ -37,7 +37,7 @@ abbrev pub leaving_at_a_request : List Event
 leaving_at_a_request = two_meters ++ (Send 1 2 (0xaa ∷ []) ∷ Inject 1 1 (sealed everyone 2 9 (routing_unit (Rreq 5 0 2 1))) ∷ [])
 
 -- What waits for the origin of a request leaves before the answer to it, whose number was taken before.
-abbrev pub WhatWaitsLeavesBeforeTheAnswer : Type 0
+unfoldable pub WhatWaitsLeavesBeforeTheAnswer : Type 0
 WhatWaitsLeavesBeforeTheAnswer =
     (answers_after 6 leaving_at_a_request ≡ said.Answered ∷ [])
     × (octets_of leaving_at_a_request 2 ≡ Some (sealed 2 1 1 (whole 14 1 2 (0xaa ∷ []))))
@@ -50,7 +50,7 @@ abbrev pub eight_wait : List Event
 eight_wait = one_meter ++ replicate 8 (Send 1 0 (0xaa ∷ []))
 
 -- Eight bodies wait at most, and a route needs no room.
-abbrev pub EightBodiesWait : Type 0
+unfoldable pub EightBodiesWait : Type 0
 EightBodiesWait =
     (answers_after 3 eight_wait ≡ replicate 8 said.Waiting)
     × (answers_to eight_wait (Send 1 0 (0xaa ∷ []) ∷ []) ≡ said.WaitingFull ∷ [])
@@ -62,7 +62,7 @@ abbrev pub blocks_wait : List Event
 blocks_wait = one_meter ++ replicate 4 (Send 1 0 (replicate 1216 7))
 
 -- They fill 80 blocks of 64 octets at most.
-abbrev pub EightyBlocksWait : Type 0
+unfoldable pub EightyBlocksWait : Type 0
 EightyBlocksWait =
     answers_to blocks_wait (Send 1 0 (replicate 257 7) ∷ Send 1 0 (replicate 256 7) ∷ Send 1 0 (0xaa ∷ []) ∷ []) ≡ said.WaitingFull ∷ said.Waiting ∷ said.WaitingFull ∷ []
 
@@ -77,7 +77,7 @@ abbrev pub answered_late : ℕ → List Event
 answered_late seconds = waited seconds ++ (Deliver 1 2 1 ∷ Deliver 2 1 1 ∷ [])
 
 -- A body waits for less than 30 seconds. Once none waits for an address, its route is sought anew.
-abbrev pub WaitingEndsAfterHalfAMinute : Type 0
+unfoldable pub WaitingEndsAfterHalfAMinute : Type 0
 WaitingEndsAfterHalfAMinute =
     (counts_of (answered_late 19) ≡ record { events = 11; flights = 4; sends = 2; ups = 0; forged = 0 })
     × (counts_of (answered_late 20) ≡ record { events = 11; flights = 3; sends = 2; ups = 0; forged = 0 })
@@ -93,7 +93,7 @@ abbrev pub one_number : List Event
 one_number = two_meters ++ (Number 1 65534 ∷ [])
 
 -- An own number is taken for the first body that waits for an address, and judged after the room and before the counters.
-abbrev pub SeekingTakesANumber : Type 0
+unfoldable pub SeekingTakesANumber : Type 0
 SeekingTakesANumber =
     (answers_to one_number (Send 1 2 (0xaa ∷ []) ∷ Send 1 2 (0xaa ∷ []) ∷ Send 1 0 (0xaa ∷ []) ∷ []) ≡ said.Waiting ∷ said.Waiting ∷ said.SeqSpent ∷ [])
     × (answers_to (one_number ++ replicate 8 (Send 1 2 (0xaa ∷ []))) (Send 1 0 (0xaa ∷ []) ∷ []) ≡ said.WaitingFull ∷ [])
@@ -106,7 +106,7 @@ abbrev pub gone : ℕ → List Event
 gone counters = two_meters ++ (Counter 1 counters ∷ [])
 
 -- A body that waits takes a counter for its request alone, and none where the route is sought already.
-abbrev pub SeekingTakesACounter : Type 0
+unfoldable pub SeekingTakesACounter : Type 0
 SeekingTakesACounter =
     (answers_to (gone 4294967294) (Send 1 2 (0xaa ∷ []) ∷ Send 1 2 (replicate 376 7) ∷ Send 1 0 (0xaa ∷ []) ∷ []) ≡ said.Waiting ∷ said.Waiting ∷ said.CounterSpent ∷ [])
     × (answers_to (two_meters ++ (Near 1 2 1 ∷ Counter 1 4294967294 ∷ [])) (Send 1 2 (replicate 376 7) ∷ Send 1 2 (0xaa ∷ []) ∷ Send 1 2 (0xaa ∷ []) ∷ [])
@@ -124,7 +124,7 @@ abbrev pub request_for : ℕ → Event
 request_for dest = Inject 1 1 (sealed everyone 2 9 (routing_unit (Rreq 5 0 2 dest)))
 
 -- All pieces of what waits count, and beside them the frame of the answer or of the message that goes on; a refusal makes no route.
-abbrev pub WaitingPiecesTakeCounters : Type 0
+unfoldable pub WaitingPiecesTakeCounters : Type 0
 WaitingPiecesTakeCounters =
     (answers_to (three_frames_wait 4294967291) (reply_that_frees ∷ []) ≡ said.Learned ∷ [])
     × (counts_of (three_frames_wait 4294967291 ++ (reply_that_frees ∷ [])) ≡ record { events = 9; flights = 4; sends = 2; ups = 0; forged = 1 })
@@ -137,7 +137,7 @@ WaitingPiecesTakeCounters =
     × (answers_to (three_frames_wait 4294967290) (request_for 0 ∷ []) ≡ said.Relayed ∷ [])
 
 -- Nothing is sent without a counter, nor sought without an own number.
-abbrev pub NothingIsSentWhenSpent : Type 0
+unfoldable pub NothingIsSentWhenSpent : Type 0
 NothingIsSentWhenSpent =
     (answers_after 3 (one_meter ++ (Counter 1 4294967295 ∷ Send 1 0 (0xaa ∷ []) ∷ [])) ≡ said.Set ∷ said.CounterSpent ∷ [])
     × (answers_after 3 (one_meter ++ (Number 1 65535 ∷ Send 1 0 (0xaa ∷ []) ∷ [])) ≡ said.Set ∷ said.SeqSpent ∷ [])
