@@ -41,7 +41,7 @@ going_on_takes_a_counter = (refl, refl)
 
 pub an_error_goes_on_to_its_target : AnErrorGoesOnToItsTarget
 unfolding computed AnErrorGoesOnToItsTarget
-an_error_goes_on_to_its_target = (refl, refl, refl, refl, refl, refl, refl, refl, refl, refl, refl, refl, refl)
+an_error_goes_on_to_its_target = (refl, refl, refl, refl, refl, refl, refl, refl, refl, refl, refl, refl, refl, refl)
 
 pub an_error_that_goes_on_takes_a_counter : AnErrorThatGoesOnTakesACounter
 unfolding computed AnErrorThatGoesOnTakesACounter

@@ -1,7 +1,7 @@
 -- What a step stores, in which order, and what is left where a write fails: the runs are computed.
 use Rattle.std.proofs.Common.{refl}
 use Rattle.worked_scripts.proofs.Computing.{computed}
-use Rattle.worked_scripts.specs.StoreScripts.{AFailedWriteHalts, EachWriteMayFail, ASendStoresItsTagFirst, TheWorkshopStores, OrdersAreStored, WhatDoesNotChangeIsNotStored, AJoiningStoresItsKeys, AKickIsStoredFirst, LimitsStopAtTheEnd, AStepPassesTheLimitOnce, MarksAreStoredAhead, NumbersAreStoredAhead}
+use Rattle.worked_scripts.specs.StoreScripts.{AFailedWriteHalts, EachWriteMayFail, ASendStoresItsTagFirst, TagsBeginAgain, TheWorkshopStores, OrdersAreStored, WhatDoesNotChangeIsNotStored, AJoiningStoresItsKeys, AKickIsStoredFirst, LimitsStopAtTheEnd, AStepPassesTheLimitOnce, MarksAreStoredAhead, NumbersAreStoredAhead}
 
 pub a_failed_write_halts : AFailedWriteHalts
 unfolding computed AFailedWriteHalts
@@ -14,6 +14,10 @@ each_write_may_fail = (refl, refl, refl, refl, refl, refl, refl, refl, refl, ref
 pub a_send_stores_its_tag_first : ASendStoresItsTagFirst
 unfolding computed ASendStoresItsTagFirst
 a_send_stores_its_tag_first = (refl, refl, refl, refl, refl, refl, refl, refl, refl, refl)
+
+pub tags_begin_again : TagsBeginAgain
+unfolding computed TagsBeginAgain
+tags_begin_again = (refl, refl)
 
 pub the_workshop_stores : TheWorkshopStores
 unfolding computed TheWorkshopStores

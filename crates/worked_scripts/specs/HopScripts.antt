@@ -148,7 +148,7 @@ counters_gone gone = three_meters ++ (Near 1 2 1 ∷ Near 1 3 1 ∷ Counter 1 go
 unfoldable pub GoingOnTakesACounter : Type 0
 GoingOnTakesACounter =
     (answers_to (counters_gone 4294967295)
-    (Inject 1 1 (sealed 1 3 9 (whole 2 3 2 (0xaa ∷ []))) ∷ Inject 1 1 (sealed 1 3 10 (whole 1 3 2 (0xaa ∷ []))) ∷ Inject 1 1 (sealed 1 3 11 (whole 2 3 0 (0xaa ∷ []))) ∷ [])
+      (Inject 1 1 (sealed 1 3 9 (whole 2 3 2 (0xaa ∷ []))) ∷ Inject 1 1 (sealed 1 3 10 (whole 1 3 2 (0xaa ∷ []))) ∷ Inject 1 1 (sealed 1 3 11 (whole 2 3 0 (0xaa ∷ []))) ∷ [])
     ≡ said.CounterSpent ∷ said.HopsSpent ∷ said.CounterSpent ∷ [])
     × (answers_to (counters_gone 4294967294) (Inject 1 1 (sealed 1 3 9 (whole 2 3 2 (0xaa ∷ []))) ∷ Inject 1 1 (sealed 1 3 10 (whole 2 3 2 (0xaa ∷ []))) ∷ [])
     ≡ said.Relayed ∷ said.CounterSpent ∷ [])
@@ -167,6 +167,7 @@ AnErrorGoesOnToItsTarget =
     × (route_at (error_by 2 2 3) 1 2 ≡ None)
     × (rank_at (error_by 2 2 3) 1 2 ≡ Some (record { number = 1; cost = 1 }))
     × (route_at (error_by 2 2 3) 1 3 ≡ Some 3)
+    × (route_at (error_by 2 0 3) 1 2 ≡ Some 2)
     × (answers_after 9 (error_by 3 2 3) ≡ said.Broken ∷ [])
     × (octets_of (error_by 3 2 3) 1 ≡ Some (sealed 3 1 0 (routing_unit (Rerr 2 3))))
     × (route_at (error_by 3 2 3) 1 2 ≡ Some 2)

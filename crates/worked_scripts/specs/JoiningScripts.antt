@@ -6,12 +6,13 @@ use Rattle.plc_base.specs.declared.key.Key.{Key}
 use Rattle.plc_base.specs.Grant.{Granted}
 use Rattle.eap_psk.specs.Messages as packets
 use Rattle.eap_psk.specs.declared.server.Server.{Server}
+use Rattle.eap_psk.specs.declared.peer.Peer.{Peer}
 use Rattle.line_rules.specs.declared.event.Answer.TheVariants as said
 use Rattle.line_rules.specs.declared.event.Event.{Event}
 use Rattle.line_rules.specs.declared.event.Event.TheVariants.{Coordinator, Meter, Depot, Near, Counter, Number, Allow, Rand, Join, Deliver, Inject, Tick, Cut, Activate, Challenge, Kick}
 use Rattle.line_rules.specs.Worlds.{start}
 use Rattle.line_rules.specs.Runs.{run}
-use Rattle.worked_scripts.specs.Scripts.{plain, plain_third, eui, group_key, pair_key, second_key, rand_k, rand_r, rand_p, rand_q, alone, up_frame, down_frame, said_of, answers_after, answers_to, counts_of, forged_at_last, takers, doers, admissions}
+use Rattle.worked_scripts.specs.Scripts.{plain, plain_second, plain_third, plain_fourth, eui, group_key, pair_key, second_key, rand_k, rand_r, rand_p, rand_q, alone, up_frame, down_frame, said_of, answers_after, answers_to, counts_of, forged_at_last, takers, doers, admissions}
 
 -- # Over the air
 
@@ -118,9 +119,9 @@ first_packet = packets.head 1 1 30 0 rand_k.0 ++ (eui 1).0
 unfoldable pub ChallengesAreJudgedInOrder : Type 0
 ChallengesAreJudgedInOrder =
     answers_to asking_early
-    (challenge_by 1 (big_bytes 6 0) ∷ challenge_by 0 (big_bytes 6 0) ∷ Rand 1 rand_r ∷ challenge_by 0 (big_bytes 6 0) ∷ challenge_by 0 (big_bytes 6 0x40) ∷ challenge_by 0 (big_bytes 5 0)
-    ∷ challenge_by 0 first_packet ∷ challenge_by 0 first_packet ∷ challenge_by 0 (big_bytes 6 0x40)
-    ∷ Inject 1 1 (down_frame 2 1 (said_of 4 2 [])) ∷ Inject 1 1 (down_frame 2 0 (said_of 4 2 [])) ∷ challenge_by 0 (big_bytes 6 0x40) ∷ [])
+      (challenge_by 1 (big_bytes 6 0) ∷ challenge_by 0 (big_bytes 6 0) ∷ Rand 1 rand_r ∷ challenge_by 0 (big_bytes 6 0) ∷ challenge_by 0 (big_bytes 6 0x40) ∷ challenge_by 0 (big_bytes 5 0)
+      ∷ challenge_by 0 first_packet ∷ challenge_by 0 first_packet ∷ challenge_by 0 (big_bytes 6 0x40)
+      ∷ Inject 1 1 (down_frame 2 1 (said_of 4 2 [])) ∷ Inject 1 1 (down_frame 2 0 (said_of 4 2 [])) ∷ challenge_by 0 (big_bytes 6 0x40) ∷ [])
     ≡ said.NoSession ∷ said.NoRandom ∷ said.Given ∷ said.Form ∷ said.Form ∷ said.Form
     ∷ said.Replied ∷ said.NoRandom ∷ said.Form ∷ said.NoSession ∷ said.Declined ∷ said.NoSession ∷ []
 
@@ -152,6 +153,37 @@ AForgedGrantIsNamed =
     × (takers (run plain start (replied ++ (Cut 1 1 false ∷ forged_third pair_key ∷ []))) ≡ [])
     × (answers_to replied (forged_third second_key ∷ []) ≡ said.BadMac ∷ [])
     × (forged_at_last (run plain start (replied ++ (forged_third second_key ∷ []))) ≡ false)
+
+-- the meter's end of the joining
+abbrev pub peer : Peer
+peer = record { eui = eui 2; id_s = eui 1; rand_s = rand_k; rand_p = rand_r }
+
+-- a packet of the meter comes to the coordinator
+abbrev pub answer_by : List ℕ → Event
+answer_by packet = Inject 0 1 (up_frame 0 2 (said_of 1 2 packet))
+
+-- second packets without their form, with another identifier, of another session and another meter, and under another pair key; a right one, and
+-- then the same of fourth ones
+abbrev pub answers_of_a_meter : List Event
+answers_of_a_meter =
+    answer_by (7 ∷ []) ∷ answer_by (plain_second pair_key 2 peer) ∷ answer_by (plain_second pair_key 1 (record peer { rand_s = rand_p }))
+    ∷ answer_by (plain_second pair_key 1 (record peer { eui = eui 3 })) ∷ answer_by (plain_second second_key 1 peer) ∷ answer_by (plain_second pair_key 1 peer)
+    ∷ answer_by (plain_second pair_key 1 peer) ∷ answer_by (plain_fourth pair_key 1 peer) ∷ answer_by (plain_fourth pair_key 2 (record peer { rand_s = rand_p }))
+    ∷ answer_by (plain_fourth pair_key 2 (record peer { rand_p = rand_k })) ∷ answer_by (plain_fourth pair_key 2 peer) ∷ answer_by (plain_fourth pair_key 2 peer) ∷ []
+
+-- third packets of another session, under another pair key and in another channel, one with a grant that is none, and a right one
+abbrev pub third_packets : List Event
+third_packets =
+    challenge_by 0 (big_bytes 6 0x40) ∷ challenge_by 0 (plain_third pair_key (record server { rand_s = rand_p }) rand_r other_grant) ∷ forged_third second_key
+    ∷ challenge_by 0 (plain_third pair_key server rand_k other_grant) ∷ challenge_by 0 (plain_third pair_key server rand_r (record other_grant { active = 1 }))
+    ∷ forged_third pair_key ∷ forged_third pair_key ∷ []
+
+-- Packets are checked at both ends, and a refused one leaves the session as it was.
+unfoldable pub PacketsAreChecked : Type 0
+PacketsAreChecked =
+    (answers_to challenged answers_of_a_meter
+    ≡ said.Form ∷ said.Form ∷ said.OtherSession ∷ said.OtherSession ∷ said.BadMac ∷ said.Keyed ∷ said.Form ∷ said.Form ∷ said.OtherSession ∷ said.BadChannel ∷ said.Done ∷ said.NoSession ∷ [])
+    × (answers_to replied third_packets ≡ said.Form ∷ said.OtherSession ∷ said.BadMac ∷ said.BadChannel ∷ said.NoSuccess ∷ said.Took ∷ said.BadUnit ∷ [])
 
 -- # As many sessions as there is room for
 

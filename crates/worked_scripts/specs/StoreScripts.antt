@@ -9,6 +9,7 @@ use Rattle.plc_base.specs.Keeper.{Records, Write}
 use Rattle.loadng_messages.specs.declared.message.Message.TheVariants.{Rreq, Rerr}
 use Rattle.node_rules.specs.Memory.{Memory}
 use Rattle.node_rules.specs.Calls as calls
+use Rattle.node_rules.specs.Drafts.{tag_after}
 use Rattle.line_rules.specs.declared.event.Answer.TheVariants as said
 use Rattle.line_rules.specs.declared.event.Event.{Event}
 use Rattle.line_rules.specs.declared.event.Event.TheVariants.{Coordinator, Meter, Near, Counter, Number, Allow, Rand, Join, Leave, Send, Deliver, Inject, Tick, Cut, Rekey, Activate, Kick}
@@ -94,6 +95,10 @@ ASendStoresItsTagFirst =
     × (records_at (two_meters ++ (Send 1 2 (replicate 375 7) ∷ [])) 1
     ≡ with_writes (record { slot = 3; octets = big_bytes 2 33 } ∷ record { slot = 2; octets = big_bytes 4 1024 } ∷ []) (records_at two_meters 1))
 
+-- The tag after the last one is the first.
+unfoldable pub TagsBeginAgain : Type 0
+TagsBeginAgain = (tag_after 7 ≡ 8) × (tag_after 65535 ≡ 0)
+
 -- # Records of each kind
 
 -- the ring of a node that joined: its address, the active index, and its keys
@@ -122,8 +127,8 @@ TheWorkshopStores =
     × (records_at one_meter 1 ≡ with_writes (ring_record 1 0 (held group_key ++ no_key) ∷ []) (Some empty))
     × (records_at (one_meter ++ (Near 0 1 7 ∷ Counter 1 5 ∷ Number 1 9 ∷ [])) 1
     ≡ with_writes
-    (record { slot = 0x0200; octets = big_bytes 2 0 ++ (big_bytes 2 1 ++ big_bytes 2 7) } ∷ record { slot = 2; octets = big_bytes 4 5 } ∷ record { slot = 3; octets = big_bytes 2 9 } ∷ [])
-    (records_at one_meter 1))
+      (record { slot = 0x0200; octets = big_bytes 2 0 ++ (big_bytes 2 1 ++ big_bytes 2 7) } ∷ record { slot = 2; octets = big_bytes 4 5 } ∷ record { slot = 3; octets = big_bytes 2 9 } ∷ [])
+      (records_at one_meter 1))
 
 -- Orders of the operator are stored before they go out, and a meter that leaves stores that it has no ring.
 unfoldable pub OrdersAreStored : Type 0
@@ -184,9 +189,9 @@ unfoldable pub LimitsStopAtTheEnd : Type 0
 LimitsStopAtTheEnd =
     records_at near_the_end 1
     ≡ with_writes
-    (record { slot = 2; octets = big_bytes 4 4294967290 } ∷ record { slot = 3; octets = big_bytes 2 65530 } ∷ record { slot = 4; octets = big_bytes 2 1 }
-    ∷ record { slot = 2; octets = big_bytes 4 4294967295 } ∷ record { slot = 3; octets = big_bytes 2 65535 } ∷ [])
-    (records_at (two_meters ++ (Near 1 2 1 ∷ [])) 1)
+      (record { slot = 2; octets = big_bytes 4 4294967290 } ∷ record { slot = 3; octets = big_bytes 2 65530 } ∷ record { slot = 4; octets = big_bytes 2 1 }
+      ∷ record { slot = 2; octets = big_bytes 4 4294967295 } ∷ record { slot = 3; octets = big_bytes 2 65535 } ∷ [])
+      (records_at (two_meters ++ (Near 1 2 1 ∷ [])) 1)
 
 -- what meter 1 stores for a datagram of four pieces whose first counter is this one, below a limit of 1,024
 abbrev pub sent_from : ℕ → Option (List Write)

@@ -1,5 +1,5 @@
 //! What a step stores, in which order, and what is left where a write fails.
-ghost use Rattle.worked_scripts.specs.StoreScripts.{AFailedWriteHalts, EachWriteMayFail, ASendStoresItsTagFirst, TheWorkshopStores, OrdersAreStored, WhatDoesNotChangeIsNotStored, AJoiningStoresItsKeys, AKickIsStoredFirst, LimitsStopAtTheEnd, AStepPassesTheLimitOnce, MarksAreStoredAhead, NumbersAreStoredAhead};
+ghost use Rattle.worked_scripts.specs.StoreScripts.{AFailedWriteHalts, EachWriteMayFail, ASendStoresItsTagFirst, TagsBeginAgain, TheWorkshopStores, OrdersAreStored, WhatDoesNotChangeIsNotStored, AJoiningStoresItsKeys, AKickIsStoredFirst, LimitsStopAtTheEnd, AStepPassesTheLimitOnce, MarksAreStoredAhead, NumbersAreStoredAhead};
 
 /// A node whose store write failed halts and sends nothing.
 #[tactic(auto, using(crate::proofs::StoreScripts::a_failed_write_halts))]
@@ -18,6 +18,12 @@ pub fn each_write_may_fail()
 #[tactic(auto, using(crate::proofs::StoreScripts::a_send_stores_its_tag_first))]
 pub fn a_send_stores_its_tag_first()
     ensures { ASendStoresItsTagFirst }
+{}
+
+/// The tag after the last one is the first.
+#[tactic(auto, using(crate::proofs::StoreScripts::tags_begin_again))]
+pub fn tags_begin_again()
+    ensures { TagsBeginAgain }
 {}
 
 /// The coordinator stores its ring when it begins; the workshop allows a meter, notes its keys as issued, and stores what the setup gives.
