@@ -1,7 +1,7 @@
 -- What a step stores, in which order, and what is left where a write fails: the runs are computed.
 use Rattle.std.proofs.Common.{refl}
 use Rattle.worked_scripts.proofs.Computing.{computed}
-use Rattle.worked_scripts.specs.StoreScripts.{AFailedWriteHalts, EachWriteMayFail, ASendStoresItsTagFirst, TagsBeginAgain, TheWorkshopStores, OrdersAreStored, WhatDoesNotChangeIsNotStored, AJoiningStoresItsKeys, AKickIsStoredFirst, LimitsStopAtTheEnd, AStepPassesTheLimitOnce, MarksAreStoredAhead, NumbersAreStoredAhead}
+use Rattle.worked_scripts.specs.StoreScripts.{AFailedWriteHalts, EachWriteMayFail, ASendStoresItsTagFirst, TagsBeginAgain, TheWorkshopStores, OrdersAreStored, WhatDoesNotChangeIsNotStored, EachCallMayFail, AJoiningStoresItsKeys, AKickIsStoredFirst, LimitsStopAtTheEnd, AStepPassesTheLimitOnce, MarksAreStoredAhead, NumbersAreStoredAhead}
 
 pub a_failed_write_halts : AFailedWriteHalts
 unfolding computed AFailedWriteHalts
@@ -30,6 +30,10 @@ orders_are_stored = (refl, refl, refl, refl)
 pub what_does_not_change_is_not_stored : WhatDoesNotChangeIsNotStored
 unfolding computed WhatDoesNotChangeIsNotStored
 what_does_not_change_is_not_stored = (refl, refl)
+
+pub each_call_may_fail : EachCallMayFail
+unfolding computed EachCallMayFail
+each_call_may_fail = refl
 
 pub a_joining_stores_its_keys : AJoiningStoresItsKeys
 unfolding computed AJoiningStoresItsKeys

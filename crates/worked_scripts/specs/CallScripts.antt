@@ -1,13 +1,18 @@
 -- What refuses the calls of the line, and which lines of a script are bad.
-use Rattle.std.specs.Prelude.{◌≡◌, ℕ, true, false, List, [], ◌∷◌, ◌++◌, map, replicate, Some, None}
+use Rattle.std.specs.Prelude.{◌≡◌, ℕ, true, false, List, [], ◌∷◌, ◌++◌, map, replicate, Option, Some, None, Result, Ok, Err}
 use Rattle.std.specs.List.{range_with_len}
+use Rattle.std.specs.Option.{option_map}
+use Rattle.node_rules.specs.Memory.{Memory}
+use Rattle.node_rules.specs.Coordinators as coordinator_rules
+use Rattle.node_rules.specs.declared.refusal.CoordinatorRefusal.{CoordinatorRefusal}
+use Rattle.node_rules.specs.declared.refusal.CoordinatorRefusal.TheVariants as refusals
 use Rattle.line_rules.specs.declared.event.Answer.TheVariants as said
 use Rattle.line_rules.specs.declared.event.Event.{Event}
 use Rattle.line_rules.specs.declared.event.Event.TheVariants.{Coordinator, Meter, Depot, Near, Counter, Allow, Rand, Join, Leave, Send, Deliver, Inject, Lose, Break, Tick, Cut, Rekey, Activate, Challenge, Kick, Show}
 use Rattle.line_rules.specs.declared.event.StepFault.TheVariants as faults
 use Rattle.line_rules.specs.Worlds.{start}
 use Rattle.line_rules.specs.Runs.{run}
-use Rattle.worked_scripts.specs.Scripts.{plain, eui, group_key, pair_key, second_key, rand_k, alone, one_meter, two_meters, answers_after, answers_to, counts_of, fault_after, shown_at_last}
+use Rattle.worked_scripts.specs.Scripts.{plain, eui, group_key, pair_key, second_key, rand_k, alone, one_meter, two_meters, answers_after, answers_to, counts_of, fault_after, shown_at_last, memory_at}
 
 -- # Halted nodes
 
@@ -71,6 +76,21 @@ EightRandomValuesAreHeld =
     (answers_to one_meter (replicate 9 (Rand 1 rand_k)) ≡ replicate 8 said.Given ++ (said.RandomsFull ∷ []))
     × (answers_to one_meter (replicate 9 (Rand 0 rand_k)) ≡ replicate 8 said.Given ++ (said.RandomsFull ∷ []))
     × (answers_to one_meter (replicate 8 (Rand 1 rand_k) ++ (Leave 1 ∷ Rand 1 rand_k ∷ [])) ≡ replicate 8 said.Given ++ (said.Left ∷ said.RandomsFull ∷ []))
+
+-- # A full book
+
+-- what the coordinator answers where a meter is allowed beside a book of so many entries, all of the meter of EUI 5
+abbrev pub allowed_beside : (count n : ℕ) → Option (Result ℕ CoordinatorRefusal)
+allowed_beside count n =
+    option_map (λ (m : Memory). (coordinator_rules.allow (record m { book = replicate count (record { eui = eui 5; psk = pair_key; allowed = true; issued0 = None; issued1 = None }) }) (eui n) pair_key).answer)
+    (memory_at alone 0)
+
+-- The book has room for 999 meters, and one that is known needs none. No script fills it, since a world has no more meters.
+unfoldable pub TheBookHasRoom : Type 0
+TheBookHasRoom =
+    (allowed_beside 998 9 ≡ Some (Ok 999))
+    × (allowed_beside 999 9 ≡ Some (Err refusals.MetersFull))
+    × (allowed_beside 999 5 ≡ Some (Ok 1))
 
 -- # Bad lines
 

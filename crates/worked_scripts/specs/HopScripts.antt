@@ -148,7 +148,7 @@ counters_gone gone = three_meters ++ (Near 1 2 1 ∷ Near 1 3 1 ∷ Counter 1 go
 unfoldable pub GoingOnTakesACounter : Type 0
 GoingOnTakesACounter =
     (answers_to (counters_gone 4294967295)
-      (Inject 1 1 (sealed 1 3 9 (whole 2 3 2 (0xaa ∷ []))) ∷ Inject 1 1 (sealed 1 3 10 (whole 1 3 2 (0xaa ∷ []))) ∷ Inject 1 1 (sealed 1 3 11 (whole 2 3 0 (0xaa ∷ []))) ∷ [])
+    (Inject 1 1 (sealed 1 3 9 (whole 2 3 2 (0xaa ∷ []))) ∷ Inject 1 1 (sealed 1 3 10 (whole 1 3 2 (0xaa ∷ []))) ∷ Inject 1 1 (sealed 1 3 11 (whole 2 3 0 (0xaa ∷ []))) ∷ [])
     ≡ said.CounterSpent ∷ said.HopsSpent ∷ said.CounterSpent ∷ [])
     × (answers_to (counters_gone 4294967294) (Inject 1 1 (sealed 1 3 9 (whole 2 3 2 (0xaa ∷ []))) ∷ Inject 1 1 (sealed 1 3 10 (whole 2 3 2 (0xaa ∷ []))) ∷ [])
     ≡ said.Relayed ∷ said.CounterSpent ∷ [])

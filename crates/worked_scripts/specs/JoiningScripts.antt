@@ -119,9 +119,9 @@ first_packet = packets.head 1 1 30 0 rand_k.0 ++ (eui 1).0
 unfoldable pub ChallengesAreJudgedInOrder : Type 0
 ChallengesAreJudgedInOrder =
     answers_to asking_early
-      (challenge_by 1 (big_bytes 6 0) ∷ challenge_by 0 (big_bytes 6 0) ∷ Rand 1 rand_r ∷ challenge_by 0 (big_bytes 6 0) ∷ challenge_by 0 (big_bytes 6 0x40) ∷ challenge_by 0 (big_bytes 5 0)
-      ∷ challenge_by 0 first_packet ∷ challenge_by 0 first_packet ∷ challenge_by 0 (big_bytes 6 0x40)
-      ∷ Inject 1 1 (down_frame 2 1 (said_of 4 2 [])) ∷ Inject 1 1 (down_frame 2 0 (said_of 4 2 [])) ∷ challenge_by 0 (big_bytes 6 0x40) ∷ [])
+    (challenge_by 1 (big_bytes 6 0) ∷ challenge_by 0 (big_bytes 6 0) ∷ Rand 1 rand_r ∷ challenge_by 0 (big_bytes 6 0) ∷ challenge_by 0 (big_bytes 6 0x40) ∷ challenge_by 0 (big_bytes 5 0)
+    ∷ challenge_by 0 first_packet ∷ challenge_by 0 first_packet ∷ challenge_by 0 (big_bytes 6 0x40)
+    ∷ Inject 1 1 (down_frame 2 1 (said_of 4 2 [])) ∷ Inject 1 1 (down_frame 2 0 (said_of 4 2 [])) ∷ challenge_by 0 (big_bytes 6 0x40) ∷ [])
     ≡ said.NoSession ∷ said.NoRandom ∷ said.Given ∷ said.Form ∷ said.Form ∷ said.Form
     ∷ said.Replied ∷ said.NoRandom ∷ said.Form ∷ said.NoSession ∷ said.Declined ∷ said.NoSession ∷ []
 

@@ -102,10 +102,10 @@ numbers_gone = two_meters ++ (Number 1 65535 ∷ [])
 unfoldable pub AnAnswerTakesANumber : Type 0
 AnAnswerTakesANumber =
     (answers_to numbers_gone
-      (Inject 1 1 (sealed everyone 2 1 (routing_unit (Rreq 5 0 2 1))) ∷ Inject 1 1 (sealed everyone 2 2 (routing_unit (Rreq 5 0 2 0))) ∷ Inject 1 1 (sealed everyone 2 3 (routing_unit (Rreq 5 0 2 1))) ∷ [])
+    (Inject 1 1 (sealed everyone 2 1 (routing_unit (Rreq 5 0 2 1))) ∷ Inject 1 1 (sealed everyone 2 2 (routing_unit (Rreq 5 0 2 0))) ∷ Inject 1 1 (sealed everyone 2 3 (routing_unit (Rreq 5 0 2 1))) ∷ [])
     ≡ said.SeqSpent ∷ said.Relayed ∷ said.NotBetter ∷ [])
     × (answers_to (numbers_gone ++ (Counter 1 4294967295 ∷ []))
-      (Inject 1 1 (sealed everyone 2 1 (routing_unit (Rreq 5 0 2 1))) ∷ Inject 1 1 (sealed everyone 2 2 (routing_unit (Rreq 5 0 2 0))) ∷ Inject 1 1 (sealed 1 2 3 (routing_unit (Rrep 5 0 2 1))) ∷ [])
+    (Inject 1 1 (sealed everyone 2 1 (routing_unit (Rreq 5 0 2 1))) ∷ Inject 1 1 (sealed everyone 2 2 (routing_unit (Rreq 5 0 2 0))) ∷ Inject 1 1 (sealed 1 2 3 (routing_unit (Rrep 5 0 2 1))) ∷ [])
     ≡ said.SeqSpent ∷ said.CounterSpent ∷ said.Learned ∷ [])
 
 -- # The last second of a route
@@ -145,8 +145,8 @@ full_after seconds = full ++ (Tick seconds ∷ [])
 unfoldable pub AFullTableRefuses : Type 0
 AFullTableRefuses =
     answers_to full
-      (numbered_reply 200 9 200 ∷ Inject 1 1 (sealed 1 2 201 (routing_unit (Rrep 9 65535 200 1))) ∷ Inject 1 1 (sealed everyone 2 202 (routing_unit (Rreq 9 0 200 3)))
-      ∷ numbered_reply 150 151 203 ∷ Tick 59 ∷ numbered_reply 200 9 204 ∷ [])
+    (numbered_reply 200 9 200 ∷ Inject 1 1 (sealed 1 2 201 (routing_unit (Rrep 9 65535 200 1))) ∷ Inject 1 1 (sealed everyone 2 202 (routing_unit (Rreq 9 0 200 3)))
+    ∷ numbered_reply 150 151 203 ∷ Tick 59 ∷ numbered_reply 200 9 204 ∷ [])
     ≡ said.RoutesFull ∷ said.CostSpent ∷ said.RoutesFull ∷ said.Learned ∷ said.Ticked ∷ said.RoutesFull ∷ []
 
 -- the first address was offered again after 10 seconds, and another address after 60
@@ -158,7 +158,7 @@ offered_again = full ++ (Tick 10 ∷ numbered_reply 100 201 200 ∷ Tick 50 ∷ 
 unfoldable pub AFullTableForgetsTheEarliest : Type 0
 AFullTableForgetsTheEarliest =
     (answers_to (full_after 60)
-      (numbered_reply 200 9 200 ∷ numbered_reply 100 200 201 ∷ numbered_reply 164 200 202 ∷ numbered_reply 164 201 203 ∷ numbered_reply 165 199 204 ∷ numbered_reply 165 200 205 ∷ [])
+    (numbered_reply 200 9 200 ∷ numbered_reply 100 200 201 ∷ numbered_reply 164 200 202 ∷ numbered_reply 164 201 203 ∷ numbered_reply 165 199 204 ∷ numbered_reply 165 200 205 ∷ [])
     ≡ said.Learned ∷ said.NotBetter ∷ said.NotBetter ∷ said.Learned ∷ said.NotBetter ∷ said.Learned ∷ [])
     × (rank_at (full_after 60 ++ (numbered_reply 200 9 200 ∷ [])) 1 100 ≡ None)
     × (rank_at (full_after 60 ++ (numbered_reply 200 9 200 ∷ [])) 1 101 ≡ Some (record { number = 199; cost = 1 }))

@@ -125,13 +125,14 @@ pair_key = record { 0 = big_bytes 16 0x101112131415161718191a1b1c1d1e1f }
 abbrev pub second_key : Key
 second_key = record { 0 = big_bytes 16 0x202122232425262728292a2b2c2d2e2f }
 
--- random values, each for one use
+-- a random value for the coordinator, and one for a meter
 abbrev pub rand_k : Rand
 rand_k = record { 0 = group_key.0 }
 
 abbrev pub rand_r : Rand
 rand_r = record { 0 = big_bytes 16 0xf0f1f2f3f4f5f6f7f8f9fafbfcfdfeff }
 
+-- one more for each
 abbrev pub rand_p : Rand
 rand_p = record { 0 = pair_key.0 }
 
@@ -146,7 +147,7 @@ alone = Coordinator (eui 1) group_key ∷ []
 abbrev pub one_meter : List Event
 one_meter = Coordinator (eui 1) group_key ∷ Meter (eui 2) pair_key ∷ Depot 1 ∷ []
 
--- the coordinator and meters up to a number, each joined in the workshop
+-- the coordinator and two meters, each joined in the workshop
 abbrev pub two_meters : List Event
 two_meters = Coordinator (eui 1) group_key ∷ Meter (eui 2) pair_key ∷ Meter (eui 3) pair_key ∷ Depot 1 ∷ Depot 2 ∷ []
 

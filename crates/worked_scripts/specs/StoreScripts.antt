@@ -12,7 +12,7 @@ use Rattle.node_rules.specs.Calls as calls
 use Rattle.node_rules.specs.Drafts.{tag_after}
 use Rattle.line_rules.specs.declared.event.Answer.TheVariants as said
 use Rattle.line_rules.specs.declared.event.Event.{Event}
-use Rattle.line_rules.specs.declared.event.Event.TheVariants.{Coordinator, Meter, Near, Counter, Number, Allow, Rand, Join, Leave, Send, Deliver, Inject, Tick, Cut, Rekey, Activate, Kick}
+use Rattle.line_rules.specs.declared.event.Event.TheVariants.{Coordinator, Meter, Near, Counter, Number, Allow, Rand, Join, Leave, Send, Deliver, Inject, Tick, Cut, Rekey, Activate, Challenge, Kick}
 use Rattle.worked_scripts.specs.Scripts.{eui, group_key, pair_key, second_key, rand_k, rand_r, alone, one_meter, two_meters, sealed, everyone, routing_unit, command, joining_octets, answers_after, answers_to, counts_of, octets_of, memory_at, records_at, with_writes}
 
 -- # A store write that fails
@@ -127,8 +127,8 @@ TheWorkshopStores =
     × (records_at one_meter 1 ≡ with_writes (ring_record 1 0 (held group_key ++ no_key) ∷ []) (Some empty))
     × (records_at (one_meter ++ (Near 0 1 7 ∷ Counter 1 5 ∷ Number 1 9 ∷ [])) 1
     ≡ with_writes
-      (record { slot = 0x0200; octets = big_bytes 2 0 ++ (big_bytes 2 1 ++ big_bytes 2 7) } ∷ record { slot = 2; octets = big_bytes 4 5 } ∷ record { slot = 3; octets = big_bytes 2 9 } ∷ [])
-      (records_at one_meter 1))
+    (record { slot = 0x0200; octets = big_bytes 2 0 ++ (big_bytes 2 1 ++ big_bytes 2 7) } ∷ record { slot = 2; octets = big_bytes 4 5 } ∷ record { slot = 3; octets = big_bytes 2 9 } ∷ [])
+    (records_at one_meter 1))
 
 -- Orders of the operator are stored before they go out, and a meter that leaves stores that it has no ring.
 unfoldable pub OrdersAreStored : Type 0
@@ -150,6 +150,19 @@ unfoldable pub WhatDoesNotChangeIsNotStored : Type 0
 WhatDoesNotChangeIsNotStored =
     (answers_to one_meter (Cut 0 1 false ∷ Allow 1 ∷ Activate 0 0 ∷ []) ≡ said.Set ∷ said.Allowed ∷ said.Store ∷ [])
     × (answers_to two_meters (Cut 1 2 false ∷ Inject 1 1 activate_the_active ∷ []) ≡ said.Set ∷ said.Store ∷ [])
+
+-- the first write of each call fails
+abbrev pub calls_under_cuts : List (List Event)
+calls_under_cuts =
+    (Cut 1 1 false ∷ Leave 1 ∷ []) ∷ (Cut 1 1 true ∷ Send 1 0 (0xaa ∷ []) ∷ []) ∷ (Cut 0 1 false ∷ Rekey 1 second_key ∷ []) ∷ (Cut 0 1 false ∷ Rand 0 rand_k ∷ Challenge 1 ∷ [])
+    ∷ (Cut 0 1 true ∷ Activate 1 0 ∷ []) ∷ (Cut 0 1 false ∷ Kick 1 ∷ []) ∷ (Cut 1 2 false ∷ Cut 1 1 false ∷ Leave 1 ∷ []) ∷ []
+
+-- Each call that stores may fail so, and a later cut takes the place of an earlier one.
+unfoldable pub EachCallMayFail : Type 0
+EachCallMayFail =
+    map (λ events. answers_to one_meter events) calls_under_cuts
+    ≡ (said.Set ∷ said.Store ∷ []) ∷ (said.Set ∷ said.Store ∷ []) ∷ (said.Set ∷ said.Store ∷ []) ∷ (said.Set ∷ said.Given ∷ said.Store ∷ [])
+    ∷ (said.Set ∷ said.Store ∷ []) ∷ (said.Set ∷ said.Store ∷ []) ∷ (said.Set ∷ said.Set ∷ said.Store ∷ []) ∷ []
 
 -- a joining over the air, to its third packet
 abbrev pub keyed : List Event
@@ -189,9 +202,9 @@ unfoldable pub LimitsStopAtTheEnd : Type 0
 LimitsStopAtTheEnd =
     records_at near_the_end 1
     ≡ with_writes
-      (record { slot = 2; octets = big_bytes 4 4294967290 } ∷ record { slot = 3; octets = big_bytes 2 65530 } ∷ record { slot = 4; octets = big_bytes 2 1 }
-      ∷ record { slot = 2; octets = big_bytes 4 4294967295 } ∷ record { slot = 3; octets = big_bytes 2 65535 } ∷ [])
-      (records_at (two_meters ++ (Near 1 2 1 ∷ [])) 1)
+    (record { slot = 2; octets = big_bytes 4 4294967290 } ∷ record { slot = 3; octets = big_bytes 2 65530 } ∷ record { slot = 4; octets = big_bytes 2 1 }
+    ∷ record { slot = 2; octets = big_bytes 4 4294967295 } ∷ record { slot = 3; octets = big_bytes 2 65535 } ∷ [])
+    (records_at (two_meters ++ (Near 1 2 1 ∷ [])) 1)
 
 -- what meter 1 stores for a datagram of four pieces whose first counter is this one, below a limit of 1,024
 abbrev pub sent_from : ℕ → Option (List Write)

@@ -1,5 +1,5 @@
 //! What refuses the calls of the line, and which lines of a script are bad.
-ghost use Rattle.worked_scripts.specs.CallScripts.{HaltedNodesDoNothing, CallsNeedAddresses, EightRandomValuesAreHeld, BadLinesHaveTheirReasons, SixtyFourAreNear};
+ghost use Rattle.worked_scripts.specs.CallScripts.{HaltedNodesDoNothing, CallsNeedAddresses, EightRandomValuesAreHeld, TheBookHasRoom, BadLinesHaveTheirReasons, SixtyFourAreNear};
 
 /// A halted node answers so before all else, and has no address for others.
 #[tactic(auto, using(crate::proofs::CallScripts::halted_nodes_do_nothing))]
@@ -17,6 +17,12 @@ pub fn calls_need_addresses()
 #[tactic(auto, using(crate::proofs::CallScripts::eight_random_values_are_held))]
 pub fn eight_random_values_are_held()
     ensures { EightRandomValuesAreHeld }
+{}
+
+/// The book has room for 999 meters, and one that is known needs none. No script fills it, since a world has no more meters.
+#[tactic(auto, using(crate::proofs::CallScripts::the_book_has_room))]
+pub fn the_book_has_room()
+    ensures { TheBookHasRoom }
 {}
 
 /// A line that is not taken has the first reason that holds.

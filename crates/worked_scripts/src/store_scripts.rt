@@ -1,5 +1,5 @@
 //! What a step stores, in which order, and what is left where a write fails.
-ghost use Rattle.worked_scripts.specs.StoreScripts.{AFailedWriteHalts, EachWriteMayFail, ASendStoresItsTagFirst, TagsBeginAgain, TheWorkshopStores, OrdersAreStored, WhatDoesNotChangeIsNotStored, AJoiningStoresItsKeys, AKickIsStoredFirst, LimitsStopAtTheEnd, AStepPassesTheLimitOnce, MarksAreStoredAhead, NumbersAreStoredAhead};
+ghost use Rattle.worked_scripts.specs.StoreScripts.{AFailedWriteHalts, EachWriteMayFail, ASendStoresItsTagFirst, TagsBeginAgain, TheWorkshopStores, OrdersAreStored, WhatDoesNotChangeIsNotStored, EachCallMayFail, AJoiningStoresItsKeys, AKickIsStoredFirst, LimitsStopAtTheEnd, AStepPassesTheLimitOnce, MarksAreStoredAhead, NumbersAreStoredAhead};
 
 /// A node whose store write failed halts and sends nothing.
 #[tactic(auto, using(crate::proofs::StoreScripts::a_failed_write_halts))]
@@ -42,6 +42,12 @@ pub fn orders_are_stored()
 #[tactic(auto, using(crate::proofs::StoreScripts::what_does_not_change_is_not_stored))]
 pub fn what_does_not_change_is_not_stored()
     ensures { WhatDoesNotChangeIsNotStored }
+{}
+
+/// Each call that stores may fail so, and a later cut takes the place of an earlier one.
+#[tactic(auto, using(crate::proofs::StoreScripts::each_call_may_fail))]
+pub fn each_call_may_fail()
+    ensures { EachCallMayFail }
 {}
 
 /// The keys of a grant are stored as issued when they go out, and the meter stores its ring before it answers; nothing else of a joining
