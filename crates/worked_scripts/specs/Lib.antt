@@ -1,2 +1,11 @@
 pub mod Scripts
-pub mod Rows
+pub mod HopScripts
+pub mod RankScripts
+pub mod PieceScripts
+pub mod WaitingScripts
+pub mod FrameScripts
+pub mod JoiningScripts
+pub mod WayScripts
+pub mod KeyScripts
+pub mod StoreScripts
+pub mod CallScripts

@@ -1,5 +1,7 @@
 -- Words of small scripts that are computed, with plain ciphers in place of the network's.
 use Rattle.std.specs.Prelude.{ℕ, ◌-◌, ◌==◌, Bool, false, List, [], ◌∷◌, ◌++◌, length, map, take, drop, Option, Some, None, Ok, Err, if◌then◌else◌}
+use Rattle.std.specs.FinMap.{insert}
+use Rattle.std.specs.Option.{option_map, option_map_or, option_and_then}
 use Rattle.std.specs.Str.{bytes_eq}
 use Rattle.byteorder.specs.Endian.{big_bytes}
 use Rattle.plc_base.specs.declared.address.Eui.{Eui}
@@ -8,6 +10,7 @@ use Rattle.plc_base.specs.Fields.{octet, part, after}
 use Rattle.plc_base.specs.declared.key.Key.{Key}
 use Rattle.plc_base.specs.declared.key.Rand.{Rand}
 use Rattle.plc_base.specs.Grant.{Granted}
+use Rattle.plc_base.specs.Keeper.{Records, Write}
 use Rattle.joining_messages.specs.Reading.{grant_in}
 use Rattle.eap_psk.specs.Messages as packets
 use Rattle.eap_psk.specs.Faults.{rand_s_of, is_second, is_third, is_fourth, is_granting}
@@ -18,8 +21,19 @@ use Rattle.eap_psk.specs.declared.peer.Peer.{Peer}
 use Rattle.line_rules.specs.declared.event.Answer.{Answer}
 use Rattle.line_rules.specs.declared.event.Event.{Event}
 use Rattle.line_rules.specs.declared.event.Event.TheVariants.{Coordinator, Meter, Depot}
+use Rattle.routing_set.specs.declared.rank.Rank.{Rank}
+use Rattle.routing_set.specs.RoutingSet as routing
+use Rattle.mesh_header.specs.declared.unit.Unit.{Unit as MeshUnit}
+use Rattle.mesh_header.specs.declared.unit.Unit.TheVariants.{Whole, Part, Carried, Local}
+use Rattle.mesh_header.specs.Grammar.{spelling}
+use Rattle.loadng_messages.specs.declared.message.Message.{Message}
+use Rattle.loadng_messages.specs.Grammar as messages
 use Rattle.node_rules.specs.Ciphers.{Ciphers}
-use Rattle.line_rules.specs.Worlds.{World, start}
+use Rattle.node_rules.specs.Frames.{Sealed, spelled}
+use Rattle.node_rules.specs.declared.heard.Path.TheVariants as paths
+use Rattle.node_rules.specs.Hearing.{hear}
+use Rattle.node_rules.specs.Memory.{Node, Memory, node_route}
+use Rattle.line_rules.specs.Worlds.{World, Flight, start, node_at, flight_at}
 use Rattle.line_rules.specs.declared.happenings.Handed.{Handed}
 use Rattle.line_rules.specs.declared.happenings.Admission.{Admission}
 use Rattle.node_rules.specs.declared.shown.Shown.{Shown}
@@ -107,7 +121,33 @@ group_key = record { 0 = big_bytes 16 0x000102030405060708090a0b0c0d0e0f }
 abbrev pub pair_key : Key
 pair_key = record { 0 = big_bytes 16 0x101112131415161718191a1b1c1d1e1f }
 
--- the coordinator and meters up to a number, each joined in the workshop
+-- another key
+abbrev pub second_key : Key
+second_key = record { 0 = big_bytes 16 0x202122232425262728292a2b2c2d2e2f }
+
+-- a random value for the coordinator, and one for a meter
+abbrev pub rand_k : Rand
+rand_k = record { 0 = group_key.0 }
+
+abbrev pub rand_r : Rand
+rand_r = record { 0 = big_bytes 16 0xf0f1f2f3f4f5f6f7f8f9fafbfcfdfeff }
+
+-- one more for each
+abbrev pub rand_p : Rand
+rand_p = record { 0 = pair_key.0 }
+
+abbrev pub rand_q : Rand
+rand_q = record { 0 = second_key.0 }
+
+-- the coordinator alone
+abbrev pub alone : List Event
+alone = Coordinator (eui 1) group_key ∷ []
+
+-- the coordinator and one meter
+abbrev pub one_meter : List Event
+one_meter = Coordinator (eui 1) group_key ∷ Meter (eui 2) pair_key ∷ Depot 1 ∷ []
+
+-- the coordinator and two meters, each joined in the workshop
 abbrev pub two_meters : List Event
 two_meters = Coordinator (eui 1) group_key ∷ Meter (eui 2) pair_key ∷ Meter (eui 3) pair_key ∷ Depot 1 ∷ Depot 2 ∷ []
 
@@ -123,11 +163,67 @@ four_meters =
     Coordinator (eui 1) group_key ∷ Meter (eui 2) pair_key ∷ Meter (eui 3) pair_key ∷ Meter (eui 4) pair_key ∷ Meter (eui 5) pair_key
     ∷ Depot 1 ∷ Depot 2 ∷ Depot 3 ∷ Depot 4 ∷ []
 
+-- # Frames
+
+-- the octets of a sealed frame under a key and its index, which it names
+abbrev pub sealed_under : Key → ℕ → (to from counter : ℕ) → MeshUnit → List ℕ
+sealed_under key index to from counter unit =
+    (spelled plain (Sealed (record { to = to; from = from; counter = counter; index = index; key = key; unit = unit; note = 0 }))).octets
+
+-- the same under the key of the group
+abbrev pub sealed : (to from counter : ℕ) → MeshUnit → List ℕ
+sealed to from counter unit = sealed_under group_key 0 to from counter unit
+
+-- the address that all nodes hear
+abbrev pub everyone : ℕ
+everyone = 0xFFFF
+
+-- a route message as a unit
+abbrev pub routing_unit : Message → MeshUnit
+routing_unit message = Local 1 (messages.spelling message)
+
+-- a datagram over the mesh
+abbrev pub whole : (hops origin to : ℕ) → List ℕ → MeshUnit
+whole hops origin to octets = Whole (record { hops = hops; origin = origin; to = to }) octets
+
+-- a piece of a datagram over the mesh, with 14 hops left
+abbrev pub part_of : (origin to size tag offset : ℕ) → List ℕ → MeshUnit
+part_of origin to size tag offset octets =
+    Part (record { hops = 14; origin = origin; to = to }) (record { size = size; tag = tag; offset = offset; octets = octets })
+
+-- a joining command over the mesh, with 14 hops left
+abbrev pub command : (origin to : ℕ) → List ℕ → MeshUnit
+command origin to body = Carried (record { hops = 14; origin = origin; to = to }) body
+
+-- the octets of a joining message about the meter of an EUI
+abbrev pub joining_octets : ℕ → ℕ → List ℕ → List ℕ
+joining_octets code n rest = code ∷ big_bytes 8 n ++ rest
+
+-- the octets of a plain frame up to an address from the node of an EUI of one octet, and down to such a node from an address
+abbrev pub up_frame : ℕ → ℕ → List ℕ → List ℕ
+up_frame to from payload = big_bytes 5 0x61d8001d78 ++ (to ∷ 0x00 ∷ from ∷ big_bytes 7 0 ++ payload)
+
+abbrev pub down_frame : ℕ → ℕ → List ℕ → List ℕ
+down_frame to from payload = big_bytes 5 0x619c001d78 ++ (to ∷ big_bytes 7 0 ++ (from ∷ 0x00 ∷ payload))
+
+-- their payload with a joining message
+abbrev pub said_of : ℕ → ℕ → List ℕ → List ℕ
+said_of code n rest = 0x40 ∷ 0x02 ∷ joining_octets code n rest
+
 -- # What a run is seen as
+
+-- the world behind a run
+abbrev pub world_behind : World → List Entry → World
+world_behind w [] = w
+world_behind w (x ∷ rest) = world_behind x.after rest
 
 -- the answers behind so many events
 abbrev pub answers_after : ℕ → List Event → List Answer
 answers_after count events = map (λ (x : Entry). x.trace.happened.answer) (drop count (run plain start events))
+
+-- the answers to events behind a script
+abbrev pub answers_to : List Event → List Event → List Answer
+answers_to before events = map (λ (x : Entry). x.trace.happened.answer) (run plain (world_behind start (run plain start before)) events)
 
 -- the last entry's datagram that was handed up
 abbrev pub handed_at_last : List Entry → Option Handed
@@ -162,11 +258,6 @@ forged_at_last [] = false
 forged_at_last (x ∷ []) = x.trace.happened.forged
 forged_at_last (x ∷ (y ∷ rest)) = forged_at_last (y ∷ rest)
 
--- the world behind a run
-abbrev pub world_behind : World → List Entry → World
-world_behind w [] = w
-world_behind w (x ∷ rest) = world_behind x.after rest
-
 -- what the last line of a report counts
 pub record Counted : Type 0 where
   pub events : ℕ
@@ -191,3 +282,40 @@ fault_by (Err fault) = Some fault
 -- why an event is not taken behind a script
 abbrev pub fault_after : List Event → Event → Option StepFault
 fault_after events event = fault_by (step plain (world_behind start (run plain start events)) event)
+
+-- # What is left behind a script
+
+-- the world behind it
+abbrev pub world_of : List Event → World
+world_of events = world_behind start (run plain start events)
+
+-- the octets of the flight of a number
+abbrev pub octets_of : List Event → ℕ → Option (List ℕ)
+octets_of events number = option_map (λ (f : Flight). f.octets) (flight_at (world_of events) number)
+
+-- the next hop of a node toward an address
+abbrev pub route_at : List Event → (node dest : ℕ) → Option ℕ
+route_at events node dest = option_and_then (λ x. node_route x dest) (node_at (world_of events) node)
+
+-- what a node that is not halted holds
+abbrev pub memory_at : List Event → ℕ → Option Memory
+memory_at events node = option_and_then (λ (x : Node). x.memory) (node_at (world_of events) node)
+
+-- the rank that a node keeps of an address
+abbrev pub rank_at : List Event → (node dest : ℕ) → Option Rank
+rank_at events node dest = option_and_then (λ m. routing.rank_of m.station.routing dest) (memory_at events node)
+
+-- the records that a node has stored
+abbrev pub records_at : List Event → ℕ → Option Records
+records_at events node = option_map (λ (x : Node). x.store.records) (node_at (world_of events) node)
+
+-- the records with these writes more, in order
+abbrev pub with_writes : List Write → Option Records → Option Records
+with_writes [] records = records
+with_writes (w ∷ rest) records = with_writes rest (option_map (λ r. insert r w.slot w.octets) records)
+
+-- the writes of the step in which a node hears a unit of a neighbour, over a link of cost 1, in order
+abbrev pub hearing_writes : List Event → (node from : ℕ) → MeshUnit → List Write
+hearing_writes events node from unit =
+    let w = world_of events in
+    option_map_or (λ m. (hear m.station (record { path = paths.Sealed from false group_key; payload = spelling unit }) 1 0 w.clock).puts) (memory_at events node) []
