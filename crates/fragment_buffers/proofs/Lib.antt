@@ -11,3 +11,4 @@ pub mod Rule
 pub mod Settling
 pub mod Writing
 pub mod Beside
+pub mod Sizes

@@ -4,5 +4,8 @@ pub mod Cutting
 pub mod Entries
 pub mod Holding
 pub mod Laws
+pub mod Loads
+pub mod NextTag
 pub mod Reassembly
 pub mod Taking
+pub mod Waiting

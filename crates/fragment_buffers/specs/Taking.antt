@@ -2,6 +2,7 @@
 use Rattle.std.specs.Prelude.{ℕ, ◌+◌, Bool, ◌==◌, ◌&&◌, ◌||◌, nat_lt, nat_le, if◌then◌else◌, List, [], ◌∷◌, ◌++◌, length, Option, Some, None}
 use Rattle.std.specs.Int.{div_ceil}
 use Rattle.std.specs.List.{list_any, filter, sum_by}
+use Rattle.plc_base.specs.Times.{is_within}
 use Rattle.mesh_header.specs.Pieces.{Placed}
 use Rattle.fragment_buffers.specs.Reassembly.{PlacedPiece, Reassembly, placed, begun, datagram_of, repeats, overlaps}
 
@@ -68,4 +69,4 @@ taken held origin piece note now =
 
 -- those that began less than 60 seconds ago
 unfoldable pub unexpired : List Reassembly → (now : ℕ) → List Reassembly
-unexpired held now = filter (λ r. nat_lt now (r.since + 60)) held
+unexpired held now = filter (λ r. is_within 60 now r.since) held

@@ -14,7 +14,7 @@ use crate::place::Place;
 use arrayvec::ArrayVec;
 use block_pool::{Chain, Pool};
 use mesh_header::Piece;
-use plc_base::{DatagramBuf, Short};
+use plc_base::{DatagramBuf, Short, is_within};
 use std::marker::Model;
 
 /// The most pieces of a datagram: each begins at a unit of 8 octets of its own, of which 1,280 octets have 160.
@@ -92,7 +92,7 @@ impl Buffer {
     pub(crate) fn has_expired(&self, now: u64) -> bool
         ensures { IsTrue result ↔ (self.now.since + 60 ≤ now) }
     {
-        now.saturating_sub(self.since) >= 60
+        !is_within(60, now, self.since)
     }
 
     /// Whether a held piece has the place and the length of this one.

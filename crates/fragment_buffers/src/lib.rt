@@ -2,12 +2,14 @@
 //!
 //! A datagram that is too long for one frame goes in fragments (RFC 4944, 5.3), which are pieces of 368 octets and a last one.
 //! `specs/Cutting.antt` says which pieces a datagram has, `specs/Reassembly.antt` what a reassembly is and when it is whole, and
-//! `specs/Taking.antt` how a piece is taken in.
+//! `specs/Taking.antt` how a piece is taken in. `specs/Loads.antt` says which units a datagram or a command goes out as,
+//! `specs/Waiting.antt` what waits for a route, and `specs/NextTag.antt` what is stored of the tags of datagrams.
 #![tactic(auto)]
 
 mod buffer;
 mod cutting;
 mod laws;
+mod next_tag;
 mod place;
 mod reassembly;
 #[cfg(test)]
@@ -18,5 +20,6 @@ pub use laws::{
     a_whole_reassembly_is_of_its_pieces, an_overlap_begins_anew, placed_pieces_never_overlap,
     the_pieces_of_a_datagram_come_together,
 };
+pub use next_tag::NextTag;
 pub use place::Place;
 pub use reassembly::{BufferFull, Reassembly, Taken};

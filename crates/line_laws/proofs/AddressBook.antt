@@ -40,10 +40,10 @@ Grows b c = (eui : Eui) (a : ℕ) → book.address_of b eui ≡ Some a → book.
 pub grows_entry : (b c : book.Book) (e : BookEntry) → Grows b c → Grows b (book.with_entry c e)
 grows_entry b c e g eui a h = address_kept c e eui a (g eui a h)
 
--- The memory of the coordinator is what the records give, and every address of an earlier book stays.
-pub record Grown (b : book.Book) (m : Memory) (r : Records) : Type 0 where
+-- The memory of the coordinator is what the records give, and V holds of its book, as that every address of an earlier one stays.
+pub record Grown (V : book.Book → Type 0) (m : Memory) (r : Records) : Type 0 where
   pub kept : IsKept Coordinator m r
-  pub grows : Grows b m.book
+  pub grows : V m.book
 
 beside_book : (E : Eui → Type 0) (n k : Memory) → Beside E n k → k.book ≡ n.book
 beside_book E n k EndsIn = refl
@@ -54,50 +54,51 @@ beside_book E n k (Answers s t eui there same) = refl
 beside_book E n k (Closes eui) = refl
 beside_book E n k (Gives value room) = refl
 
-module _ (b : book.Book) where
+module _ (V : book.Book → Type 0) where
   -- a line's writes
-  pub station_grown : (n : Memory) (l k : StationMemory) (ps : List Write) → Leads (With (Rest Coordinator n)) l ps k → Leads (Grown b) (with_station l n) ps (with_station k n)
+  pub station_grown : (n : Memory) (l k : StationMemory) (ps : List Write) → Leads (With (Rest Coordinator n)) l ps k → Leads (Grown V) (with_station l n) ps (with_station k n)
   unfolding Rest
-  station_grown n l k ps x = leads_when (Grown b) (with_station l n) (with_station k n) ps (λ s t.
-      leads_map (With (Rest Coordinator n)) (Grown b) (λ (j : StationMemory). with_station j n)
+  station_grown n l k ps x = leads_when (Grown V) (with_station l n) (with_station k n) ps (λ s t.
+      leads_map (With (Rest Coordinator n)) (Grown V) (λ (j : StationMemory). with_station j n)
       (λ j r q. record { kept = record { station = q.kept; book = q.rest.0; sessions = q.rest.1 }; grows = t.grows })
       (λ j r q. record { kept = q.kept.station; rest = (q.kept.book, q.kept.sessions) }) l k ps x)
 
   -- an entry is stored where it changes
-  entry_grown : (m : Memory) (e : BookEntry) → ((r : Records) → IsBookKept m.book r → IsReadableEntry e) → book.has_room m.book e.eui ≡ true
-      → Leads (Grown b) m (puts_of (book.change_write m.book e)) (record m { book = book.with_entry m.book e })
-  entry_grown m e fits room = by_holding (book.holds m.book e) refl
+  entry_grown : (m : Memory) (e : BookEntry) → ((r : Records) → IsBookKept m.book r → IsReadableEntry e) → book.has_room m.book e.eui ≡ true → (V m.book → V (book.with_entry m.book e))
+      → Leads (Grown V) m (puts_of (book.change_write m.book e)) (record m { book = book.with_entry m.book e })
+  entry_grown m e fits room step = by_holding (book.holds m.book e) refl
     where
-      by_holding : (h : Bool) → book.holds m.book e ≡ h → Leads (Grown b) m (puts_of (if h then None else book.entry_write m.book e)) (record m { book = book.with_entry m.book e })
-      by_holding true same = leads_beside (Grown b) m _ (λ r k. record { kept = same_book Coordinator m _ r k.kept (holds_same m.book e same); grows = grows_entry b m.book e k.grows })
-      by_holding false other = leads_one (Grown b) m _ _ (λ r k. record { kept = kept_with Coordinator m e r k.kept fits room refl; grows = grows_entry b m.book e k.grows })
+      by_holding : (h : Bool) → book.holds m.book e ≡ h → Leads (Grown V) m (puts_of (if h then None else book.entry_write m.book e)) (record m { book = book.with_entry m.book e })
+      by_holding true same = leads_beside (Grown V) m _ (λ r k. record { kept = same_book Coordinator m _ r k.kept (holds_same m.book e same); grows = step k.grows })
+      by_holding false other = leads_one (Grown V) m _ _ (λ r k. record { kept = kept_with Coordinator m e r k.kept fits room refl; grows = step k.grows })
 
   module _ (W : RingWord → Type 0) (L : Granted → Type 0) (P : Eui → Key → Type 0) (E : Eui → Type 0) (g : Given) (m : Memory)
       (words : (w : RingWord) → W w → WordFits w)
       (offers : (address : Option ℕ) (by origin : ℕ) (rank : Rank) → Offered g address by origin rank → EntryFits (routing.offered_entry origin rank by g.now))
-      (known : (eui : Eui) → E eui → length eui.0 ≡ 8) (pairs : (eui : Eui) (psk : Key) → P eui psk → length psk.0 ≡ 16) where
+      (known : (eui : Eui) → E eui → length eui.0 ≡ 8) (pairs : (eui : Eui) (psk : Key) → P eui psk → length psk.0 ≡ 16)
+      (steps : (x : book.Book) (e : BookEntry) → EntryChange L P E m x e → V x → V (book.with_entry x e)) where
     abbrev coordinator : (x : book.Book) (e : BookEntry) → EntryChange L P E m x e → Coordinator ≡ Coordinator
     coordinator x e change = refl
 
-    made_in_grown : (grants : (granted : Granted) → L granted → IsHeld granted.key0 × IsHeld granted.key1) (sessions : All IsNamed m.sessions) (d : Draft Memory) → MadeIn W L P E g m d → Adds (Grown b) (empty_draft m) d
+    made_in_grown : (grants : (granted : Granted) → L granted → IsHeld granted.key0 × IsHeld granted.key1) (sessions : All IsNamed m.sessions) (d : Draft Memory) → MadeIn W L P E g m d → Adds (Grown V) (empty_draft m) d
     unfolding empty_draft on_station with_memory_by with_pair_tags with_book_entry goes_up goes_down
-    made_in_grown grants sessions d Begins = adds_none (Grown b) (empty_draft m)
+    made_in_grown grants sessions d Begins = adds_none (Grown V) (empty_draft m)
     made_in_grown grants sessions d (Station e made) =
         let a = made_adds (Rest Coordinator m) (rest_lasts Coordinator m) W g words offers (empty_draft m.station) e made in
         record { more = a.more; puts = a.puts; leads = station_grown m m.station e.memory a.more a.leads }
     made_in_grown grants sessions d (OnStation word e made step) =
         let a = made_adds (Rest Coordinator e.memory) (rest_lasts Coordinator e.memory) W (unheard g) words (unheard_offers Coordinator W L P E g m words offers known pairs coordinator grants sessions g) (station_part e) (word (station_part e)) step in
-        adds_then (Grown b) (empty_draft m) e d a.more (made_in_grown grants sessions e made) a.puts (station_grown e.memory e.memory.station (word (station_part e)).memory a.more a.leads)
-    made_in_grown grants sessions d (Remembers change e made beside) = adds_beside (Grown b) (empty_draft m) e d (made_in_grown grants sessions e made) refl (λ r k.
-        record { kept = beside_stays Coordinator W L P E g m words offers known pairs coordinator grants sessions e.memory (change e.memory) r beside k.kept; grows = subst (Grows b) (sym (beside_book E e.memory (change e.memory) beside)) k.grows })
-    made_in_grown grants sessions d (TagsIn made opened e x) = adds_beside (Grown b) (empty_draft m) e d (made_in_grown grants sessions e x) refl (λ r k. record { kept = k.kept; grows = k.grows })
-    made_in_grown grants sessions d (Enters x e made change) = adds_then (Grown b) (empty_draft m) e d _ (made_in_grown grants sessions e made) refl
-        (entry_grown e.memory x (entry_fits Coordinator W L P E g m words offers known pairs coordinator grants sessions e.memory.book x change) (entry_room Coordinator W L P E g m words offers known pairs coordinator grants sessions e.memory.book x change))
-    made_in_grown grants sessions d (Up agent own message e made) = adds_beside (Grown b) (empty_draft m) e d (made_in_grown grants sessions e made) refl (λ r k. record { kept = k.kept; grows = k.grows })
-    made_in_grown grants sessions d (Down own message e made) = adds_beside (Grown b) (empty_draft m) e d (made_in_grown grants sessions e made) refl (λ r k. record { kept = k.kept; grows = k.grows })
+        adds_then (Grown V) (empty_draft m) e d a.more (made_in_grown grants sessions e made) a.puts (station_grown e.memory e.memory.station (word (station_part e)).memory a.more a.leads)
+    made_in_grown grants sessions d (Remembers change e made beside) = adds_beside (Grown V) (empty_draft m) e d (made_in_grown grants sessions e made) refl (λ r k.
+        record { kept = beside_stays Coordinator W L P E g m words offers known pairs coordinator grants sessions e.memory (change e.memory) r beside k.kept; grows = subst V (sym (beside_book E e.memory (change e.memory) beside)) k.grows })
+    made_in_grown grants sessions d (TagsIn made opened e x) = adds_beside (Grown V) (empty_draft m) e d (made_in_grown grants sessions e x) refl (λ r k. record { kept = k.kept; grows = k.grows })
+    made_in_grown grants sessions d (Enters x e made change) = adds_then (Grown V) (empty_draft m) e d _ (made_in_grown grants sessions e made) refl
+        (entry_grown e.memory x (entry_fits Coordinator W L P E g m words offers known pairs coordinator grants sessions e.memory.book x change) (entry_room Coordinator W L P E g m words offers known pairs coordinator grants sessions e.memory.book x change) (steps e.memory.book x change))
+    made_in_grown grants sessions d (Up agent own message e made) = adds_beside (Grown V) (empty_draft m) e d (made_in_grown grants sessions e made) refl (λ r k. record { kept = k.kept; grows = k.grows })
+    made_in_grown grants sessions d (Down own message e made) = adds_beside (Grown V) (empty_draft m) e d (made_in_grown grants sessions e made) refl (λ r k. record { kept = k.kept; grows = k.grows })
 
     counted_grown : (d : Draft Memory) (count : ℕ) → count ≤ 24 → count ≤ counters_left m.station → d.memory.station.counter ≡ m.station.counter
-        → Leads (Grown b) d.memory (puts_of (counter.reserve_write d.memory.station.counter count)) (counted in_memory count d.memory)
+        → Leads (Grown V) d.memory (puts_of (counter.reserve_write d.memory.station.counter count)) (counted in_memory count d.memory)
     counted_grown d count few left same =
         station_grown d.memory d.memory.station (record d.memory.station { counter = counter.reserved d.memory.station.counter count }) _
         (low_when (Rest Coordinator d.memory) (rest_lasts Coordinator d.memory) _ _ _ (λ r k.
@@ -107,15 +108,15 @@ module _ (b : book.Book) where
         counter_leads (Rest Coordinator d.memory) (rest_lasts Coordinator d.memory) d.memory.station count (omega arith) (omega arith)))
 
     pub plan_grown : (grants : (r : Records) → IsKept Coordinator m r → (granted : Granted) → L granted → IsHeld granted.key0 × IsHeld granted.key1) {H F : Type 0} (ends : Ends F) (K : Memory → H → Type 0)
-        → ((n : Memory) (answer : H) → K n answer → (r : Records) → Grown b m r → Grown b n r)
-        → (p : Plan Memory (Result H F)) → Planned in_memory ends m K (λ d (a : H). MadeIn W L P E g m d × Few m.station d) p → pending m.station ≤ 21 → Leads (Grown b) m p.puts p.memory
+        → ((n : Memory) (answer : H) → K n answer → (r : Records) → Grown V m r → Grown V n r)
+        → (p : Plan Memory (Result H F)) → Planned in_memory ends m K (λ d (a : H). MadeIn W L P E g m d × Few m.station d) p → pending m.station ≤ 21 → Leads (Grown V) m p.puts p.memory
     unfolding resting empty_draft
-    plan_grown grants ends K beside p (Refuses reason) waits = leads_beside (Grown b) m m (λ r k. k)
-    plan_grown grants ends K beside p (Keeps n answer k) waits = leads_beside (Grown b) m n (beside n answer k)
-    plan_grown grants ends K beside p (Ended d answer done left) waits = leads_when (Grown b) m _ _ (λ r k.
+    plan_grown grants ends K beside p (Refuses reason) waits = leads_beside (Grown V) m m (λ r k. k)
+    plan_grown grants ends K beside p (Keeps n answer k) waits = leads_beside (Grown V) m n (beside n answer k)
+    plan_grown grants ends K beside p (Ended d answer done left) waits = leads_when (Grown V) m _ _ (λ r k.
         let a = made_in_grown (grants r k.kept) k.kept.sessions d done.0 in
         let few = done.1.few waits in
-        leads_append (Grown b) m d.memory _ d.puts _ (subst (λ ps. Leads (Grown b) m ps d.memory) (sym a.puts) a.leads)
+        leads_append (Grown V) m d.memory _ d.puts _ (subst (λ ps. Leads (Grown V) m ps d.memory) (sym a.puts) a.leads)
         (counted_grown d (length d.units) (omega arith) left (made_in_counter W L P E g m d done.0)))
 
 -- # The book that the records give is one

@@ -3,12 +3,13 @@ use Rattle.std.proofs.Common.{◌≡◌, suc, false, List, [], ◌∷◌, ◌++�
 use Rattle.std.specs.Prelude.{All, IfSome}
 use Rattle.std.proofs.lemmas.List.Elements.{All-nil, All-head, All-tail}
 use Rattle.node_rules.specs.Ciphers.{Ciphers}
-use Rattle.line_rules.specs.Events.{IsEvent}
+use Rattle.line_rules.specs.Events.{IsEvent, AreEvents}
 use Rattle.line_rules.specs.Worlds.{World, Pairing, start}
 use Rattle.line_rules.specs.Steps.{Step}
-use Rattle.line_rules.specs.Runs.{Entry, IsRun, one_of, issued, takings, WasTaken, AgreesAfter}
+use Rattle.line_rules.specs.Runs.{Entry, IsRun, one_of, issued, takings, events_of}
+use Rattle.line_rules.specs.Agreement.{WasTaken, AgreesAfter}
 use Rattle.line_laws.specs.Owed.{KeepsRanges}
-use Rattle.line_laws.specs.Laws.{AreSaid, FlightsAreOctets}
+use Rattle.line_laws.specs.Laws.{FlightsAreOctets}
 use Rattle.line_laws.specs.Issued.{EveryJoiningAgrees}
 use Rattle.line_laws.proofs.Worlds.{FlightFits, WorldOk}
 use Rattle.line_laws.proofs.Running.{start_ok, taken_good}
@@ -35,10 +36,10 @@ agreed w taken s (Refused fault) = tt
 agreed w taken s (Happened r f) = f
 
 agrees_from : (ciphers : Ciphers) → KeepsRanges ciphers → (w : World) → WorldOk w → All FlightFits w.flights → (before : List Entry) → Keyed w (issued before) → Confirmed w (takings before)
-    → (entries : List Entry) → AreSaid entries → FlightsAreOctets entries → IsRun ciphers w entries → AgreesAfter before entries
+    → (entries : List Entry) → AreEvents (events_of entries) → FlightsAreOctets entries → IsRun ciphers w entries → AgreesAfter before entries
 agrees_from ciphers fits w ok flown before k c [] says fly run = tt
 agrees_from ciphers fits w ok flown before k c (x ∷ xs) says fly run = λ honest.
-    let event = All-head (λ (y : Entry). IsEvent y.event) x xs says in
+    let event = All-head IsEvent x.event (events_of xs) says in
     let g = taken_good ciphers fits w ok flown x event run.2 in
     let next : Keyed x.after (issued before ++ x.trace.issued) = subst (Kept (issued before)) run.2 (kept w (issued before) _ (step_keyed ciphers fits w ok flown (issued before) k x.event event)) honest in
     let k' : Keyed x.after (issued (before ++ x ∷ [])) = subst (Keyed x.after) (sym (all_of_one (λ d. d.issued) before x)) next in
@@ -46,8 +47,8 @@ agrees_from ciphers fits w ok flown before k c (x ∷ xs) says fly run = λ hone
     = subst (Agreed_in (takings before)) run.2 (agreed w (takings before) _ (step_agrees ciphers fits w ok flown (issued before) k (takings before) c x.event event)) honest in
     let c' : Confirmed x.after (takings (before ++ x ∷ [])) = subst (Confirmed x.after) (sym (all_of_one (λ d. one_of d.taken) before x)) both.0 in (
       if_taken x.trace.done (takings before) both.1,
-      agrees_from ciphers fits x.after g.0 (All-head EntryFlies x xs fly) (before ++ x ∷ []) k' c' xs (All-tail (λ (y : Entry). IsEvent y.event) x xs says) (All-tail EntryFlies x xs fly) run.3,
+      agrees_from ciphers fits x.after g.0 (All-head EntryFlies x xs fly) (before ++ x ∷ []) k' c' xs (All-tail IsEvent x.event (events_of xs) says) (All-tail EntryFlies x xs fly) run.3,
     )
 
 pub every_joining : EveryJoiningAgrees
-every_joining ciphers fits entries says fly run = agrees_from ciphers fits start start_ok (All-nil FlightFits) [] start_keyed tt entries says fly run
+every_joining ciphers fits entries r fly = agrees_from ciphers fits start start_ok (All-nil FlightFits) [] start_keyed tt entries r.events fly r.run

@@ -53,7 +53,7 @@ use Rattle.line_rules.specs.Answers.{station_reception, SentGrant, CompletedJoin
 use Rattle.line_rules.specs.Worlds.{Issued}
 use Rattle.node_rules.specs.Hearing.{dropped}
 use Rattle.line_laws.specs.Stores.{IsKept}
-use Rattle.line_laws.specs.Sizes.{IsSized}
+use Rattle.line_laws.specs.Sizes.{IsMemorySized}
 use Rattle.line_laws.specs.Owed.{AreOctets, KeepsRanges}
 use Rattle.line_laws.proofs.Readings.{join_ranges}
 use Rattle.line_laws.proofs.Keeping.{Left}
@@ -86,7 +86,7 @@ use Rattle.line_laws.proofs.IssueNodes.{AllMade}
 use Rattle.line_laws.proofs.IssueWords.{Here, among_left, among_right, each_append, each_weaker}
 use Rattle.line_laws.proofs.IssueMeters.{MeterTag, Second, Fourth, joins_made, leaves_made}
 use Rattle.line_laws.proofs.IssueCoordinator.{CoordinatorTag, ServerMac, Third, IsDoneBy}
-use Rattle.line_laws.proofs.IssueCalls.{allow_made, depot_made, rekey_made, activate_self_made, challenge_made, activate_made, kick_made}
+use Rattle.line_laws.proofs.Untagged.{allow_untagged, depot_untagged, rekey_untagged, activate_self_untagged, challenge_untagged, activate_untagged, kick_untagged}
 use Rattle.line_laws.proofs.IssueSteps.{took_same, keyed_same, or_false, address_low, other_there, flight_octets, quiet_meter_did}
 use Rattle.std.specs.List.{position_or_len}
 use Rattle.std.specs.Prelude.{position}
@@ -237,8 +237,8 @@ module _ (ciphers : Ciphers) (fits : KeepsRanges ciphers) (w : World) (ok : Worl
   rests : (d : Trace) → d.taken ≡ None → d.done ≡ None → Good (Ok (ran w, d))
   rests d none undone = quiet (ran w, d) none undone c
 
-  sized_of : (x : Node) (m : Memory) → NodeOk x → x.memory ≡ Some m → IsSized m
-  sized_of x m good there = subst (λ o. IfSome o IsSized) there good.sized
+  sized_of : (x : Node) (m : Memory) → NodeOk x → x.memory ≡ Some m → IsMemorySized m
+  sized_of x m good there = subst (λ o. IfSome o IsMemorySized) there good.sized
 
   -- what a node did without a tag
   plain_told : {A B : Type 0} (v : World) → Confirmed v taken → (number : ℕ) (x : Node) → node_at v number ≡ Some x → (reads : A → B) (halted : A) (plan : Memory → Plan Memory A) → ((m : Memory) → x.memory ≡ Some m → (plan m).made ≡ []) → Confirmed (told ciphers v number (answering reads (acts x halted plan))) taken
@@ -321,26 +321,26 @@ module _ (ciphers : Ciphers) (fits : KeepsRanges ciphers) (w : World) (ok : Worl
   activate_agrees number index = once _ (at_node number _ (λ x is. at_node 0 _ (λ y there. by_number (number == 0) x y there)))
     where
       by_number : (b : Bool) (x y : Node) → node_at w 0 ≡ Some y → Good (Ok (if b then by_coordinator ciphers w y said.Activated (λ m. coordinator_rules.activate_self m index) else by_coordinator ciphers w y said.Ordered (λ m. coordinator_rules.activate m x.eui index w.clock)))
-      by_number true x y there = order_agrees y said.Activated _ there (λ m. activate_self_made m index)
-      by_number false x y there = order_agrees y said.Ordered _ there (λ m. activate_made m x.eui index w.clock)
+      by_number true x y there = order_agrees y said.Activated _ there (λ m. (activate_self_untagged m index).0)
+      by_number false x y there = order_agrees y said.Ordered _ there (λ m. (activate_untagged m x.eui index w.clock).0)
 
   rekey_agrees : (index : ℕ) (key : Key) → Good (rekey ciphers w index key)
   unfolding rekey
-  rekey_agrees index key = once _ (at_node 0 _ (λ y there. order_agrees y said.Drawn _ there (λ m. rekey_made m index key)))
+  rekey_agrees index key = once _ (at_node 0 _ (λ y there. order_agrees y said.Drawn _ there (λ m. (rekey_untagged m index key).0)))
 
   challenge_agrees : (number : ℕ) → Good (challenge ciphers w number)
   unfolding challenge
-  challenge_agrees number = once _ (at_meter number _ (λ ne x is. at_node 0 _ (λ y there. order_agrees y said.Challenged _ there (λ m. challenge_made m y.eui x.eui w.clock))))
+  challenge_agrees number = once _ (at_meter number _ (λ ne x is. at_node 0 _ (λ y there. order_agrees y said.Challenged _ there (λ m. (challenge_untagged m y.eui x.eui w.clock).0))))
 
   kick_agrees : (number : ℕ) → Good (kick ciphers w number)
   unfolding kick
-  kick_agrees number = once _ (at_meter number _ (λ ne x is. at_node 0 _ (λ y there. order_agrees y said.Kicked _ there (λ m. kick_made m x.eui))))
+  kick_agrees number = once _ (at_meter number _ (λ ne x is. at_node 0 _ (λ y there. order_agrees y said.Kicked _ there (λ m. (kick_untagged m x.eui).0))))
 
   allow_agrees : (number : ℕ) → Good (allow ciphers w number)
   unfolding allow
   allow_agrees number = once _ (at_meter number _ (λ ne x is. at_node 0 _ (λ y there.
       by_option (λ psk. Ok (allowed ciphers w number (acts y (Err orders.Halted) (λ m. coordinator_rules.allow m x.eui psk)))) (psk_of x) (Err faults.Node)
-      (λ psk pair. quiet _ refl refl (plain_acts (ran w) c 0 y there (Err orders.Halted) _ (λ m here. allow_made m x.eui psk))) (Refused faults.Node))))
+      (λ psk pair. quiet _ refl refl (plain_acts (ran w) c 0 y there (Err orders.Halted) _ (λ m here. (allow_untagged m x.eui psk).0))) (Refused faults.Node))))
 
   preset_agrees : (number : ℕ) (plan : StationMemory → calls.Presetting) → ((m : Memory) → (of_station m (plan m.station)).made ≡ []) → Good (preset ciphers w number plan)
   preset_agrees number plan none = setup _ (at_node number _ (λ x there. quiet _ refl refl (plain_acts (set_up w) c number x there (Ok tt) _ (λ m here. none m))))
@@ -386,7 +386,7 @@ module _ (ciphers : Ciphers) (fits : KeepsRanges ciphers) (w : World) (ok : Worl
       by_answer (Err reason) e = rw e (Refused faults.Setup)
       by_answer (Ok g) e =
           let d : NodeStep (Result Granted CoordinatorRefusal) = record (acts y (Err orders.Halted) plan) { answer = Ok g } in
-          let first : Confirmed (told ciphers (set_up w) 0 d) taken = told_nothing ciphers (set_up w) 0 y d hy (acts_eui y (Err orders.Halted) plan) taken c (acts_nothing y (Err orders.Halted) plan (λ m here. depot_made m x.eui psk)) in
+          let first : Confirmed (told ciphers (set_up w) 0 d) taken = told_nothing ciphers (set_up w) 0 y d hy (acts_eui y (Err orders.Halted) plan) taken c (acts_nothing y (Err orders.Halted) plan (λ m here. (depot_untagged m x.eui psk).0)) in
           rw e (quiet (provisioned ciphers (told ciphers (set_up w) 0 d) number x g) refl refl (plain_acts (told ciphers (set_up w) 0 d) first number x (other_there ciphers fits w ok flown given k 0 number d x ne hx) (Ok tt) (λ m. meters.provision m g) (λ m here. (installs_rest m g).1)))
 
   depot_agrees : (number : ℕ) → Good (depot ciphers w number)

@@ -25,7 +25,7 @@ use Rattle.node_rules.specs.MemoryDrafts.{in_memory}
 use Rattle.node_rules.specs.Coordinators as coordinators
 use Rattle.node_rules.specs.NodeSteps.{of_station}
 use Rattle.line_laws.specs.Stores.{IsHeld, IsKept}
-use Rattle.line_laws.specs.Sizes.{IsSized}
+use Rattle.line_laws.specs.Sizes.{IsMemorySized}
 use Rattle.line_laws.specs.Owed.{AreOctets, KeepsRanges}
 use Rattle.line_laws.proofs.HeadsSaid.{head_ranges}
 use Rattle.line_laws.proofs.RouteRanges.{route_ranges}
@@ -57,7 +57,7 @@ HasPair eui psk = length psk.0 ≡ 16
 abbrev Ordered : RingWord → Type 0
 Ordered w = WordFits w
 
-module _ (ciphers : Ciphers) (fits : KeepsRanges ciphers) (own : coordinators.CoordinatorIdentity) (m : Memory) (h : IsSized m) where
+module _ (ciphers : Ciphers) (fits : KeepsRanges ciphers) (own : coordinators.CoordinatorIdentity) (m : Memory) (h : IsMemorySized m) where
   heard_eui : (octets : List ℕ) (join : JoinMessage) → join_in octets ≡ Some join → HasEui join.eui
   heard_eui octets join e = (join_ranges octets join e).0
 
@@ -65,7 +65,7 @@ module _ (ciphers : Ciphers) (fits : KeepsRanges ciphers) (own : coordinators.Co
   L granted = IsGranted m granted
 
   coordinator_ok : {H F : Type 0} (g : Given) → ((address : Option ℕ) (by origin : ℕ) (rank : Rank) → Offered g address by origin rank → EntryFits (routing.offered_entry origin rank by g.now))
-      → (ends : Ends F) (K : Memory → H → Type 0) (N : H → Type 0) → ((n : Memory) (answer : H) → K n answer → (r : Records) → IsKept Coordinator m r → IsKept Coordinator n r) → ((n : Memory) (answer : H) → K n answer → IsSized m → IsSized n) → ((n : Memory) (answer : H) → K n answer → n.station.counter ≡ m.station.counter)
+      → (ends : Ends F) (K : Memory → H → Type 0) (N : H → Type 0) → ((n : Memory) (answer : H) → K n answer → (r : Records) → IsKept Coordinator m r → IsKept Coordinator n r) → ((n : Memory) (answer : H) → K n answer → IsMemorySized m → IsMemorySized n) → ((n : Memory) (answer : H) → K n answer → n.station.counter ≡ m.station.counter)
       → (p : Plan Memory (Result H F)) → Planned in_memory ends m K (MadeBy Ordered (IsGranted m) HasPair HasEui g m N) p → PlanOk Coordinator m p
   coordinator_ok g offers ends K N kept sized same p s = plan_ok Coordinator Ordered (IsGranted m) HasPair HasEui g m (λ w k. k) offers (λ eui k. k) (λ eui psk k. k) (λ b e change. refl) (granted_keys Coordinator m) ends K kept sized same p
       (planned_weaker p (λ n answer k. k) (few_of N m Ordered (IsGranted m) HasPair HasEui g) s) h
@@ -76,31 +76,31 @@ module _ (ciphers : Ciphers) (fits : KeepsRanges ciphers) (own : coordinators.Co
   pub coordinator_hears_ok : (got : Accepted) (cost note now : ℕ) → RoutesFit got → PlanOk Coordinator m (coordinators.hear_coordinator own m got cost note now)
   coordinator_hears_ok got cost note now routes = coordinator_ok (heard_given got cost note now) (heard_offers got cost note now routes) dropped (HandedIn coordinator_heard.Station (heard_given got cost note now) m) HandsNothingUp
       (handed_kept Coordinator m h coordinator_heard.Station (heard_given got cost note now)) (handed_within Coordinator m h coordinator_heard.Station (heard_given got cost note now)) (handed_counter m coordinator_heard.Station (heard_given got cost note now)) _
-      (coordinator_is Ordered HasPair HasEui heard_eui (heard_given got cost note now) own m (λ to there join said. tt) got refl)
+      (coordinator_is Ordered HasPair HasEui heard_eui (heard_given got cost note now) own m (λ to there join said. omega arith) got refl)
 
   pub allow_ok : (eui : Eui) (psk : Key) → HasEui eui → HasPair eui psk → PlanOk Coordinator m (coordinators.allow m eui psk)
-  allow_ok eui psk known pair = order_ok 0 coordinators.orders _ (allow_is Ordered HasPair HasEui heard_eui (call_given 0 0 0) own m (λ to there join said. tt) eui psk known pair)
+  allow_ok eui psk known pair = order_ok 0 coordinators.orders _ (allow_is Ordered HasPair HasEui heard_eui (call_given 0 0 0) own m (λ to there join said. omega arith) eui psk known pair)
 
   pub depot_ok : (eui : Eui) (psk : Key) → HasEui eui → HasPair eui psk → PlanOk Coordinator m (coordinators.depot m eui psk)
-  depot_ok eui psk known pair = order_ok 0 coordinators.orders _ (depot_is Ordered HasPair HasEui heard_eui (call_given 0 0 0) own m (λ to there join said. tt) eui psk known pair)
+  depot_ok eui psk known pair = order_ok 0 coordinators.orders _ (depot_is Ordered HasPair HasEui heard_eui (call_given 0 0 0) own m (λ to there join said. omega arith) eui psk known pair)
 
   pub rekey_ok : (index : ℕ) (key : Key) → IsHeld (Some key) → PlanOk Coordinator m (coordinators.rekey m index key)
-  rekey_ok index key held = order_ok 0 coordinators.orders _ (rekey_is Ordered HasPair HasEui heard_eui (call_given 0 0 0) own m (λ to there join said. tt) index key held)
+  rekey_ok index key held = order_ok 0 coordinators.orders _ (rekey_is Ordered HasPair HasEui heard_eui (call_given 0 0 0) own m (λ to there join said. omega arith) index key held)
 
   pub activate_self_ok : (index : ℕ) → index ≤ 1 → PlanOk Coordinator m (coordinators.activate_self m index)
-  activate_self_ok index low = order_ok 0 coordinators.orders _ (activate_self_is Ordered HasPair HasEui heard_eui (call_given 0 0 0) own m (λ to there join said. tt) index low)
+  activate_self_ok index low = order_ok 0 coordinators.orders _ (activate_self_is Ordered HasPair HasEui heard_eui (call_given 0 0 0) own m (λ to there join said. omega arith) index low)
 
   pub challenge_ok : (eui : Eui) (now : ℕ) → HasEui eui → PlanOk Coordinator m (coordinators.challenge own.eui m eui now)
-  challenge_ok eui now known = order_ok now coordinators.orders _ (challenge_is Ordered HasPair HasEui heard_eui (call_given 0 0 now) own m (λ to there join said. tt) eui known)
+  challenge_ok eui now known = order_ok now coordinators.orders _ (challenge_is Ordered HasPair HasEui heard_eui (call_given 0 0 now) own m (λ to there join said. omega arith) eui known)
 
   pub activate_ok : (eui : Eui) (index now : ℕ) → PlanOk Coordinator m (coordinators.activate m eui index now)
-  activate_ok eui index now = order_ok now coordinators.orders _ (activate_is Ordered HasPair HasEui heard_eui (call_given 0 0 now) own m (λ to there join said. tt) eui index)
+  activate_ok eui index now = order_ok now coordinators.orders _ (activate_is Ordered HasPair HasEui heard_eui (call_given 0 0 now) own m (λ to there join said. omega arith) eui index)
 
   pub kick_ok : (eui : Eui) → HasEui eui → PlanOk Coordinator m (coordinators.kick m eui)
-  kick_ok eui known = order_ok 0 coordinators.orders _ (kick_is Ordered HasPair HasEui heard_eui (call_given 0 0 0) own m (λ to there join said. tt) eui known)
+  kick_ok eui known = order_ok 0 coordinators.orders _ (kick_is Ordered HasPair HasEui heard_eui (call_given 0 0 0) own m (λ to there join said. omega arith) eui known)
 
 pub depot_failed : (ciphers : Ciphers) → KeepsRanges ciphers → (own : coordinators.CoordinatorIdentity) (m : Memory) (eui : Eui) (psk : Key) → HasEui eui → HasPair eui psk → (coordinators.depot m eui psk).failed ≡ Err coordinators.orders.store
-depot_failed ciphers fits own m eui psk known pair = planned_failed _ (depot_is Ordered HasPair HasEui (λ octets join e. (join_ranges octets join e).0) (call_given 0 0 0) own m (λ to there join said. tt) eui psk known pair)
+depot_failed ciphers fits own m eui psk known pair = planned_failed _ (depot_is Ordered HasPair HasEui (λ octets join e. (join_ranges octets join e).0) (call_given 0 0 0) own m (λ to there join said. omega arith) eui psk known pair)
 
 -- # Accepting a frame
 
@@ -118,21 +118,22 @@ module _ (ciphers : Ciphers) (fits : KeepsRanges ciphers) (octets : List ℕ) (a
   plain_routes : (got : Accepted) → IsPlain got.path → RoutesFit got
   plain_routes got plain = record { run = λ from all key code body message path unit read. absurd (subst IsPlain path plain) }
 
-  accepting_ok : (role : Role) (m : Memory) (p : Accepting) → Accepts m.station (arrived ciphers octets) p → IsSized m → PlanOk role m (of_station m p)
+  accepting_ok : (role : Role) (m : Memory) (p : Accepting) → Accepts m.station (arrived ciphers octets) p → IsMemorySized m → PlanOk role m (of_station m p)
   unfolding resting marking
-  accepting_ok role m p (Turned reason) h = record { leads = leads_beside (IsKept role) m m (λ r k. k); sized = h; few = omega arith; rises = λ fits. record { high = tt; with_own_number = omega arith } }
-  accepting_ok role m p (Plain got plain) h = record { leads = leads_beside (IsKept role) m m (λ r k. k); sized = h; few = omega arith; rises = λ fits. record { high = tt; with_own_number = omega arith } }
+  accepting_ok role m p (Turned reason) h = record { leads = leads_beside (IsKept role) m m (λ r k. k); sized = h; few = omega arith; rises = λ fits. record { high = tt; with_own_number = omega arith }; from = tt }
+  accepting_ok role m p (Plain got plain) h = record { leads = leads_beside (IsKept role) m m (λ r k. k); sized = h; few = omega arith; rises = λ fits. record { high = tt; with_own_number = omega arith }; from = tt }
   accepting_ok role m p (Marked from counter got a) h =
       let in_range = admitted_fits m.station from counter got a in
       record {
         leads = station_leads role m m.station (record m.station { marks = marks.kept_after m.station.marks from counter }) _
             (marks_lead (Rest role m) (rest_lasts role m) m.station from counter in_range.0 in_range.1 a.room);
-        sized = record { station = record { reassemblies = h.station.reassemblies; waiting = h.station.waiting; short = h.station.short }; sessions = h.sessions; randoms = h.randoms };
+        sized = record { station = record { reassemblies = h.station.reassemblies; waiting = record { bodies = h.station.waiting.bodies; blocks = h.station.waiting.blocks; datagrams = h.station.waiting.datagrams }; loads = h.station.loads; tag = h.station.tag }; sessions = h.sessions; randoms = h.randoms };
         few = omega arith;
         rises = λ fits. record { high = marks_high m.station.counter.limit m.station.marks from counter; with_own_number = omega arith };
+        from = tt;
       }
 
-  pub accept_ok : (role : Role) (m : Memory) (own : Eui) → IsSized m → PlanOk role m (of_station m (accept m.station own (arrived ciphers octets)))
+  pub accept_ok : (role : Role) (m : Memory) (own : Eui) → IsMemorySized m → PlanOk role m (of_station m (accept m.station own (arrived ciphers octets)))
   accept_ok role m own h = accepting_ok role m _ (accept_is m.station own (arrived ciphers octets)) h
 
   -- route messages of what is accepted are in range

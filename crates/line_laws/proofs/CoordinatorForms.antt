@@ -36,7 +36,8 @@ use Rattle.node_rules.specs.Drafts.{Draft, Lack, alone, empty_draft, with_ring, 
 use Rattle.node_rules.specs.Hearing as station_rules
 use Rattle.node_rules.specs.Drafts as drafts
 use Rattle.node_rules.specs.Hearing.{dropped}
-use Rattle.node_rules.specs.Joining.{message, first_packet, server_for, rand_p_in, command_of}
+use Rattle.node_rules.specs.Joining.{message, first_packet, server_for, command_of}
+use Rattle.eap_psk.specs.Sessions.{rand_p_in}
 use Rattle.node_rules.specs.MemoryDrafts.{in_memory, on_station, station_part, with_memory_by, with_pair_tags, is_commanded, oldest, without_oldest, Unread, unread}
 use Rattle.node_rules.specs.Coordinators.{Hearing, CoordinatorIdentity, drop_it, is_of, session_of, sessions_full, session_fault, with_session, without_session, grant_for, says, say_lack, with_book_entry, declines, opens, challenges, open_session, asked, keys_for, take_second, accepts, take_fourth, take_packet, answered, hear_join, hear_join_in, heard_by, hear_coordinator, Ordering, orders, allowed_entry, order_lack, lacking, changes, changed, allow, depot_by, depot, rekey, activate_self, challenge_by, challenge_at, challenge, allowed_address, activate_by, activate, kick_goes, kick_by, kick}
 use Rattle.node_rules.proofs.Words.{IsDone, Fits, looser, sets_out_fits, begun_fits, on_ring, remembered_fits, entered_fits, down_done, commanded_done, quiet_done, quiet}

@@ -29,7 +29,8 @@ use Rattle.node_rules.specs.NodeSteps.{NodeStep, acts, of_station, answering}
 use Rattle.line_rules.specs.Steps.{identity, hears, note_by, told, ran, trace_of, happened, flights_of, flight_by, handed_by, heard, arrives}
 use Rattle.line_rules.specs.Worlds.{Flight, Trace, World}
 use Rattle.line_rules.specs.declared.happenings.Handed.{Handed}
-use Rattle.line_laws.specs.Letters.{OpensWhatItSeals, AreFlights}
+use Rattle.node_rules.specs.Ciphers.{OpensWhatItSeals}
+use Rattle.line_laws.specs.Letters.{AreFlights}
 use Rattle.line_laws.specs.Places.{unit_of}
 use Rattle.line_laws.specs.Sends.{SentAs, UnitIsOf, UpIsOf}
 use Rattle.line_laws.proofs.StoreMarks.{Accepts, Turned, Plain, Marked, accept_is}

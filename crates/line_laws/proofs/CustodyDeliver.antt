@@ -36,7 +36,8 @@ use Rattle.line_rules.specs.Steps.{identity, hears, note_by, forged_by, told, ra
 use Rattle.line_rules.specs.Worlds.{Flight, Trace, World, has_octets, note_of, is_forged_frame}
 use Rattle.line_rules.specs.declared.happenings.Handed.{Handed}
 use Rattle.node_rules.proofs.Writing.{clean}
-use Rattle.line_laws.specs.Letters.{OpensWhatItSeals, IsLetter, IsSpelled, IsFlight, AreFlights}
+use Rattle.node_rules.specs.Ciphers.{OpensWhatItSeals}
+use Rattle.line_laws.specs.Letters.{IsLetter, SpellsLetter, IsFlight, AreFlights}
 use Rattle.line_laws.specs.Custody.{weigh, below, letter_is, up_is}
 use Rattle.line_laws.specs.Places.{node_keeps, unit_of, flight_is, handed_is, issued, IsInCustody, LiveFalls, first_place, opened_by, opened_at}
 use Rattle.line_laws.proofs.LetterAccepts.{IsOfLetter, accepts_letter}
@@ -176,7 +177,7 @@ module _ (ciphers : Ciphers) (opens : OpensWhatItSeals ciphers) (w : World) (are
       by_all b path =
           let f = flown w.flights octets a.key (ap (forged_by w octets) (sym path) ∙ unforged) in
           let is : IsFlight ciphers f.flight = subst (IsFlight ciphers) (get_or_from_slice_get w.flights f.place f.flight f.flight f.there) (are f.place f.flight (slice_get_within w.flights f.place f.flight f.there)) in
-          let s : IsSpelled ciphers f.flight a.key = is.sealed a.key f.key_is in
+          let s : SpellsLetter ciphers f.flight a.key = is.sealed a.key f.key_is in
           let of = accepts_letter ciphers opens s.letter s.fits m.station octets (sym f.octets_are ∙ s.octets) from counter got a (sym s.key_is) in
           let note : s.letter.note ≡ note_by w octets got.path = sym s.note ∙ sym f.note ∙ ap (note_by w octets) (sym path) in
           let same : flight_is ciphers n i f.flight ≡ letter_is n i s.letter = flight_weighs ciphers opens n i f.flight a.key f.key_is s in

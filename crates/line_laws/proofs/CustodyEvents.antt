@@ -22,7 +22,7 @@ use Rattle.line_rules.specs.Steps.{is_taken, tag_of, sending, sent_if, acted, to
 use Rattle.line_rules.specs.Worlds.{Flight, World}
 use Rattle.line_rules.specs.declared.happenings.Handed.{Handed}
 use Rattle.node_rules.proofs.Writing.{clean}
-use Rattle.line_laws.specs.Letters.{OpensWhatItSeals}
+use Rattle.node_rules.specs.Ciphers.{OpensWhatItSeals}
 use Rattle.line_laws.specs.Custody.{weigh, below, sent_is, keeps}
 use Rattle.line_laws.specs.Places.{node_keeps, flight_is, live_is, places, issued, IsInCustody, OneNode, LiveFalls}
 use Rattle.line_laws.proofs.Planned.{Planned, Refuses, Keeps, Ended}

@@ -29,7 +29,7 @@ use Rattle.node_rules.specs.NodeSteps.{NodeStep}
 use Rattle.line_rules.specs.Steps.{acted, told, restarts, memory_by, flights_of}
 use Rattle.line_rules.specs.Worlds.{Flight, World}
 use Rattle.line_rules.specs.declared.happenings.Handed.{Handed}
-use Rattle.line_laws.specs.Letters.{OpensWhatItSeals}
+use Rattle.node_rules.specs.Ciphers.{OpensWhatItSeals}
 use Rattle.line_laws.specs.Custody.{keeps}
 use Rattle.line_laws.specs.Places.{node_keeps, places, issued, IsInCustody, OneNode, LiveFalls}
 use Rattle.line_laws.proofs.Made.{RingWord}

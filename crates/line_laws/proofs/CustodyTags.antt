@@ -24,7 +24,8 @@ use Rattle.node_rules.specs.NodeSteps.{NodeStep, acts, of_station}
 use Rattle.line_rules.specs.Steps.{identity, hears, note_by, forged_by, arrives, heard, told, ran, trace_of, happened}
 use Rattle.line_rules.specs.Worlds.{Flight, Trace, World}
 use Rattle.line_rules.specs.declared.happenings.Handed.{Handed}
-use Rattle.line_laws.specs.Letters.{OpensWhatItSeals, AreFlights}
+use Rattle.node_rules.specs.Ciphers.{OpensWhatItSeals}
+use Rattle.line_laws.specs.Letters.{AreFlights}
 use Rattle.line_laws.specs.Places.{IsInCustody, LiveFalls, opened_at}
 use Rattle.line_laws.specs.Sends.{SentAs, HeldIsOf}
 use Rattle.line_laws.proofs.Made.{IsCome, Given}

@@ -17,7 +17,8 @@ use Rattle.node_rules.specs.Memory.{Node}
 use Rattle.line_rules.specs.Worlds.{Flight, World}
 use Rattle.line_rules.specs.declared.happenings.Handed.{Handed}
 use Rattle.line_rules.specs.Steps.{flight_by}
-use Rattle.line_laws.specs.Letters.{OpensWhatItSeals, IsSpelled}
+use Rattle.node_rules.specs.Ciphers.{OpensWhatItSeals}
+use Rattle.line_laws.specs.Letters.{SpellsLetter}
 use Rattle.line_laws.specs.Custody.{weigh, below, content_is, letter_is, sent_is, keeps}
 use Rattle.line_laws.specs.Places.{node_keeps, unit_of, flight_is, handed_is, live_is, places, issued, IsInCustody, OneNode, LiveFalls}
 use Rattle.line_laws.proofs.LetterSeals.{letter_arrives, letter_opens, letter_unit}
@@ -28,7 +29,7 @@ use Rattle.line_laws.proofs.CustodyCalls.{zero_weight}
 
 module _ (ciphers : Ciphers) (opens : OpensWhatItSeals ciphers) where
   -- the unit of a letter's flight is the letter's
-  pub unit_back : (f : Flight) (key : Key) → f.key ≡ Some key → (s : IsSpelled ciphers f key) → unit_of ciphers f ≡ Some s.letter.unit
+  pub unit_back : (f : Flight) (key : Key) → f.key ≡ Some key → (s : SpellsLetter ciphers f key) → unit_of ciphers f ≡ Some s.letter.unit
   unit_back f key e s =
       let came : Arrived = arrived_with ciphers (head_of s.letter) (header (head_of s.letter)) (ciphers.seals s.letter.key (head_of s.letter) (spelling s.letter.unit)) in
       ap (option_and_then (λ (k : Key). option_and_then (λ (a : Arrived). option_and_then unit_in (a.opened k)) (arrived ciphers f.octets))) e
@@ -37,7 +38,7 @@ module _ (ciphers : Ciphers) (opens : OpensWhatItSeals ciphers) where
       ∙ ap (option_and_then unit_in) (letter_opens ciphers opens s.letter s.fits)
       ∙ letter_unit ciphers opens s.letter s.fits
 
-  pub flight_weighs : (n i : ℕ) (f : Flight) (key : Key) → f.key ≡ Some key → (s : IsSpelled ciphers f key) → flight_is ciphers n i f ≡ letter_is n i s.letter
+  pub flight_weighs : (n i : ℕ) (f : Flight) (key : Key) → f.key ≡ Some key → (s : SpellsLetter ciphers f key) → flight_is ciphers n i f ≡ letter_is n i s.letter
   flight_weighs n i f key e s = (λ j. weigh n (s.note j) (option_map_or (content_is i) (unit_back f key e s j) 0))
 
   -- what a node sends flies with the same weight

@@ -210,7 +210,7 @@ made_plain W g s d (Sends own hop to note load e made here there short carried a
 made_plain W g s d (Waits to note load now e made none room short carried alone) h = made_plain W g s e made h
 made_plain W g s d (Leaves own dest hop rank e made here o) h = made_plain W g s e made h
 
-made_in_plain : (W : RingWord → Type 0) (L : Granted → Type 0) (P : Eui → Key → Type 0) (E : Eui → Type 0) (g : Given) (m : Memory) (d : Draft Memory) → MadeIn W L P E g m d → ArePlain d.plain
+pub made_in_plain : (W : RingWord → Type 0) (L : Granted → Type 0) (P : Eui → Key → Type 0) (E : Eui → Type 0) (g : Given) (m : Memory) (d : Draft Memory) → MadeIn W L P E g m d → ArePlain d.plain
 unfolding empty_draft on_station with_memory_by with_pair_tags with_book_entry goes_up goes_down
 made_in_plain W L P E g m d Begins = tt
 made_in_plain W L P E g m d (Station e made) = made_plain W g (empty_draft m.station) e made tt

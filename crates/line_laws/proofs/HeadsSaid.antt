@@ -1,9 +1,9 @@
 -- What the head of a frame says of its nonce, as nodes spell it.
-use Rattle.std.proofs.Common.{◌≡◌, ℕ, zero, suc, ◌<◌, ◌≤◌, ◌^◌, Bool, true, false, List, [], ◌∷◌, ◌++◌, take, drop, Option, Some, None, refl, sym, ap, ◌∙◌, subst, arith}
+use Rattle.std.proofs.Common.{◌≡◌, ℕ, zero, suc, ◌<◌, ◌^◌, Bool, true, false, List, [], ◌∷◌, ◌++◌, take, drop, Option, Some, None, refl, sym, ap, ◌∙◌, subst, arith}
 use Rattle.std.specs.Prelude.{◌%◌, ◌==◌, not, IfSome, All, is_some, if◌then◌else◌, slice_index}
 use Rattle.std.proofs.lemmas.Bool.{ltb-true}
 use Rattle.std.proofs.lemmas.Option.{same_Some}
-use Rattle.plc_base.specs.Faults.{◌then◌, ◌when◌, ◌unless◌, cut_off}
+use Rattle.plc_base.specs.Faults.{◌then◌, ◌when◌, cut_off}
 use Rattle.plc_base.proofs.Faults.{unless_none}
 use Rattle.mac_frames.specs.declared.fault.FrameFaultKind.TheVariants.{Short}
 use Rattle.plc_base.specs.declared.fields.Fault.{Fault}
@@ -12,7 +12,7 @@ use Rattle.mesh_header.specs.Grammar.{spelling}
 use Rattle.plc_base.specs.declared.address.TheConstants.{PAN}
 use Rattle.byteorder.specs.Endian.{little_bytes, little_from}
 use Rattle.plc_base.specs.Fields.{octet, little_two, little_four}
-use Rattle.plc_base.proofs.Places.{octet_behind, little_four_behind}
+use Rattle.plc_base.proofs.Places.{octet_behind, little_two_behind, little_four_behind}
 use Rattle.plc_base.specs.declared.address.Eui.{Eui}
 use Rattle.joining_messages.specs.declared.message.JoinMessage.{JoinMessage}
 use Rattle.mac_frames.specs.declared.head.MacHead.TheVariants as heads
@@ -22,8 +22,9 @@ use Rattle.mac_frames.specs.Reading.{head_by, head_in, body_in}
 use Rattle.node_rules.specs.Ciphers.{Ciphers}
 use Rattle.node_rules.specs.Frames.{Sent, Arrived, arrived, arrived_with, Letter, Sealed, Up, Down, to_all, head_of, spelled}
 use Rattle.line_rules.specs.Steps.{flight_by}
-use Rattle.line_laws.specs.Laws.{IsSpelled}
-use Rattle.line_rules.specs.Runs.{nonce_in_head}
+use Rattle.line_rules.specs.Nonces.{IsSealedUnder, IsPlainFrame, IsSpelled}
+use Rattle.plc_base.specs.declared.key.Key.{Key}
+use Rattle.line_rules.specs.Nonces.{nonce_in_head}
 
 low_sealed : (ack : Bool) (rest : List ℕ) → is_sealed (low_control true ack ∷ rest) ≡ true
 low_sealed true rest = rw (octet_behind [] (low_control true true) rest) refl
@@ -51,6 +52,21 @@ plain_nonce octets e = ap (λ b. nonce_in_head (head_by b (has_modes 2 3 (octet 
     by_modes : (b : Bool) → nonce_in_head (head_by false b octets) ≡ None
     by_modes true = refl
     by_modes false = refl
+
+head_from : (ack : Bool) (seq pan to from counter index : ℕ) (body : List ℕ) → from < 2 ^ 16 → IfSome (nonce_in_head (head_in (header_then (heads.Sealed ack seq pan to from counter index) body))) (λ p. p.from ≡ from)
+unfolding head_in
+head_from ack seq pan to from counter index body fits =
+    let octets = header_then (heads.Sealed ack seq pan to from counter index) body in
+    let low = low_control true ack in
+    let high = high_control 2 1 2 in
+    let from_is : little_two 7 octets ≡ from = little_two_behind (low ∷ high ∷ seq ∷ little_bytes 2 pan ++ little_bytes 2 to) from (0x0D ∷ little_bytes 4 counter ++ (index ∷ body)) fits in
+    subst (λ b. IfSome (nonce_in_head (head_by b (has_modes 2 3 (octet 1 octets)) octets)) (λ p. p.from ≡ from))
+    (sym (low_sealed ack (high ∷ seq ∷ little_bytes 2 pan ++ (little_bytes 2 to ++ (little_bytes 2 from ++ (0x0D ∷ little_bytes 4 counter ++ (index ∷ body)))))))
+    from_is
+
+pub sealed_sender_is : (ciphers : Ciphers) (l : Letter) → l.from < 2 ^ 16 → IfSome (nonce_in_head (head_in (spelled ciphers (Sealed l)).octets)) (λ p. p.from ≡ l.from)
+unfolding spelled
+sealed_sender_is ciphers l fits = head_from (not (l.to == to_all)) (l.counter % 256) PAN l.to l.from l.counter l.index (ciphers.seals l.key (head_of l) (spelling l.unit)) fits
 
 pub sealed_counter : (ciphers : Ciphers) (l : Letter) → l.counter < 2 ^ 32 → IfSome (nonce_in_head (head_in (spelled ciphers (Sealed l)).octets)) (λ p. p.counter ≡ l.counter)
 unfolding spelled
@@ -145,9 +161,60 @@ unfolding head_in
 head_nonce ack rest =
     subst (λ b. is_some (nonce_in_head (head_by b (has_modes 2 3 (octet 1 (low_control true ack ∷ rest))) (low_control true ack ∷ rest))) ≡ true) (sym (low_sealed ack rest)) refl
 
--- a frame with a key has a nonce, and one without a key has none
-pub spelled_well : (ciphers : Ciphers) (number : ℕ) (frame : Sent) → IsSpelled (flight_by number (spelled ciphers frame))
+none_key : (k : Key) → None ≡ Some k → ⊥
+none_key k e = cc
+
+some_key : (k : Key) → Some k ≡ None → ⊥
+some_key k e = cc
+
+sealed_key : (ciphers : Ciphers) (l : Letter) → Some l.key ≡ (spelled ciphers (Sealed l)).key
 unfolding spelled
-spelled_well ciphers number (Sealed l) = record { sealed = λ k e. head_nonce (not (l.to == to_all)) _; plain = λ e. absurd (cc) }
-spelled_well ciphers number (Up agent from message) = record { sealed = λ k e. absurd (cc); plain = λ e. plain_nonce _ (low_plain true _) }
-spelled_well ciphers number (Down from message) = record { sealed = λ k e. absurd (cc); plain = λ e. plain_nonce _ (low_plain true _) }
+sealed_key ciphers l = refl
+
+up_key : (ciphers : Ciphers) (agent : ℕ) (from : Eui) (message : JoinMessage) → None ≡ (spelled ciphers (Up agent from message)).key
+unfolding spelled
+up_key ciphers agent from message = refl
+
+up_note : (ciphers : Ciphers) (agent : ℕ) (from : Eui) (message : JoinMessage) → (spelled ciphers (Up agent from message)).note ≡ 0
+unfolding spelled
+up_note ciphers agent from message = refl
+
+down_key : (ciphers : Ciphers) (from : ℕ) (message : JoinMessage) → None ≡ (spelled ciphers (Down from message)).key
+unfolding spelled
+down_key ciphers from message = refl
+
+down_note : (ciphers : Ciphers) (from : ℕ) (message : JoinMessage) → (spelled ciphers (Down from message)).note ≡ 0
+unfolding spelled
+down_note ciphers from message = refl
+
+-- a sealed frame is a head and what its key seals, and its nonce is read back
+sealed_under : (ciphers : Ciphers) (l : Letter) → IsSealedUnder ciphers l.key (spelled ciphers (Sealed l)).octets
+unfolding spelled
+sealed_under ciphers l = record {
+  head = head_of l;
+  payload = spelling l.unit;
+  sealed = tt;
+  spelled = refl;
+  nonce = head_nonce (not (l.to == to_all)) _;
+  opened = λ o. o.opens l.key (head_of l) (spelling l.unit);
+}
+
+up_plain : (ciphers : Ciphers) (agent : ℕ) (from : Eui) (message : JoinMessage) → IsPlainFrame (spelled ciphers (Up agent from message)).octets
+unfolding spelled
+up_plain ciphers agent from message = record { head = heads.Up true 1 0 PAN agent from; message = message; plain = tt; spelled = refl; nonce = plain_nonce _ (low_plain true _) }
+
+down_plain : (ciphers : Ciphers) (from : ℕ) (message : JoinMessage) → IsPlainFrame (spelled ciphers (Down from message)).octets
+unfolding spelled
+down_plain ciphers from message = record { head = heads.Down true 1 0 PAN message.eui from; message = message; plain = tt; spelled = refl; nonce = plain_nonce _ (low_plain true _) }
+
+-- what a node sends flies as what it is
+pub spelled_well : (ciphers : Ciphers) (number : ℕ) (frame : Sent) → IsSpelled ciphers (flight_by number (spelled ciphers frame))
+spelled_well ciphers number (Sealed l) = record { sealed = λ k e. subst (λ k. IsSealedUnder ciphers k (spelled ciphers (Sealed l)).octets) (key_same k e) (sealed_under ciphers l); plain = λ e. absurd (no_key e) }
+  where
+    key_same : (k : Key) → (spelled ciphers (Sealed l)).key ≡ Some k → l.key ≡ k
+    key_same k e = same_Some _ _ (sealed_key ciphers l ∙ e)
+
+    no_key : (spelled ciphers (Sealed l)).key ≡ None → ⊥
+    no_key e = some_key l.key (sealed_key ciphers l ∙ e)
+spelled_well ciphers number (Up agent from message) = record { sealed = λ k e. absurd (none_key k (up_key ciphers agent from message ∙ e)); plain = λ e. (up_plain ciphers agent from message, up_note ciphers agent from message) }
+spelled_well ciphers number (Down from message) = record { sealed = λ k e. absurd (none_key k (down_key ciphers from message ∙ e)); plain = λ e. (down_plain ciphers from message, down_note ciphers from message) }

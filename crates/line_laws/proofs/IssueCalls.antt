@@ -1,6 +1,6 @@
 -- The account of keys of every call of a node.
-use Rattle.std.proofs.Common.{◌≡◌, ℕ, ◌≤◌, ◌<◌, ◌^◌, Bool, true, false, List, [], ◌∷◌, ◌++◌, length, Option, Some, None, Result, Ok, Err, refl, sym, ◌∙◌, subst, arith}
-use Rattle.std.specs.Prelude.{⊤, if◌then◌else◌, IfSome, is_some, nat_le, nat_lt, ◌==◌, ◌&&◌}
+use Rattle.std.proofs.Common.{◌≡◌, ℕ, ◌≤◌, ◌<◌, ◌^◌, Bool, true, false, List, [], ◌∷◌, ◌++◌, length, Option, Some, None, Result, Ok, Err, refl, sym, subst, arith}
+use Rattle.std.specs.Prelude.{if◌then◌else◌, IfSome, nat_le, nat_lt, ◌==◌}
 use Rattle.std.specs.Option.{option_map_or}
 use Rattle.plc_base.specs.declared.address.Eui.{Eui}
 use Rattle.plc_base.specs.declared.key.Key.{Key}
@@ -11,7 +11,6 @@ use Rattle.plc_base.specs.Writes.{puts_of}
 use Rattle.plc_base.specs.SlotTables as slots
 use Rattle.frame_counters.specs.SendCounter as counter
 use Rattle.frame_counters.specs.PeerMarks as marks
-use Rattle.group_keys.specs.declared.key_book.BookEntry.{BookEntry}
 use Rattle.group_keys.specs.KeyRing as ring
 use Rattle.group_keys.specs.KeyBook as book
 use Rattle.joining_messages.specs.declared.message.JoinMessage.{JoinMessage}
@@ -27,29 +26,27 @@ use Rattle.node_rules.specs.declared.refusal.Dropped.{Dropped}
 use Rattle.node_rules.specs.declared.refusal.RandomFault.{RandomFault}
 use Rattle.node_rules.specs.declared.refusal.RandomFault.TheVariants.{RandomsFull}
 use Rattle.node_rules.specs.declared.refusal.CoordinatorRefusal.{CoordinatorRefusal}
-use Rattle.node_rules.specs.declared.refusal.CoordinatorRefusal.TheVariants as refusal
-use Rattle.joining_messages.specs.declared.message.JoinBody.TheVariants as body
-use Rattle.node_rules.specs.Joining.{message, server_for}
 use Rattle.node_rules.specs.Ciphers.{Ciphers}
 use Rattle.node_rules.specs.Frames.{arrived}
 use Rattle.line_rules.specs.Answers.{SentGrant, CompletedJoining}
-use Rattle.node_rules.specs.Memory.{StationMemory, Memory, Coordinator, next_hop}
+use Rattle.node_rules.specs.Memory.{StationMemory, Memory, Coordinator}
 use Rattle.node_rules.specs.Plans.{Plan, resting}
 use Rattle.node_rules.specs.Accepting.{Accepting, accept, marking}
-use Rattle.node_rules.specs.Drafts.{Draft, Ends, alone, empty_draft, choose, checked, sealing, sealed, refused, with_ring, counters_left}
+use Rattle.node_rules.specs.Drafts.{Ends, alone, empty_draft, choose, sealing, refused}
 use Rattle.node_rules.specs.Hearing.{dropped}
-use Rattle.node_rules.specs.MemoryDrafts.{in_memory, with_station, give_random, given_ends, with_memory_by, on_station, is_commanded, oldest}
+use Rattle.node_rules.specs.MemoryDrafts.{in_memory, with_station, give_random, given_ends, with_memory_by}
 use Rattle.node_rules.specs.Calls as calls
 use Rattle.node_rules.specs.Coordinators as coordinators
 use Rattle.node_rules.specs.NodeSteps.{of_station}
 use Rattle.line_laws.specs.Stores.{IsHeld, IsReadable}
-use Rattle.line_laws.specs.Sizes.{IsSized}
+use Rattle.line_laws.specs.Sizes.{IsMemorySized}
 use Rattle.line_laws.specs.Owed.{AreOctets, KeepsRanges}
 use Rattle.line_laws.proofs.Keeping.{Leads, leads_beside}
 use Rattle.line_laws.proofs.Beside.{low_one}
 use Rattle.line_laws.proofs.StoreWords.{limit_kept, number_kept}
 use Rattle.line_laws.proofs.Readings.{join_ranges}
 use Rattle.line_laws.proofs.StoreRanks.{EntryFits}
+use Rattle.node_rules.specs.Laws.{IsLoad}
 use Rattle.line_laws.proofs.StoreFold.{WordFits, ring_fits, ended_kept}
 use Rattle.line_laws.proofs.StoreBook.{Rest, rest_lasts}
 use Rattle.line_laws.proofs.StoreMarks.{Accepts, Turned, Plain, Marked, accept_is, marks_lead}
@@ -62,22 +59,23 @@ use Rattle.line_laws.proofs.Nodes.{waits_little}
 use Rattle.line_laws.proofs.NodeCalls.{RoutesFit, heard_given, call_given, near_given, heard_offers, call_offers, near_offers, granted_keys, few_of, handed_kept, of_station_planned}
 use Rattle.line_laws.proofs.CoordinatorCalls.{admitted_fits}
 use Rattle.line_laws.proofs.AddressPuts.{Away, RingWrites, writes_append, counter_away, made_rung}
-use Rattle.line_laws.proofs.AddressBook.{Grows, Grown, station_grown, plan_grown}
-use Rattle.line_laws.proofs.IssueWords.{Each, made_tags, commanded_leaves}
+use Rattle.line_laws.proofs.AddressBook.{Grows, Grown, station_grown, plan_grown, grows_entry}
+use Rattle.line_laws.proofs.IssueWords.{Each, made_tags}
 use Rattle.line_laws.proofs.IssueMeters.{Held, same_here, From, PeerIs, MeterPlan}
 use Rattle.line_laws.proofs.IssueCoordinator.{CoordinatorTag, CoordinatorTags, plan_rung, keyed_in, done_in, coordinator_hears, says_tags}
 use Rattle.line_laws.proofs.IssueNodes.{Nought, CoordinatorPlan}
+use Rattle.line_laws.proofs.Untagged.{allow_untagged, depot_untagged, rekey_untagged, activate_self_untagged, challenge_untagged, activate_untagged, kick_untagged}
 
 -- a body is sent out, and the ring stays
 abbrev NoWord : RingWord → Type 0
-NoWord (Carry to note load) = Unit {0}
+NoWord (Carry to note load) = IsLoad load
 NoWord Drop = ⊥
 NoWord (Install granted) = ⊥
 NoWord (Draw index key) = ⊥
 NoWord (Activate index) = ⊥
 
 no_words : (w : RingWord) → NoWord w → WordFits w
-no_words (Carry to note load) w = tt
+no_words (Carry to note load) w = w
 no_words Drop w = absurd w
 no_words (Install granted) w = absurd w
 no_words (Draw index key) w = absurd w
@@ -96,7 +94,7 @@ NoEui eui = ⊥
 
 -- What such a plan does, at any node.
 pub record Quietly (m : Memory) {A : Type 0} (p : Plan Memory A) : Type 1 where
-  pub leads : (b : book.Book) → Leads (Grown b) m p.puts p.memory
+  pub leads : (b : book.Book) → Leads (Grown (Grows b)) m p.puts p.memory
   pub ring : (S : ring.Ring → Type 0) → S None → S m.station.ring → IfSome m.station.ring IsReadable → RingWrites S p.puts
   pub session : p.memory.session ≡ m.session
   pub made : p.made ≡ []
@@ -121,7 +119,7 @@ no_changes S none r y (Installs granted w) h k = absurd w
 no_changes S none r y (Draws index key w) h k = absurd w
 no_changes S none r y (Activates index w held) h k = absurd w
 
-module _ (g : Given) (m : Memory) (h : IsSized m)
+module _ (g : Given) (m : Memory) (h : IsMemorySized m)
     (offers : (address : Option ℕ) (by origin : ℕ) (rank : Rank) → Offered g address by origin rank → EntryFits (routing.offered_entry origin rank by g.now)) where
   station_puts : {H F : Type 0} {ends : Ends F} (p : Plan StationMemory (Result H F)) → Planned alone ends m.station Nothing (λ d (a : H). Made NoWord g (empty_draft m.station) d × Few m.station d) p
       → (S : ring.Ring → Type 0) → S None → S m.station.ring → IfSome m.station.ring IsReadable → RingWrites S (of_station m p).puts
@@ -140,7 +138,7 @@ module _ (g : Given) (m : Memory) (h : IsSized m)
 
   pub station_quietly : {H F : Type 0} (ends : Ends F) (p : Plan StationMemory (Result H F)) → Planned alone ends m.station Nothing (λ d (a : H). Made NoWord g (empty_draft m.station) d × Few m.station d) p → Quietly m (of_station m p)
   station_quietly ends p s = record {
-    leads = λ b. plan_grown b NoWord NoGrant NoPair NoEui g m no_words offers (λ eui k. absurd k) (λ eui psk k. absurd k) (λ r k granted none. absurd none) ends Nothing (λ n answer k. absurd k) (of_station m p)
+    leads = λ b. plan_grown (Grows b) NoWord NoGrant NoPair NoEui g m no_words offers (λ eui k. absurd k) (λ eui psk k. absurd k) (λ x e c q. grows_entry b x e q) (λ r k granted none. absurd none) ends Nothing (λ n answer k. absurd k) (of_station m p)
         (of_station_planned Coordinator NoWord no_words g m offers p s) (waits_little m h);
     ring = station_puts p s;
     session = (station_rest p s).0;
@@ -155,9 +153,9 @@ given_rest m value = by_room (nat_lt 7 (length m.randoms))
     by_room true = (refl, refl)
     by_room false = (refl, refl)
 
-module _ (m : Memory) (h : IsSized m) where
+module _ (m : Memory) (h : IsMemorySized m) where
   pub send_quietly : (to : ℕ) (datagram : List ℕ) (note now : ℕ) → Quietly m (of_station m (calls.send m.station to datagram note now))
-  send_quietly to datagram note now = station_quietly (call_given 0 note now) m h (call_offers 0 note now) calls.sending_ends _ (send_is NoWord (call_given 0 note now) m.station to datagram (λ some short. tt))
+  send_quietly to datagram note now = station_quietly (call_given 0 note now) m h (call_offers 0 note now) calls.sending_ends _ (send_is NoWord (call_given 0 note now) m.station to datagram (λ some short. (some, short, h.station.tag)))
 
   pub near_quietly : (to cost now : ℕ) → to < 0xFFFE → cost < 2 ^ 16 → Quietly m (of_station m (calls.preset_near m.station to cost now))
   near_quietly to cost now short low = station_quietly (near_given to cost now) m h (near_offers to cost now short low) calls.presetting_ends _ (near_is NoWord (near_given to cost now) m.station to refl)
@@ -165,7 +163,7 @@ module _ (m : Memory) (h : IsSized m) where
   pub counter_quietly : (value : ℕ) → value < 2 ^ 32 → Quietly m (of_station m (calls.preset_counter m.station value))
   unfolding resting
   counter_quietly value fits = record {
-    leads = λ b. station_grown b m m.station (record m.station { counter = counter.counting_at value }) _
+    leads = λ b. station_grown (Grows b) m m.station (record m.station { counter = counter.counting_at value }) _
         (low_one (Rest Coordinator m) (rest_lasts Coordinator m) m.station _ _ (omega arith) (λ r k. limit_kept m.station r (counter.counting_at value) k fits (omega arith)));
     ring = λ S none here reads. (Away _ (omega arith), tt);
     session = refl;
@@ -175,7 +173,7 @@ module _ (m : Memory) (h : IsSized m) where
   pub number_quietly : (value : ℕ) → 1 ≤ value → value < 2 ^ 16 → Quietly m (of_station m (calls.preset_number m.station value))
   unfolding resting
   number_quietly value low fits = record {
-    leads = λ b. station_grown b m m.station (record m.station { own_number = own_number.numbering_at value }) _
+    leads = λ b. station_grown (Grows b) m m.station (record m.station { own_number = own_number.numbering_at value }) _
         (low_one (Rest Coordinator m) (rest_lasts Coordinator m) m.station _ _ (omega arith) (λ r k. number_kept m.station r (own_number.numbering_at value) k low fits (omega arith)));
     ring = λ S none here reads. (Away _ (omega arith), tt);
     session = refl;
@@ -185,7 +183,7 @@ module _ (m : Memory) (h : IsSized m) where
   pub broke_quietly : {A : Type 0} (next : ℕ) (answer : A) → Quietly m (resting (with_station (calls.broke next m.station) m) answer answer)
   unfolding resting
   broke_quietly next answer = record {
-    leads = λ b. leads_beside (Grown b) m _ (λ r k. record { kept = record { station = ended_kept m.station r (routing.goes_by next) k.kept.station; book = k.kept.book; sessions = k.kept.sessions }; grows = k.grows });
+    leads = λ b. leads_beside (Grown (Grows b)) m _ (λ r k. record { kept = record { station = ended_kept m.station r (routing.goes_by next) k.kept.station; book = k.kept.book; sessions = k.kept.sessions }; grows = k.grows });
     ring = λ S none here reads. tt;
     session = refl;
     made = refl;
@@ -193,7 +191,7 @@ module _ (m : Memory) (h : IsSized m) where
 
   pub random_quietly : (value : Rand) → Quietly m (give_random m value)
   random_quietly value = record {
-    leads = λ b. plan_grown b NoWord NoGrant NoPair NoEui (call_given 0 0 0) m no_words (call_offers 0 0 0) (λ eui k. absurd k) (λ eui psk k. absurd k) (λ r k granted none. absurd none) given_ends Nothing (λ n answer k. absurd k) _
+    leads = λ b. plan_grown (Grows b) NoWord NoGrant NoPair NoEui (call_given 0 0 0) m no_words (call_offers 0 0 0) (λ eui k. absurd k) (λ eui psk k. absurd k) (λ x e c q. grows_entry b x e q) (λ r k granted none. absurd none) given_ends Nothing (λ n answer k. absurd k) _
         (planned_weaker _ (λ n answer k. k) (few_of AnyAnswer m NoWord NoGrant NoPair NoEui (call_given 0 0 0)) (random_is NoWord NoGrant NoPair NoEui (call_given 0 0 0) m value)) (waits_little m h);
     ring = λ S none here reads. plan_rung S NoWord NoGrant NoPair NoEui (call_given 0 0 0) m (no_changes S none) here reads given_ends Nothing _ (λ d a x. x.0) _ (random_is NoWord NoGrant NoPair NoEui (call_given 0 0 0) m value);
     session = (given_rest m value).0;
@@ -217,12 +215,12 @@ mark_away S table from counter = by_place (marks.place_of table from)
 module _ (ciphers : Ciphers) (fits : KeepsRanges ciphers) (octets : List ℕ) (are : AreOctets octets) where
   accepting_quietly : (m : Memory) (p : Accepting) → Accepts m.station (arrived ciphers octets) p → Quietly m (of_station m p)
   unfolding resting marking
-  accepting_quietly m p (Turned reason) = record { leads = λ b. leads_beside (Grown b) m m (λ r k. k); ring = λ S none here reads. tt; session = refl; made = refl }
-  accepting_quietly m p (Plain got plain) = record { leads = λ b. leads_beside (Grown b) m m (λ r k. k); ring = λ S none here reads. tt; session = refl; made = refl }
+  accepting_quietly m p (Turned reason) = record { leads = λ b. leads_beside (Grown (Grows b)) m m (λ r k. k); ring = λ S none here reads. tt; session = refl; made = refl }
+  accepting_quietly m p (Plain got plain) = record { leads = λ b. leads_beside (Grown (Grows b)) m m (λ r k. k); ring = λ S none here reads. tt; session = refl; made = refl }
   accepting_quietly m p (Marked from counter got a) =
       let in_range = admitted_fits ciphers fits octets are m.station from counter got a in
       record {
-        leads = λ b. station_grown b m m.station (record m.station { marks = marks.kept_after m.station.marks from counter }) _
+        leads = λ b. station_grown (Grows b) m m.station (record m.station { marks = marks.kept_after m.station.marks from counter }) _
             (marks_lead (Rest Coordinator m) (rest_lasts Coordinator m) m.station from counter in_range.0 in_range.1 a.room);
         ring = λ S none here reads. mark_away S m.station.marks from counter;
         session = refl;
@@ -236,14 +234,14 @@ module _ (ciphers : Ciphers) (fits : KeepsRanges ciphers) (octets : List ℕ) (a
 
 -- what the coordinator does to its ring
 abbrev pub CoordinatorWord : RingWord → Type 0
-CoordinatorWord (Carry to note load) = Unit {0}
+CoordinatorWord (Carry to note load) = IsLoad load
 CoordinatorWord Drop = ⊥
 CoordinatorWord (Install granted) = ⊥
 CoordinatorWord (Draw index key) = IsHeld (Some key)
 CoordinatorWord (Activate index) = index ≤ 1
 
 coordinator_words : (w : RingWord) → CoordinatorWord w → WordFits w
-coordinator_words (Carry to note load) w = tt
+coordinator_words (Carry to note load) w = w
 coordinator_words Drop w = absurd w
 coordinator_words (Install granted) w = absurd w
 coordinator_words (Draw index key) w = w
@@ -273,21 +271,21 @@ HasEui eui = length eui.0 ≡ 8
 abbrev HasPair : Eui → Key → Type 0
 HasPair eui psk = length psk.0 ≡ 16
 
-handed_grown : (b : book.Book) (m : Memory) (h : IsSized m) (g : Given) (n : Memory) (a : CoordinatorHeard) → HandedIn coordinator_heard.Station g m n a → (r : Records) → Grown b m r → Grown b n r
+handed_grown : (b : book.Book) (m : Memory) (h : IsMemorySized m) (g : Given) (n : Memory) (a : CoordinatorHeard) → HandedIn coordinator_heard.Station g m n a → (r : Records) → Grown (Grows b) m r → Grown (Grows b) n r
 handed_grown b m h g n a k r q = record { kept = handed_kept Coordinator m h coordinator_heard.Station g n a k r q.kept; grows = subst (Grows b) (sym (same_book k)) q.grows }
   where
     same_book : {H : Type 0} {n : Memory} {a : H} {word : _ → H} → HandedIn word g m n a → n.book ≡ m.book
     same_book (ByStation l x y) = refl
 
-module _ (ciphers : Ciphers) (fits : KeepsRanges ciphers) (own : coordinators.CoordinatorIdentity) (m : Memory) (h : IsSized m) (b : book.Book) (nought : Nought m.station.ring) (reads : IfSome m.station.ring IsReadable) where
+module _ (ciphers : Ciphers) (fits : KeepsRanges ciphers) (own : coordinators.CoordinatorIdentity) (m : Memory) (h : IsMemorySized m) (b : book.Book) (nought : Nought m.station.ring) (reads : IfSome m.station.ring IsReadable) where
   heard_eui : (octets : List ℕ) (join : JoinMessage) → join_in octets ≡ Some join → HasEui join.eui
   heard_eui octets join e = (join_ranges octets join e).0
 
   coordinator_leads : {H F : Type 0} (g : Given) → ((address : Option ℕ) (by origin : ℕ) (rank : Rank) → Offered g address by origin rank → EntryFits (routing.offered_entry origin rank by g.now))
-      → (ends : Ends F) (K : Memory → H → Type 0) (N : H → Type 0) → ((n : Memory) (answer : H) → K n answer → (r : Records) → Grown b m r → Grown b n r)
-      → (p : Plan Memory (Result H F)) → Planned in_memory ends m K (MadeBy CoordinatorWord (IsGranted m) HasPair HasEui g m N) p → Leads (Grown b) m p.puts p.memory × RingWrites Nought p.puts
+      → (ends : Ends F) (K : Memory → H → Type 0) (N : H → Type 0) → ((n : Memory) (answer : H) → K n answer → (r : Records) → Grown (Grows b) m r → Grown (Grows b) n r)
+      → (p : Plan Memory (Result H F)) → Planned in_memory ends m K (MadeBy CoordinatorWord (IsGranted m) HasPair HasEui g m N) p → Leads (Grown (Grows b)) m p.puts p.memory × RingWrites Nought p.puts
   coordinator_leads g offers ends K N beside p s = (
-    plan_grown b CoordinatorWord (IsGranted m) HasPair HasEui g m coordinator_words offers (λ eui k. k) (λ eui psk k. k) (granted_keys Coordinator m) ends K beside p
+    plan_grown (Grows b) CoordinatorWord (IsGranted m) HasPair HasEui g m coordinator_words offers (λ eui k. k) (λ eui psk k. k) (λ x e c q. grows_entry b x e q) (granted_keys Coordinator m) ends K beside p
         (planned_weaker p (λ n answer k. k) (few_of N m CoordinatorWord (IsGranted m) HasPair HasEui g) s) (waits_little m h),
     plan_rung Nought CoordinatorWord (IsGranted m) HasPair HasEui g m coordinator_changes nought reads ends K _ (λ d a x. x.0) p s,
   )
@@ -298,7 +296,7 @@ module _ (ciphers : Ciphers) (fits : KeepsRanges ciphers) (own : coordinators.Co
   hears_coordinator got cost note now routes keyed done same finished failed =
       let g = heard_given got cost note now in
       let p = coordinators.hear_coordinator own m got cost note now in
-      let l = coordinator_leads g (heard_offers got cost note now routes) dropped (HandedIn coordinator_heard.Station g m) HandsNothingUp (handed_grown b m h g) p (coordinator_is CoordinatorWord HasPair HasEui heard_eui g own m (λ to there join said. tt) got refl) in
+      let l = coordinator_leads g (heard_offers got cost note now routes) dropped (HandedIn coordinator_heard.Station g m) HandsNothingUp (handed_grown b m h g) p (coordinator_is CoordinatorWord HasPair HasEui heard_eui g own m (λ to there join said. omega arith) got refl) in
       let t = says_tags m dropped (λ n a. done_in a ≡ None) keyed done same finished failed (λ a n k. k) p (coordinator_hears own m g got refl) in
       (record { leads = l.0; ring = l.1; made = t.made }, t)
 
@@ -307,123 +305,7 @@ module _ (ciphers : Ciphers) (fits : KeepsRanges ciphers) (own : coordinators.Co
       let l = coordinator_leads (call_given 0 0 now) (call_offers 0 0 now) coordinators.orders Nothing AnyAnswer (λ n answer k. absurd k) p s in
       record { leads = l.0; ring = l.1; made = subst (Each (CoordinatorTag m None)) (sym none) tt }
 
--- # Orders make no tag
-
-abbrev Unmade : {H : Type 0} → Draft Memory → H → Type 0
-Unmade d a = d.made ≡ []
-
-unmade_plan : {H F : Type 0} {ends : Ends F} {m : Memory} (p : Plan Memory (Result H F)) → Planned in_memory ends m Nothing Unmade p → p.made ≡ []
-unfolding resting
-unmade_plan p (Refuses reason) = refl
-unmade_plan p (Keeps n answer k) = absurd k
-unmade_plan p (Ended d answer done left) = done
-
-commanded_unmade : (to : ℕ) (join : JoinMessage) (now : ℕ) (d : Draft Memory) → d.made ≡ [] → (is_commanded to join now d).made ≡ []
-commanded_unmade to join now d e = (commanded_leaves (λ r. ⊤) to join now d).made ∙ e
-
--- whether something is left or not does not matter to what is made
-sealing_made : {H F : Type 0} (ends : Ends F) (d : Draft Memory) (answer : H) → d.made ≡ [] → (sealing in_memory ends d answer).made ≡ []
-sealing_made ends d answer e = e
-
-sealed_made : {H F : Type 0} (ends : Ends F) (m : Memory) (d : Draft Memory) (answer : H) → d.made ≡ [] → (sealed in_memory ends m d answer).made ≡ []
-unfolding sealed resting
-sealed_made ends m d answer e = by_test (nat_lt (counters_left m.station) (length d.units))
-  where
-    by_test : (b : Bool) → (if b then refused ends m ends.spent else sealing in_memory ends d answer).made ≡ []
-    by_test true = refl
-    by_test false = e
-
-refused_made : {F : Type 0} (H : Type 0) (ends : Ends F) (m : Memory) (reason : F) → (refused {H = H} ends m reason).made ≡ []
-unfolding resting
-refused_made H ends m reason = refl
-
-choose_made : {A : Type 0} (b : Bool) (p q : Plan Memory A) → p.made ≡ [] → q.made ≡ [] → (choose b p q).made ≡ []
-unfolding choose
-choose_made true p q e f = e
-choose_made false p q e f = f
-
-checked_made : {H F : Type 0} (ends : Ends F) (m : Memory) (fault : Option F) (p : Plan Memory (Result H F)) → p.made ≡ [] → (checked ends m fault p).made ≡ []
-unfolding checked resting
-checked_made ends m None p e = e
-checked_made ends m (Some reason) p e = refl
-
-option_made : {A X : Type 0} (f : X → Plan Memory A) (o : Option X) (q : Plan Memory A) → ((x : X) → (f x).made ≡ []) → q.made ≡ [] → (option_map_or f o q).made ≡ []
-option_made f None q e g = g
-option_made f (Some x) q e g = e x
-
-begun_made : (m : Memory) → (empty_draft m).made ≡ []
-unfolding empty_draft
-begun_made m = refl
-
-changed_made : (m : Memory) (e : BookEntry) → (coordinators.changed m e).made ≡ []
-unfolding empty_draft coordinators.with_book_entry with_memory_by
-changed_made m e = by_change (coordinators.changes m e)
-  where
-    by_change : (b : Bool) → (if b then with_memory_by (coordinators.without_session e.eui) (coordinators.with_book_entry e (empty_draft m)) else empty_draft m).made ≡ []
-    by_change true = refl
-    by_change false = refl
-
-entered_made : (e : BookEntry) (d : Draft Memory) → d.made ≡ [] → (coordinators.with_book_entry e d).made ≡ []
-unfolding coordinators.with_book_entry
-entered_made e d h = h
-
-remembered_made : (change : Memory → Memory) (d : Draft Memory) → d.made ≡ [] → (with_memory_by change d).made ≡ []
-unfolding with_memory_by
-remembered_made change d h = h
-
-rung_made : (m : Memory) (r : ring.Ring) → (on_station (with_ring r) (empty_draft m)).made ≡ []
-unfolding empty_draft on_station with_ring
-rung_made m r = refl
-
-module _ (m : Memory) where
-  refused_order : (H : Type 0) (reason : CoordinatorRefusal) → (refused {H = H} coordinators.orders m reason).made ≡ []
-  refused_order H reason = refused_made H coordinators.orders m reason
-
-  pub allow_made : (eui : Eui) (psk : Key) → (coordinators.allow m eui psk).made ≡ []
-  allow_made eui psk = choose_made (book.has_room m.book eui) _ _ (changed_made m (book.allowed_entry eui psk (book.entry_for m.book eui))) (refused_order _ refusal.MetersFull)
-
-  pub depot_made : (eui : Eui) (psk : Key) → (coordinators.depot m eui psk).made ≡ []
-  depot_made eui psk =
-      let d = coordinators.changed m (book.allowed_entry eui psk (book.entry_for m.book eui)) in
-      choose_made (book.has_room m.book eui) _ _
-      (option_made (λ granted. option_map_or (λ e. sealing in_memory coordinators.orders (coordinators.with_book_entry (book.issued_entry eui granted e) d) granted) (book.allowed_one d.memory.book eui) (refused coordinators.orders m refusal.MetersFull))
-      (coordinators.grant_for d.memory eui) (refused coordinators.orders m refusal.MetersFull)
-      (λ granted. option_made (λ e. sealing in_memory coordinators.orders (coordinators.with_book_entry (book.issued_entry eui granted e) d) granted) (book.allowed_one d.memory.book eui) (refused coordinators.orders m refusal.MetersFull)
-      (λ e. entered_made (book.issued_entry eui granted e) d (changed_made m (book.allowed_entry eui psk (book.entry_for m.book eui)))) (refused_order _ refusal.MetersFull))
-      (refused_order _ refusal.MetersFull)) (refused_order _ refusal.MetersFull)
-
-  pub rekey_made : (index : ℕ) (key : Key) → (coordinators.rekey m index key).made ≡ []
-  rekey_made index key = choose_made (option_map_or (λ (g : Granted). g.active == index) m.station.ring false) _ _ (refused_order _ refusal.IndexActive) (rung_made m (ring.with_key m.station.ring index key))
-
-  pub activate_self_made : (index : ℕ) → (coordinators.activate_self m index).made ≡ []
-  activate_self_made index = choose_made (is_some (ring.key_in_ring m.station.ring index)) _ _ (rung_made m (ring.with_active m.station.ring index)) (refused_order _ refusal.NotHeld)
-
-  pub challenge_made : (own eui : Eui) (now : ℕ) → (coordinators.challenge own m eui now).made ≡ []
-  challenge_made own eui now = option_made (coordinators.challenge_at own m eui now) (coordinators.allowed_address m eui) _
-      (λ to. checked_made coordinators.orders m _ _
-      (option_made (λ value. coordinators.challenge_by own m to now (server_for eui own value)) (oldest m) _
-      (λ value. checked_made coordinators.orders m _ _ (sealed_made coordinators.orders m _ _ (commanded_unmade to _ now _ (remembered_made _ (empty_draft m) (begun_made m))))) (refused_order _ refusal.NoRandom))) (refused_order _ refusal.NotAllowed)
-
-  pub activate_made : (eui : Eui) (index now : ℕ) → (coordinators.activate m eui index now).made ≡ []
-  activate_made eui index now = option_made (λ e. option_map_or (coordinators.activate_by m e index now) (book.address_of m.book eui) (refused coordinators.orders m refusal.NotAllowed)) (coordinators.allowed_entry m eui) _
-      (λ e. option_made (coordinators.activate_by m e index now) (book.address_of m.book eui) _
-      (λ to. choose_made (coordinators.was_issued m e index) _ _ (checked_made coordinators.orders m _ _ (sealed_made coordinators.orders m _ _ (commanded_unmade to _ now _ (begun_made m)))) (refused_order _ refusal.NotIssued)) (refused_order _ refusal.NotAllowed)) (refused_order _ refusal.NotAllowed)
-
-  pub kick_made : (eui : Eui) → (coordinators.kick m eui).made ≡ []
-  kick_made eui = option_made (λ e. option_map_or (coordinators.kick_by m e) (book.address_of m.book eui) (refused coordinators.orders m refusal.NotAllowed)) (coordinators.allowed_entry m eui) _
-      (λ e. option_made (coordinators.kick_by m e) (book.address_of m.book eui) _ (λ to. by_route e to (is_some (next_hop m.station to) && nat_lt 0 (counters_left m.station))) (refused_order _ refusal.NotAllowed)) (refused_order _ refusal.NotAllowed)
-    where
-      kicked : BookEntry → Draft Memory
-      kicked e = with_memory_by (coordinators.without_session e.eui) (coordinators.with_book_entry (book.kicked_entry e.eui e) (empty_draft m))
-
-      kicked_unmade : (e : BookEntry) → (kicked e).made ≡ []
-      kicked_unmade e = remembered_made (coordinators.without_session e.eui) _ (entered_made (book.kicked_entry e.eui e) (empty_draft m) (begun_made m))
-
-      by_route : (e : BookEntry) (to : ℕ) (b : Bool) → (if b then is_commanded to (message e.eui body.Kick) 0 (kicked e) else kicked e).made ≡ []
-      by_route e to true = commanded_unmade to (message e.eui body.Kick) 0 (kicked e) (kicked_unmade e)
-      by_route e to false = kicked_unmade e
-
-module _ (ciphers : Ciphers) (fits : KeepsRanges ciphers) (own : coordinators.CoordinatorIdentity) (m : Memory) (h : IsSized m) (b : book.Book) (nought : Nought m.station.ring) (reads : IfSome m.station.ring IsReadable) where
+module _ (ciphers : Ciphers) (fits : KeepsRanges ciphers) (own : coordinators.CoordinatorIdentity) (m : Memory) (h : IsMemorySized m) (b : book.Book) (nought : Nought m.station.ring) (reads : IfSome m.station.ring IsReadable) where
   abbrev Order : {H : Type 0} → Plan Memory (Result H CoordinatorRefusal) → Type 0
   Order p = CoordinatorPlan b m None p
 
@@ -431,22 +313,22 @@ module _ (ciphers : Ciphers) (fits : KeepsRanges ciphers) (own : coordinators.Co
   known_eui octets join e = (join_ranges octets join e).0
 
   pub allow_coordinator : (eui : Eui) (psk : Key) → HasEui eui → HasPair eui psk → Order (coordinators.allow m eui psk)
-  allow_coordinator eui psk known pair = order_plan ciphers fits own m h b nought reads 0 _ (allow_is CoordinatorWord HasPair HasEui known_eui (call_given 0 0 0) own m (λ to there join said. tt) eui psk known pair) (allow_made m eui psk)
+  allow_coordinator eui psk known pair = order_plan ciphers fits own m h b nought reads 0 _ (allow_is CoordinatorWord HasPair HasEui known_eui (call_given 0 0 0) own m (λ to there join said. omega arith) eui psk known pair) (allow_untagged m eui psk).0
 
   pub depot_coordinator : (eui : Eui) (psk : Key) → HasEui eui → HasPair eui psk → Order (coordinators.depot m eui psk)
-  depot_coordinator eui psk known pair = order_plan ciphers fits own m h b nought reads 0 _ (depot_is CoordinatorWord HasPair HasEui known_eui (call_given 0 0 0) own m (λ to there join said. tt) eui psk known pair) (depot_made m eui psk)
+  depot_coordinator eui psk known pair = order_plan ciphers fits own m h b nought reads 0 _ (depot_is CoordinatorWord HasPair HasEui known_eui (call_given 0 0 0) own m (λ to there join said. omega arith) eui psk known pair) (depot_untagged m eui psk).0
 
   pub rekey_coordinator : (index : ℕ) (key : Key) → IsHeld (Some key) → Order (coordinators.rekey m index key)
-  rekey_coordinator index key held = order_plan ciphers fits own m h b nought reads 0 _ (rekey_is CoordinatorWord HasPair HasEui known_eui (call_given 0 0 0) own m (λ to there join said. tt) index key held) (rekey_made m index key)
+  rekey_coordinator index key held = order_plan ciphers fits own m h b nought reads 0 _ (rekey_is CoordinatorWord HasPair HasEui known_eui (call_given 0 0 0) own m (λ to there join said. omega arith) index key held) (rekey_untagged m index key).0
 
   pub activate_self_coordinator : (index : ℕ) → index ≤ 1 → Order (coordinators.activate_self m index)
-  activate_self_coordinator index low = order_plan ciphers fits own m h b nought reads 0 _ (activate_self_is CoordinatorWord HasPair HasEui known_eui (call_given 0 0 0) own m (λ to there join said. tt) index low) (activate_self_made m index)
+  activate_self_coordinator index low = order_plan ciphers fits own m h b nought reads 0 _ (activate_self_is CoordinatorWord HasPair HasEui known_eui (call_given 0 0 0) own m (λ to there join said. omega arith) index low) (activate_self_untagged m index).0
 
   pub challenge_coordinator : (eui : Eui) (now : ℕ) → HasEui eui → Order (coordinators.challenge own.eui m eui now)
-  challenge_coordinator eui now known = order_plan ciphers fits own m h b nought reads now _ (challenge_is CoordinatorWord HasPair HasEui known_eui (call_given 0 0 now) own m (λ to there join said. tt) eui known) (challenge_made m own.eui eui now)
+  challenge_coordinator eui now known = order_plan ciphers fits own m h b nought reads now _ (challenge_is CoordinatorWord HasPair HasEui known_eui (call_given 0 0 now) own m (λ to there join said. omega arith) eui known) (challenge_untagged m own.eui eui now).0
 
   pub activate_coordinator : (eui : Eui) (index now : ℕ) → Order (coordinators.activate m eui index now)
-  activate_coordinator eui index now = order_plan ciphers fits own m h b nought reads now _ (activate_is CoordinatorWord HasPair HasEui known_eui (call_given 0 0 now) own m (λ to there join said. tt) eui index) (activate_made m eui index now)
+  activate_coordinator eui index now = order_plan ciphers fits own m h b nought reads now _ (activate_is CoordinatorWord HasPair HasEui known_eui (call_given 0 0 now) own m (λ to there join said. omega arith) eui index) (activate_untagged m eui index now).0
 
   pub kick_coordinator : (eui : Eui) → HasEui eui → Order (coordinators.kick m eui)
-  kick_coordinator eui known = order_plan ciphers fits own m h b nought reads 0 _ (kick_is CoordinatorWord HasPair HasEui known_eui (call_given 0 0 0) own m (λ to there join said. tt) eui known) (kick_made m eui)
+  kick_coordinator eui known = order_plan ciphers fits own m h b nought reads 0 _ (kick_is CoordinatorWord HasPair HasEui known_eui (call_given 0 0 0) own m (λ to there join said. omega arith) eui known) (kick_untagged m eui).0

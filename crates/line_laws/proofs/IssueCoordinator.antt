@@ -32,7 +32,8 @@ use Rattle.node_rules.specs.Plans.{Plan, resting}
 use Rattle.node_rules.specs.Drafts.{Draft, Ends, alone, empty_draft}
 use Rattle.node_rules.specs.Hearing as station_rules
 use Rattle.node_rules.specs.Hearing.{dropped}
-use Rattle.node_rules.specs.Joining.{message, server_for, server_agrees, rand_p_in}
+use Rattle.node_rules.specs.Joining.{message, server_for, server_agrees}
+use Rattle.eap_psk.specs.Sessions.{rand_p_in}
 use Rattle.node_rules.specs.MemoryDrafts.{in_memory, with_station, goes_up, goes_down, oldest, without_oldest, Unread, unread, with_memory_by, with_pair_tags, on_station, station_part}
 use Rattle.node_rules.specs.Coordinators.{Hearing, CoordinatorIdentity, drop_it, ends, session_of, with_session, without_session, grant_for, says, with_book_entry, declines, challenges, open_session, asked, keys_for, take_second, accepts, take_fourth, take_packet, answered, hear_join, hear_join_in, heard_by, hear_coordinator, allowed_entry}
 use Rattle.node_rules.proofs.MemoryDraftShapes.{whole}

@@ -34,7 +34,8 @@ use Rattle.node_rules.specs.Plans.{Plan, resting}
 use Rattle.node_rules.specs.Drafts.{Draft, Ends, alone, empty_draft, checked, choose, with_ring, sealing, refused}
 use Rattle.node_rules.specs.Hearing as station_rules
 use Rattle.node_rules.specs.Hearing.{dropped}
-use Rattle.node_rules.specs.Joining.{peer_for, peer_agrees, identifier_of, message}
+use Rattle.node_rules.specs.Joining.{message}
+use Rattle.eap_psk.specs.Sessions.{peer_for, agreed_by, identifier_of}
 use Rattle.node_rules.specs.MemoryDrafts.{in_memory, with_station, goes_up, goes_down, is_commanded, oldest, without_oldest, Unread, unread, packet_fault, with_memory_by, with_pair_tags, on_station}
 use Rattle.node_rules.specs.Meters.{Hearing, Identity, with_session, drop_it, ends, says, leaves, carry_up, carries_down, carry_down, reply_with, reply, take_with, take_by, take, takes, replies, challenged, declined, kicked, activated, hear_near, hear_order, hear_join, hear_join_in, heard_by, hear_meter, joining_ends, join, leaving_ends, leave}
 use Rattle.node_rules.proofs.MemoryDraftShapes.{whole}
@@ -162,7 +163,7 @@ replied_done x took m course peer now own reads = record {
 
 -- the fourth packet, and the ring of the third
 took_done : (eui : Eui) (m : Memory) (peer : Peer) (identifier : ℕ) (granted : Granted) → peer.eui ≡ eui → IsReadable granted
-    → MeterDone eui m.station.ring (Some (peer_agrees peer)) (with_pair_tags (success_tag peer.eui identifier peer.rand_s peer.rand_p ∷ [])
+    → MeterDone eui m.station.ring (Some (agreed_by peer)) (with_pair_tags (success_tag peer.eui identifier peer.rand_s peer.rand_p ∷ [])
     (mac_s_tag peer.eui peer.id_s peer.rand_p ∷ granting_tag peer.eui identifier peer.rand_s peer.rand_p (granting_text granted) ∷ [])
     (on_station (with_ring (Some granted)) (with_memory_by (with_session None) (empty_draft m))))
 unfolding empty_draft with_memory_by with_pair_tags on_station with_ring
@@ -171,7 +172,7 @@ took_done eui m peer identifier granted own readable = record {
   ring = came;
   reads = readable;
   session = tt;
-  made = (subst (λ e. MeterTag eui (Some (peer_agrees peer)) (success_tag e identifier peer.rand_s peer.rand_p)) (sym own) (Fourth identifier peer.rand_s peer.rand_p refl), tt);
+  made = (subst (λ e. MeterTag eui (Some (agreed_by peer)) (success_tag e identifier peer.rand_s peer.rand_p)) (sym own) (Fourth identifier peer.rand_s peer.rand_p refl), tt);
 }
   where
     came : CameBy eui m.station.ring (mac_s_tag peer.eui peer.id_s peer.rand_p ∷ granting_tag peer.eui identifier peer.rand_s peer.rand_p (granting_text granted) ∷ []) granted
@@ -227,7 +228,7 @@ module _ (x : Identity) (m : Memory) (now : ℕ) (reads : IfSome m.station.ring 
 
   takes_is : (course : Course) (peer : Peer) (identifier : ℕ) (granted : Granted) (join : JoinMessage) → peer.eui ≡ x.eui → IsReadable granted → Is (takes m course peer identifier granted join now)
   takes_is course peer identifier granted join own readable = checked_planned (λ e.
-      sealed_planned _ _ (said x.eui m.station.ring (Some (peer_agrees peer)) course peer.eui join now _ (took_done x.eui m peer identifier granted own readable)))
+      sealed_planned _ _ (said x.eui m.station.ring (Some (agreed_by peer)) course peer.eui join now _ (took_done x.eui m peer identifier granted own readable)))
 
   no_fault : {A B : Type 0} (f : A → B) (o : Option A) → option_map f o ≡ None → o ≡ None
   no_fault f None e = refl

@@ -270,7 +270,7 @@ pub record CoordinatorDid (b : book.Book) (given more : List Issued) (x : Node) 
 
 -- What a plan of the coordinator does.
 pub record CoordinatorPlan (b : book.Book) (m : Memory) (keyed : Option SentGrant) {A : Type 0} (p : Plan Memory A) : Type 0 where
-  pub leads : Leads (Grown b) m p.puts p.memory
+  pub leads : Leads (Grown (Grows b)) m p.puts p.memory
   pub ring : RingWrites Nought p.puts
   pub made : Each (CoordinatorTag m keyed) p.made
 
@@ -325,10 +325,10 @@ module _ (b : book.Book) (given : List Issued) where
   unfolding acts
   coordinator_acts {A = A} x halted plan more ok h keyed said f = by_memory x.memory refl (subst (λ role. Left (IsKept role) x.store.records x.memory) h.role ok.kept) said
     where
-      book_of : (o : Outcome Memory A) → Left (Grown b) o.records o.memory → RingIn Nought o.records → (made : (c : book.Book) → Grows b c → Each (TagOk c (given ++ more)) o.made) → CoordinatorDid b given more x (left_by x o)
+      book_of : (o : Outcome Memory A) → Left (Grown (Grows b)) o.records o.memory → RingIn Nought o.records → (made : (c : book.Book) → Grows b c → Each (TagOk c (given ++ more)) o.made) → CoordinatorDid b given more x (left_by x o)
       book_of o left ring made = by_left o.memory left
         where
-          by_left : (q : Option Memory) → Left (Grown b) o.records q → CoordinatorDid b given more x (left_by x o)
+          by_left : (q : Option Memory) → Left (Grown (Grows b)) o.records q → CoordinatorDid b given more x (left_by x o)
           by_left None k = record { book = k.memory.book; node = record { role = h.role; book_kept = k.kept.kept.book; ring = ring }; grows = k.kept.grows; eui = refl; made = made k.memory.book k.kept.grows }
           by_left (Some n) k = record { book = n.book; node = record { role = h.role; book_kept = k.kept.book; ring = ring }; grows = k.grows; eui = refl; made = made n.book k.grows }
 
@@ -339,8 +339,8 @@ module _ (b : book.Book) (given : List Issued) where
           let o : Outcome Memory A = carry_out x.store.records x.store.cut (plan m) in
           let c = clean x.store.records x.store.cut (plan m) in
           let same : m.book ≡ b = one_book m.book b x.store.records kept.book h.book_kept in
-          let old : Grown b m x.store.records = record { kept = kept; grows = λ eui a e. subst (λ (y : book.Book). book.address_of y eui ≡ Some a) (sym same) e } in
-          book_of o (carried (Grown b) x.store.records x.store.cut (plan m) m old p.leads) (carried_in Nought x.store.records x.store.cut (plan m) p.ring h.ring)
+          let old : Grown (Grows b) m x.store.records = record { kept = kept; grows = λ eui a e. subst (λ (y : book.Book). book.address_of y eui ≡ Some a) (sym same) e } in
+          book_of o (carried (Grown (Grows b)) x.store.records x.store.cut (plan m) m old p.leads) (carried_in Nought x.store.records x.store.cut (plan m) p.ring h.ring)
           (λ d grows. ⊎_elim
           (λ (w : IsWhole x.store.records x.store.cut (plan m) o). subst (Each (TagOk d (given ++ more))) (sym w.made)
           (each_weaker (CoordinatorTag m (keyed (plan m).answer)) (TagOk d (given ++ more)) (λ t k. subst (λ l. TagOk d (given ++ l) t) (said w.answer) (coordinator_tag b d given m (keyed (plan m).answer) kept.station.range.ring kept.book.table.short same grows t k)) (plan m).made p.made))

@@ -11,14 +11,15 @@ use Rattle.plc_base.specs.declared.key.Key.{Key}
 use Rattle.group_keys.specs.KeyRing as ring
 use Rattle.group_keys.specs.KeyBook as books
 use Rattle.node_rules.specs.Ciphers.{Ciphers}
-use Rattle.line_rules.specs.Events.{IsEvent, IsEui}
+use Rattle.line_rules.specs.Events.{IsEvent, IsEui, AreEvents}
 use Rattle.node_rules.specs.Memory.{Memory, Role, Coordinator, Meter, Node}
 use Rattle.line_rules.specs.Worlds.{World, Issued, Trace, node_at, start}
 use Rattle.line_rules.specs.Steps.{Step}
-use Rattle.line_rules.specs.Runs.{Entry, IsRun, all_of, issued, IsIssued, HoldsIssued, HasIssuedKeys, HasOnlyIssuedKeys}
+use Rattle.line_rules.specs.Runs.{Entry, IsRun, all_of, issued, events_of}
+use Rattle.line_rules.specs.SafeRuns.{IsIssued, HoldsIssued, HasIssuedKeys, HasOnlyIssuedKeys}
 use Rattle.line_laws.specs.Stores.{IsKept}
 use Rattle.line_laws.specs.Owed.{KeepsRanges}
-use Rattle.line_laws.specs.Laws.{AreSaid, FlightsAreOctets}
+use Rattle.line_laws.specs.Laws.{FlightsAreOctets}
 use Rattle.line_laws.specs.Issued.{IssuedAreNamed, IsIssuedAfter, OnlyIssuedKeys}
 use Rattle.line_laws.proofs.Keeping.{Left}
 use Rattle.line_laws.proofs.Nodes.{NodeOk}
@@ -132,18 +133,18 @@ abbrev EntryNamed : Entry → Type 0
 EntryNamed x = All IsNamed x.trace.issued
 
 pub only_from : (ciphers : Ciphers) → KeepsRanges ciphers → (w : World) → WorldOk w → All FlightFits w.flights → (before : List Entry) → Keyed w (issued before) → Each IsNamed (issued before)
-    → (entries : List Entry) → AreSaid entries → FlightsAreOctets entries → IssuedAreNamed entries → IsRun ciphers w entries → IsIssuedAfter before entries
+    → (entries : List Entry) → AreEvents (events_of entries) → FlightsAreOctets entries → IssuedAreNamed entries → IsRun ciphers w entries → IsIssuedAfter before entries
 only_from ciphers fits w ok flown before k names [] says fly named run = tt
 only_from ciphers fits w ok flown before k names (x ∷ xs) says fly named run = λ honest.
-    let event = All-head (λ (y : Entry). IsEvent y.event) x xs says in
+    let event = All-head IsEvent x.event (events_of xs) says in
     let g = taken_good ciphers fits w ok flown x event run.2 in
     let same = all_of_one (λ d. d.issued) before x in
     let next : Keyed x.after (issued before ++ x.trace.issued) = subst (Kept (issued before)) run.2 (kept w (issued before) _ (step_keyed ciphers fits w ok flown (issued before) k x.event event)) honest in
     let k' : Keyed x.after (issued (before ++ x ∷ [])) = subst (Keyed x.after) (sym same) next in
     let names' : Each IsNamed (issued (before ++ x ∷ [])) = subst (Each IsNamed) (sym same) (each_append IsNamed (issued before) x.trace.issued names (each_from IsNamed x.trace.issued (All-head EntryNamed x xs named))) in (
       world_holds x.after (issued (before ++ x ∷ [])) g.0 k' names',
-      only_from ciphers fits x.after g.0 (All-head EntryFlies x xs fly) (before ++ x ∷ []) k' names' xs (All-tail (λ (y : Entry). IsEvent y.event) x xs says) (All-tail EntryFlies x xs fly) (All-tail EntryNamed x xs named) run.3,
+      only_from ciphers fits x.after g.0 (All-head EntryFlies x xs fly) (before ++ x ∷ []) k' names' xs (All-tail IsEvent x.event (events_of xs) says) (All-tail EntryFlies x xs fly) (All-tail EntryNamed x xs named) run.3,
     )
 
 pub only_issued : OnlyIssuedKeys
-only_issued ciphers fits entries says fly named run = only_from ciphers fits start start_ok (All-nil FlightFits) [] start_keyed tt entries says fly named run
+only_issued ciphers fits entries r fly named = only_from ciphers fits start start_ok (All-nil FlightFits) [] start_keyed tt entries r.events fly named r.run

@@ -65,7 +65,7 @@ use Rattle.node_rules.specs.StoreReading.{station_of, reading}
 use Rattle.node_rules.specs.Hearing.{dropped}
 use Rattle.node_rules.specs.Memory.{MeterSession}
 use Rattle.line_laws.specs.Stores.{IsReadable, IsKept, IsBookKept}
-use Rattle.line_laws.specs.Sizes.{IsSized}
+use Rattle.line_laws.specs.Sizes.{IsMemorySized}
 use Rattle.line_laws.specs.Owed.{AreOctets, KeepsRanges}
 use Rattle.line_laws.proofs.Readings.{join_ranges}
 use Rattle.line_laws.proofs.Keeping.{Left}
@@ -142,12 +142,12 @@ or_false true b e = absurd (cc)
 or_false false b e = e
 
 module _ (ciphers : Ciphers) (fits : KeepsRanges ciphers) where
-  sized_at : (x : Node) (m : Memory) → NodeOk x → x.memory ≡ Some m → IsSized m
-  sized_at x m ok there = subst (λ o. IfSome o IsSized) there ok.sized
+  sized_at : (x : Node) (m : Memory) → NodeOk x → x.memory ≡ Some m → IsMemorySized m
+  sized_at x m ok there = subst (λ o. IfSome o IsMemorySized) there ok.sized
 
   -- a call that leaves the ring, the session and the book
   quiet_told : {A : Type 0} (w : World) (given : List Issued) (k : Keyed w given) (number : ℕ) (x : Node) → node_at w number ≡ Some x → NodeOk x → (halted : A) (plan : Memory → Plan Memory A)
-      → ((m : Memory) → IsSized m → Quietly m (plan m)) → Keyed (told ciphers w number (acts x halted plan)) given
+      → ((m : Memory) → IsMemorySized m → Quietly m (plan m)) → Keyed (told ciphers w number (acts x halted plan)) given
   quiet_told w given k number x there ok halted plan q = ⊎_elim
       (λ (e : number ≡ 0). subst (Keyed _) (append-nil given) (told_coordinator ciphers w number x (acts x halted plan) there (quiet_did e).eui given [] k e (quiet_did e)))
       (λ (ne : number ≢ 0). let d = meter_did ne in told_meter ciphers w number x (acts x halted plan) there d.eui given k ne d)
@@ -220,7 +220,7 @@ module _ (ciphers : Ciphers) (fits : KeepsRanges ciphers) (w : World) (ok : Worl
   rests d none = taken_none (ran w, d) none ran_keyed
 
   -- calls of one node
-  acted_quiet : {A : Type 0} (number : ℕ) (x : Node) (reads : A → Answer) (halted : A) (plan : Memory → Plan Memory A) → node_at w number ≡ Some x → ((m : Memory) → IsSized m → Quietly m (plan m)) → Good (Ok (acted ciphers w number (answering reads (acts x halted plan))))
+  acted_quiet : {A : Type 0} (number : ℕ) (x : Node) (reads : A → Answer) (halted : A) (plan : Memory → Plan Memory A) → node_at w number ≡ Some x → ((m : Memory) → IsMemorySized m → Quietly m (plan m)) → Good (Ok (acted ciphers w number (answering reads (acts x halted plan))))
   acted_quiet number x reads halted plan there q = taken_none _ refl (told_as ciphers (ran w) number reads (acts x halted plan) given (quiet_told ciphers fits (ran w) given ran_keyed number x there (node_ok number x there) halted plan q))
 
   rand_keyed : (number : ℕ) (value : Rand) → Good (rand ciphers w number value)
@@ -274,7 +274,7 @@ module _ (ciphers : Ciphers) (fits : KeepsRanges ciphers) (w : World) (ok : Worl
   -- # Orders
 
   order_keyed : {A : Type 0} (c : Node) (answer : Answer) (order : Memory → Plan Memory (Result A CoordinatorRefusal)) → node_at w 0 ≡ Some c
-      → ((m : Memory) → IsSized m → (b : book.Book) → Nought m.station.ring → IfSome m.station.ring IsReadable → CoordinatorPlan b m None (order m)) → CoordinatorDid ran_keyed.book given [] c (acts c (Err orders.Halted) order)
+      → ((m : Memory) → IsMemorySized m → (b : book.Book) → Nought m.station.ring → IfSome m.station.ring IsReadable → CoordinatorPlan b m None (order m)) → CoordinatorDid ran_keyed.book given [] c (acts c (Err orders.Halted) order)
   order_keyed c answer order there f =
       let h = ran_keyed.coordinator c there in
       let good = node_ok 0 c there in
@@ -284,7 +284,7 @@ module _ (ciphers : Ciphers) (fits : KeepsRanges ciphers) (w : World) (ok : Worl
   coordinator_told c d there did = subst (Keyed _) (append-nil given) (told_coordinator ciphers (ran w) 0 c d there did.eui given [] ran_keyed refl did)
 
   ordered_keyed : {A : Type 0} (c : Node) (answer : Answer) (order : Memory → Plan Memory (Result A CoordinatorRefusal)) → node_at w 0 ≡ Some c
-      → ((m : Memory) → IsSized m → (b : book.Book) → Nought m.station.ring → IfSome m.station.ring IsReadable → CoordinatorPlan b m None (order m)) → Good (Ok (by_coordinator ciphers w c answer order))
+      → ((m : Memory) → IsMemorySized m → (b : book.Book) → Nought m.station.ring → IfSome m.station.ring IsReadable → CoordinatorPlan b m None (order m)) → Good (Ok (by_coordinator ciphers w c answer order))
   ordered_keyed c answer order there f = taken_none _ refl (told_as ciphers (ran w) 0 (ordered_word answer) (acts c (Err orders.Halted) order) given (coordinator_told c (acts c (Err orders.Halted) order) there (order_keyed c answer order there f)))
 
   abbrev own_of : Node → coordinator_rules.CoordinatorIdentity
@@ -448,11 +448,11 @@ module _ (ciphers : Ciphers) (fits : KeepsRanges ciphers) (w : World) (ok : Worl
       (λ r. (coordinator_reception r).keyed) (λ r. (coordinator_reception r).done) (λ a. (keyed_same a).0) (λ a. (keyed_same a).1) (λ f. refl)).0)
 
   -- a plan that is quiet, at the coordinator and at a meter
-  quiet_coordinator_did : {A : Type 0} (x : Node) (halted : A) (plan : Memory → Plan Memory A) (b : book.Book) → NodeOk x → CoordinatorOk b x → ((m : Memory) → IsSized m → Quietly m (plan m)) → CoordinatorDid b given [] x (acts x halted plan)
+  quiet_coordinator_did : {A : Type 0} (x : Node) (halted : A) (plan : Memory → Plan Memory A) (b : book.Book) → NodeOk x → CoordinatorOk b x → ((m : Memory) → IsMemorySized m → Quietly m (plan m)) → CoordinatorDid b given [] x (acts x halted plan)
   quiet_coordinator_did x halted plan b good c q = coordinator_acts b given x halted plan [] good c (λ a. None) (λ m here said. refl)
       (λ m here kept. quiet_coordinator b None m (plan m) (q m (sized_at ciphers fits x m good here)) (c.ring m.station.ring kept.station.ring.stored) kept.station.range.ring)
 
-  pub quiet_meter_did : {A : Type 0} (x : Node) (halted : A) (plan : Memory → Plan Memory A) (b : book.Book) → NodeOk x → MeterOk b given x → ((m : Memory) → IsSized m → Quietly m (plan m)) → MeterDid b given x (acts x halted plan)
+  pub quiet_meter_did : {A : Type 0} (x : Node) (halted : A) (plan : Memory → Plan Memory A) (b : book.Book) → NodeOk x → MeterOk b given x → ((m : Memory) → IsMemorySized m → Quietly m (plan m)) → MeterDid b given x (acts x halted plan)
   quiet_meter_did x halted plan b good h q = sound_acts b given x halted plan good h.ring h.session (λ m here kept session ring.
       let t = q m (sized_at ciphers fits x m good here) in
       record { puts = t.ring (RingOk b given x.eui) tt ring kept.station.range.ring; session = subst (PeerIs x.eui) (sym t.session) session; made = subst (Each (TagOk b given)) (sym t.made) tt })
@@ -513,7 +513,7 @@ module _ (ciphers : Ciphers) (fits : KeepsRanges ciphers) (w : World) (ok : Worl
       did : DidOk x (acts x (Err frames.Halted) plan)
       did = acts_ok x (Err frames.Halted) plan (node_ok number x there) (λ m here kept sized. accept_ok ciphers fits octets are x.role m x.eui sized)
 
-      quiet : (m : Memory) → IsSized m → Quietly m (plan m)
+      quiet : (m : Memory) → IsMemorySized m → Quietly m (plan m)
       quiet m sized = accept_quietly ciphers fits octets are m x.eui
 
       coordinator : number ≡ 0 → CoordinatorDid ran_keyed.book given [] x (acts x (Err frames.Halted) plan)
@@ -556,7 +556,7 @@ module _ (ciphers : Ciphers) (fits : KeepsRanges ciphers) (w : World) (ok : Worl
 
   -- # Setup
 
-  preset_keyed : (number : ℕ) (plan : StationMemory → calls.Presetting) → ((m : Memory) → IsSized m → Quietly m (of_station m (plan m.station))) → Good (preset ciphers w number plan)
+  preset_keyed : (number : ℕ) (plan : StationMemory → calls.Presetting) → ((m : Memory) → IsMemorySized m → Quietly m (of_station m (plan m.station))) → Good (preset ciphers w number plan)
   preset_keyed number plan q = setup _ (at_node number _ (λ x there. taken_none _ refl (quiet_told ciphers fits (set_up w) given set_up_keyed number x there (node_ok number x there) (Ok tt) _ q)))
 
   -- an address of a node is below FFFE

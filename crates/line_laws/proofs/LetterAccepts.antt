@@ -12,7 +12,8 @@ use Rattle.node_rules.specs.declared.heard.Accepted.{Accepted}
 use Rattle.node_rules.specs.Ciphers.{Ciphers}
 use Rattle.node_rules.specs.Frames.{Letter, Sealed, Arrived, arrived_with, head_of, spelled, arrived, to_all}
 use Rattle.node_rules.specs.Memory.{StationMemory}
-use Rattle.line_laws.specs.Letters.{OpensWhatItSeals, IsLetter}
+use Rattle.node_rules.specs.Ciphers.{OpensWhatItSeals}
+use Rattle.line_laws.specs.Letters.{IsLetter}
 use Rattle.line_laws.proofs.StoreMarks.{IsAdmitted}
 use Rattle.line_laws.proofs.LetterSeals.{letter_arrives, letter_opens, letter_unit}
 

@@ -19,8 +19,9 @@ use Rattle.mesh_header.specs.Grammar.{spelling}
 use Rattle.mesh_header.specs.Reading.{unit_in}
 use Rattle.node_rules.specs.Ciphers.{Ciphers, network, opened_with_ccm, sealed_with_ccm}
 use Rattle.node_rules.specs.Frames.{Letter, Sealed, Arrived, arrived_with, head_of, spelled, arrived}
-use Rattle.node_rules.proofs.Readings.{units_read}
-use Rattle.line_laws.specs.Letters.{OpensWhatItSeals, IsLetter}
+use Rattle.mesh_header.proofs.Readings.{unit_read}
+use Rattle.node_rules.specs.Ciphers.{OpensWhatItSeals}
+use Rattle.line_laws.specs.Letters.{IsLetter}
 
 -- # CCM*
 
@@ -112,4 +113,4 @@ module _ (ciphers : Ciphers) (opens : OpensWhatItSeals ciphers) (l : Letter) (fi
 
   -- and the unit is read
   pub letter_unit : unit_in (spelling l.unit) ≡ Some l.unit
-  letter_unit = units_read l.unit (spelling l.unit) (fits.unit.fields, refl)
+  letter_unit = unit_read l.unit (spelling l.unit) (fits.unit.fields, refl)

@@ -18,6 +18,7 @@ pub mod StorePlans
 pub mod SizeFold
 pub mod Restarting
 pub mod StoreMarks
+pub mod Senders
 pub mod Nodes
 pub mod NodeCalls
 pub mod CoordinatorCalls
@@ -44,6 +45,11 @@ pub mod Rising
 pub mod Worlds
 pub mod StepsOk
 pub mod Running
+pub mod Tellings
+pub mod ForgeryRight
+pub mod TracesRight
+pub mod FlightFolds
+pub mod LawRuns
 pub mod RankOrder
 pub mod RankSteps
 pub mod RankAccount
@@ -77,6 +83,7 @@ pub mod IssueMeters
 pub mod AddressBook
 pub mod IssueCoordinator
 pub mod IssueNodes
+pub mod Untagged
 pub mod IssueCalls
 pub mod IssueWorlds
 pub mod IssueSteps
@@ -85,3 +92,6 @@ pub mod AddressWorlds
 pub mod AgreeTags
 pub mod AgreeSteps
 pub mod AgreeRuns
+pub mod BookGrowth
+pub mod NonceRuns
+pub mod KeyedAnswers

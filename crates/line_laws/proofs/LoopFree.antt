@@ -9,7 +9,7 @@ use Rattle.routing_set.specs.RoutingSet as routing
 use Rattle.node_rules.specs.Ciphers.{Ciphers}
 use Rattle.node_rules.specs.Memory.{StationMemory, Memory, Node, node_route, station_route, next_hop}
 use Rattle.line_rules.specs.Worlds.{World, node_at}
-use Rattle.line_rules.specs.Runs.{HasRoute, HasAddress, Leads, HasNoLoop}
+use Rattle.line_rules.specs.SafeRuns.{HasRoute, HasAddress, Leads, HasNoLoop}
 use Rattle.line_laws.proofs.RankOrder.{beats_trans, beats_not_itself}
 use Rattle.line_laws.proofs.RankSteps.{held_kept}
 use Rattle.line_laws.proofs.RankPlans.{via}

@@ -9,11 +9,11 @@ use Rattle.loadng_messages.specs.declared.message.Message.TheVariants.{Rreq, Rre
 use Rattle.routing_set.specs.declared.rank.Rank.{Rank}
 use Rattle.routing_set.specs.RoutingSet as routing
 use Rattle.node_rules.specs.Ciphers.{Ciphers}
-use Rattle.line_rules.specs.Events.{IsEvent}
+use Rattle.line_rules.specs.Events.{IsEvent, AreEvents}
 use Rattle.line_rules.specs.Worlds.{World, Flight, start}
-use Rattle.line_rules.specs.Runs.{Entry, IsRun}
+use Rattle.line_rules.specs.Runs.{Entry, IsRun, events_of}
 use Rattle.line_rules.specs.Steps.{Step}
-use Rattle.line_laws.specs.Laws.{AreSaid, FlightsAreOctets}
+use Rattle.line_laws.specs.Laws.{FlightsAreOctets}
 use Rattle.line_laws.specs.Owed.{KeepsRanges}
 use Rattle.line_laws.proofs.Worlds.{WorldOk, FlightFits}
 use Rattle.line_laws.proofs.Running.{start_ok, taken_good}
@@ -80,14 +80,14 @@ module _ (ciphers : Ciphers) (fits : KeepsRanges ciphers) where
   kept h w s (Fails fault) = tt
   kept h w s (Taken r holds) = holds
 
-  loop_free_from : (h : Homes) (w : World) → WorldOk w → All FlightFits w.flights → RoutingHolds ciphers h w → (entries : List Entry) → AreSaid entries → FlightsAreOctets entries → IsRun ciphers w entries → AreHomed ciphers h w entries → AreLoopFree w entries
+  loop_free_from : (h : Homes) (w : World) → WorldOk w → All FlightFits w.flights → RoutingHolds ciphers h w → (entries : List Entry) → AreEvents (events_of entries) → FlightsAreOctets entries → IsRun ciphers w entries → AreHomed ciphers h w entries → AreLoopFree w entries
   loop_free_from h w ok flown good [] says octets run homed = tt
   loop_free_from h w ok flown good (x ∷ xs) says octets run homed = λ honest.
-      let event = All-head (λ (y : Entry). IsEvent y.event) x xs says in
+      let event = All-head IsEvent x.event (events_of xs) says in
       let e = homed honest in
       let g = taken_good ciphers fits w ok flown x event run.2 in
       let after = subst (Kept e.0.homes w) run.2 (kept e.0.homes w _ (event_holds ciphers fits e.0.homes w e.0.reads ok flown e.0.before (homes_grow ciphers h e.0.homes e.0.grows w good) x.event event e.0.depot)) honest in
-      (no_loop ciphers e.0.homes x.after e.0.after after.holds, after.later, loop_free_from e.0.homes x.after g.0 (All-head (λ (y : Entry). All FlightFits y.after.flights) x xs octets) after.holds xs (All-tail (λ (y : Entry). IsEvent y.event) x xs says) (All-tail (λ (y : Entry). All FlightFits y.after.flights) x xs octets) run.3 e.1)
+      (no_loop ciphers e.0.homes x.after e.0.after after.holds, after.later, loop_free_from e.0.homes x.after g.0 (All-head (λ (y : Entry). All FlightFits y.after.flights) x xs octets) after.holds xs (All-tail IsEvent x.event (events_of xs) says) (All-tail (λ (y : Entry). All FlightFits y.after.flights) x xs octets) run.3 e.1)
 
   start_holds : RoutingHolds ciphers nowhere start
   start_holds = record {
@@ -95,5 +95,5 @@ module _ (ciphers : Ciphers) (fits : KeepsRanges ciphers) where
     routes = record { routes = λ i x there dest next e. absurd (none-some x there) };
   }
 
-  pub every_run : (entries : List Entry) → AreSaid entries → FlightsAreOctets entries → IsRun ciphers start entries → AreHomed ciphers nowhere start entries → AreLoopFree start entries
+  pub every_run : (entries : List Entry) → AreEvents (events_of entries) → FlightsAreOctets entries → IsRun ciphers start entries → AreHomed ciphers nowhere start entries → AreLoopFree start entries
   every_run entries says octets run homed = loop_free_from nowhere start start_ok (All-nil FlightFits) start_holds entries says octets run homed

@@ -35,8 +35,9 @@ use Rattle.node_rules.specs.Calls as calls
 use Rattle.node_rules.specs.Meters as meters
 use Rattle.node_rules.specs.NodeSteps.{of_station}
 use Rattle.node_rules.proofs.MemoryDraftShapes.{whole}
+use Rattle.node_rules.specs.Laws.{IsLoad}
 use Rattle.line_laws.specs.Stores.{IsHeld, IsReadable, IsStationKept, IsKept}
-use Rattle.line_laws.specs.Sizes.{IsSized}
+use Rattle.line_laws.specs.Sizes.{IsMemorySized}
 use Rattle.line_laws.specs.Owed.{KeepsRanges}
 use Rattle.line_laws.proofs.Readings.{join_ranges}
 use Rattle.line_laws.proofs.Keeping.{leads_beside}
@@ -142,11 +143,11 @@ module _ (role : Role) (W : RingWord → Type 0) (words : (w : RingWord) → W w
   of_station_planned p (Ended d answer done left) = Ended (whole m d) answer (Station d done.0, record { few = done.1.few }) left
 
   -- a plan that touches no book
-  pub bookless_ok : {H F : Type 0} (ends : Ends F) (K : Memory → H → Type 0) → ((n : Memory) (answer : H) → K n answer → (r : Records) → IsKept role m r → IsKept role n r) → ((n : Memory) (answer : H) → K n answer → IsSized m → IsSized n) → ((n : Memory) (answer : H) → K n answer → n.station.counter ≡ m.station.counter)
-      → (p : Plan Memory (Result H F)) → Planned in_memory ends m K (λ d a. MadeIn W NoGrant NoPair NoEui g m d × Few m.station d) p → IsSized m → PlanOk role m p
+  pub bookless_ok : {H F : Type 0} (ends : Ends F) (K : Memory → H → Type 0) → ((n : Memory) (answer : H) → K n answer → (r : Records) → IsKept role m r → IsKept role n r) → ((n : Memory) (answer : H) → K n answer → IsMemorySized m → IsMemorySized n) → ((n : Memory) (answer : H) → K n answer → n.station.counter ≡ m.station.counter)
+      → (p : Plan Memory (Result H F)) → Planned in_memory ends m K (λ d a. MadeIn W NoGrant NoPair NoEui g m d × Few m.station d) p → IsMemorySized m → PlanOk role m p
   bookless_ok ends K kept sized same p s h = plan_ok role W NoGrant NoPair NoEui g m words offers (λ eui none. absurd none) (λ eui psk none. absurd none) (no_change role m) (λ r k granted none. absurd none) ends K kept sized same p s h
 
-  pub station_ok : {H F : Type 0} (ends : Ends F) (p : Plan StationMemory (Result H F)) → Planned alone ends m.station Nothing (λ d (a : H). Made W g (empty_draft m.station) d × Few m.station d) p → IsSized m → PlanOk role m (of_station m p)
+  pub station_ok : {H F : Type 0} (ends : Ends F) (p : Plan StationMemory (Result H F)) → Planned alone ends m.station Nothing (λ d (a : H). Made W g (empty_draft m.station) d × Few m.station d) p → IsMemorySized m → PlanOk role m (of_station m p)
   station_ok ends p s h = bookless_ok ends Nothing (λ n answer k. absurd k) (λ n answer k. absurd k) (λ n answer k. absurd k) (of_station m p) (of_station_planned p s) h
 
 -- # The calls of a node
@@ -156,10 +157,10 @@ never w none = absurd none
 
 -- a body is sent out
 data IsCarried : RingWord → Type 0 where
-  Carries : (to note : ℕ) (load : Load) → IsCarried (Carry to note load)
+  Carries : (to note : ℕ) (load : Load) → IsLoad load → IsCarried (Carry to note load)
 
 carried_fits : (w : RingWord) → IsCarried w → WordFits w
-carried_fits w (Carries to note load) = tt
+carried_fits w (Carries to note load fits) = fits
 
 abbrev pub NoWord : RingWord → Type 0
 NoWord w = ⊥
@@ -173,9 +174,9 @@ station_counter g l n a (Completes by own mesh piece note octets came here mine 
 pub handed_counter : (m : Memory) {H : Type 0} (word : Heard → H) (g : Given) (n : Memory) (answer : H) → HandedIn word g m n answer → n.station.counter ≡ m.station.counter
 handed_counter m word g n answer (ByStation l a k) = station_counter g m.station l a k
 
-module _ (role : Role) (m : Memory) (h : IsSized m) where
+module _ (role : Role) (m : Memory) (h : IsMemorySized m) where
   pub send_ok : (to : ℕ) (datagram : List ℕ) (note now : ℕ) → PlanOk role m (of_station m (calls.send m.station to datagram note now))
-  send_ok to datagram note now = station_ok role IsCarried carried_fits (call_given 0 note now) m (call_offers 0 note now) calls.sending_ends _ (send_is IsCarried (call_given 0 note now) m.station to datagram (λ some short. Carries to note (Datagram datagram m.station.next_tag))) h
+  send_ok to datagram note now = station_ok role IsCarried carried_fits (call_given 0 note now) m (call_offers 0 note now) calls.sending_ends _ (send_is IsCarried (call_given 0 note now) m.station to datagram (λ some short. Carries to note (Datagram datagram m.station.next_tag) (some, short, h.station.tag))) h
 
   pub near_ok : (to cost now : ℕ) → to < 0xFFFE → cost < 2 ^ 16 → PlanOk role m (of_station m (calls.preset_near m.station to cost now))
   near_ok to cost now short low = station_ok role NoWord never (near_given to cost now) m (near_offers to cost now short low) calls.presetting_ends _ (near_is NoWord (near_given to cost now) m.station to refl) h
@@ -186,7 +187,7 @@ module _ (role : Role) (m : Memory) (h : IsSized m) where
   counter_ok value fits = record {
     leads = station_leads role m m.station (record m.station { counter = counter.counting_at value }) _
         (low_one (Rest role m) (rest_lasts role m) m.station _ _ (omega arith) (λ r k. limit_kept m.station r (counter.counting_at value) k fits (omega arith)));
-    sized = record { station = record { reassemblies = h.station.reassemblies; waiting = h.station.waiting; short = h.station.short }; sessions = h.sessions; randoms = h.randoms };
+    sized = record { station = record { reassemblies = h.station.reassemblies; waiting = record { bodies = h.station.waiting.bodies; blocks = h.station.waiting.blocks; datagrams = h.station.waiting.datagrams }; loads = h.station.loads; tag = h.station.tag }; sessions = h.sessions; randoms = h.randoms };
     few = omega arith;
   }
 
@@ -195,7 +196,7 @@ module _ (role : Role) (m : Memory) (h : IsSized m) where
   number_ok value low fits = record {
     leads = station_leads role m m.station (record m.station { own_number = own_number.numbering_at value }) _
         (low_one (Rest role m) (rest_lasts role m) m.station _ _ (omega arith) (λ r k. number_kept m.station r (own_number.numbering_at value) k low fits (omega arith)));
-    sized = record { station = record { reassemblies = h.station.reassemblies; waiting = h.station.waiting; short = h.station.short }; sessions = h.sessions; randoms = h.randoms };
+    sized = record { station = record { reassemblies = h.station.reassemblies; waiting = record { bodies = h.station.waiting.bodies; blocks = h.station.waiting.blocks; datagrams = h.station.waiting.datagrams }; loads = h.station.loads; tag = h.station.tag }; sessions = h.sessions; randoms = h.randoms };
     few = omega arith;
   }
 
@@ -204,9 +205,10 @@ module _ (role : Role) (m : Memory) (h : IsSized m) where
   unfolding resting
   broke_ok next answer = record {
     leads = leads_beside (IsKept role) m _ (λ r k. record { station = ended_kept m.station r (routing.goes_by next) k.station; book = k.book; sessions = k.sessions });
-    sized = record { station = record { reassemblies = h.station.reassemblies; waiting = h.station.waiting; short = h.station.short }; sessions = h.sessions; randoms = h.randoms };
+    sized = record { station = record { reassemblies = h.station.reassemblies; waiting = record { bodies = h.station.waiting.bodies; blocks = h.station.waiting.blocks; datagrams = h.station.waiting.datagrams }; loads = h.station.loads; tag = h.station.tag }; sessions = h.sessions; randoms = h.randoms };
     few = omega arith;
     rises = λ fits. record { high = tt; with_own_number = omega arith };
+    from = tt;
   }
 
   -- a grant of the workshop
@@ -232,14 +234,14 @@ module _ (role : Role) (m : Memory) (h : IsSized m) where
       station_of_handed g l a (Gathers by own mesh piece came here mine e) r k = beside_kept m.station _ r k refl refl refl refl refl refl
       station_of_handed g l a (Completes by own mesh piece note octets came here mine e) r k = beside_kept m.station _ r k refl refl refl refl refl refl
 
-  pub handed_within : {H : Type 0} (word : Heard → H) (g : Given) (n : Memory) (answer : H) → HandedIn word g m n answer → IsSized m → IsSized n
+  pub handed_within : {H : Type 0} (word : Heard → H) (g : Given) (n : Memory) (answer : H) → HandedIn word g m n answer → IsMemorySized m → IsMemorySized n
   handed_within word g n answer (ByStation l a k) s = record { station = handed_sized g m.station l a k s.station; sessions = s.sessions; randoms = s.randoms }
 
   -- # A meter
 
   module _ (ciphers : Ciphers) (fits : KeepsRanges ciphers) (x : meters.Identity) (same : x.ciphers ≡ ciphers) where
     meter_words : (g : Given) (w : RingWord) → RingCause g x m w → WordFits w
-    meter_words g w (ToCoordinator join said) = tt
+    meter_words g w (ToCoordinator join said) = omega arith
     meter_words g w (ByPacket granted taken) =
         fits.granted x.psk taken.peer taken.packet granted (ap (λ (c : Ciphers). c.third_fault x.psk taken.peer taken.packet) (sym same) ∙ taken.right) (ap (λ (c : Ciphers). c.granted x.psk taken.peer taken.packet) (sym same) ∙ taken.is)
     meter_words g w (ByOrder index told) = (join_ranges told.octets told.join told.read).1 index told.body

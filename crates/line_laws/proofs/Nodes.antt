@@ -12,7 +12,8 @@ use Rattle.group_keys.specs.KeyRing as ring
 use Rattle.group_keys.specs.KeyBook as book
 use Rattle.routing_set.specs.declared.rank.Rank.{Rank}
 use Rattle.routing_set.specs.RoutingSet as routing
-use Rattle.node_rules.specs.Memory.{Memory, Role, Coordinator, Node}
+use Rattle.node_rules.specs.Memory.{Memory, Role, Coordinator, Node, address_of, node_address}
+use Rattle.line_laws.proofs.Senders.{AreFrom, plan_from, acts_from}
 use Rattle.node_rules.specs.Plans.{Plan, Outcome, carry_out, resting}
 use Rattle.node_rules.specs.Drafts.{Ends, Outgoing, letters, sealed_by, sealing_key}
 use Rattle.node_rules.specs.MemoryDrafts.{in_memory}
@@ -21,7 +22,7 @@ use Rattle.node_rules.specs.Laws.{IsWhole, IsCutOff}
 use Rattle.node_rules.proofs.Sizes.{pending, pending_bound}
 use Rattle.node_rules.proofs.Writing.{clean}
 use Rattle.line_laws.specs.Stores.{IsHeld, IsKept}
-use Rattle.line_laws.specs.Sizes.{IsSized}
+use Rattle.line_laws.specs.Sizes.{IsMemorySized}
 use Rattle.line_laws.proofs.Keeping.{Leads, Left, carried}
 use Rattle.line_laws.proofs.StoreRanks.{EntryFits}
 use Rattle.line_laws.proofs.StoreFold.{WordFits}
@@ -36,20 +37,21 @@ use Rattle.line_laws.proofs.Frontiers.{Numbered, PlanRises, plan_rises, frontier
 -- What a plan keeps.
 pub record PlanFits (role : Role) (m : Memory) {A : Type 0} (p : Plan Memory A) : Type 0 where
   pub leads : Leads (IsKept role) m p.puts p.memory
-  pub sized : IsSized p.memory
+  pub sized : IsMemorySized p.memory
   pub few : length p.frames ≤ 24
 
 -- The same with what it does to the counter.
 pub record PlanOk (role : Role) (m : Memory) {A : Type 0} (p : Plan Memory A) : Type 0 where
   pub leads : Leads (IsKept role) m p.puts p.memory
-  pub sized : IsSized p.memory
+  pub sized : IsMemorySized p.memory
   pub few : length p.frames ≤ 24
   pub rises : m.station.counter.limit < 2 ^ 32 → PlanRises m p
+  pub from : AreFrom (address_of p.memory.station) p.frames
 
 -- What holds of a node.
 pub record NodeOk (x : Node) : Type 0 where
   pub kept : Left (IsKept x.role) x.store.records x.memory
-  pub sized : IfSome x.memory IsSized
+  pub sized : IfSome x.memory IsMemorySized
 
 -- What holds of what a node did.
 pub record DidFits (x : Node) {A : Type 0} (d : NodeStep A) : Type 0 where
@@ -65,25 +67,27 @@ pub record DidOk (x : Node) {A : Type 0} (d : NodeStep A) : Type 0 where
   pub eui : d.node.eui ≡ x.eui
   pub few : length d.frames ≤ 24
   pub rises : Numbered (frontier x) (frontier d.node) d.frames
+  -- its letters have the address that it has now
+  pub from : AreFrom (node_address d.node) d.frames
 
 -- # A plan that is carried out
 
-outcome_sized : {A : Type 0} (x : Node) (m : Memory) (p : Plan Memory A) → IsSized p.memory → length p.frames ≤ 24
-    → let o : Outcome Memory A = carry_out x.store.records x.store.cut p in IfSome o.memory IsSized × (length o.frames ≤ 24)
+outcome_sized : {A : Type 0} (x : Node) (m : Memory) (p : Plan Memory A) → IsMemorySized p.memory → length p.frames ≤ 24
+    → let o : Outcome Memory A = carry_out x.store.records x.store.cut p in IfSome o.memory IsMemorySized × (length o.frames ≤ 24)
 outcome_sized {A = A} x m p sized few = ⊎_elim whole cut_off (clean x.store.records x.store.cut p)
   where
-    whole : IsWhole x.store.records x.store.cut p (carry_out x.store.records x.store.cut p) → let o : Outcome Memory A = carry_out x.store.records x.store.cut p in IfSome o.memory IsSized × (length o.frames ≤ 24)
+    whole : IsWhole x.store.records x.store.cut p (carry_out x.store.records x.store.cut p) → let o : Outcome Memory A = carry_out x.store.records x.store.cut p in IfSome o.memory IsMemorySized × (length o.frames ≤ 24)
     whole w = rw (w.memory, w.frames) (sized, few)
 
-    cut_off : IsCutOff x.store.records x.store.cut p (carry_out x.store.records x.store.cut p) → let o : Outcome Memory A = carry_out x.store.records x.store.cut p in IfSome o.memory IsSized × (length o.frames ≤ 24)
+    cut_off : IsCutOff x.store.records x.store.cut p (carry_out x.store.records x.store.cut p) → let o : Outcome Memory A = carry_out x.store.records x.store.cut p in IfSome o.memory IsMemorySized × (length o.frames ≤ 24)
     cut_off c = rw (c.memory, c.frames) (tt, omega arith)
 
-pub acts_fits : {A : Type 0} (x : Node) (halted : A) (plan : Memory → Plan Memory A) → NodeOk x → ((m : Memory) → x.memory ≡ Some m → IsKept x.role m x.store.records → IsSized m → PlanFits x.role m (plan m))
+pub acts_fits : {A : Type 0} (x : Node) (halted : A) (plan : Memory → Plan Memory A) → NodeOk x → ((m : Memory) → x.memory ≡ Some m → IsKept x.role m x.store.records → IsMemorySized m → PlanFits x.role m (plan m))
     → DidFits x (acts x halted plan)
 unfolding acts
 acts_fits {A = A} x halted plan ok f = by_memory x.memory refl ok.kept ok.sized
   where
-    by_memory : (o : Option Memory) → x.memory ≡ o → Left (IsKept x.role) x.store.records o → IfSome o IsSized
+    by_memory : (o : Option Memory) → x.memory ≡ o → Left (IsKept x.role) x.store.records o → IfSome o IsMemorySized
         → DidFits x (option_map_or (λ m. left_by x (carry_out x.store.records x.store.cut (plan m))) o (stays x halted))
     by_memory None e kept sized = record { node = ok; role = refl; eui = refl; few = omega arith }
     by_memory (Some m) e kept sized =
@@ -91,7 +95,7 @@ acts_fits {A = A} x halted plan ok f = by_memory x.memory refl ok.kept ok.sized
         let o = outcome_sized x m (plan m) p.sized p.few in
         record { node = record { kept = carried (IsKept x.role) x.store.records x.store.cut (plan m) m kept p.leads; sized = o.0 }; role = refl; eui = refl; few = o.1 }
 
-pub acts_ok : {A : Type 0} (x : Node) (halted : A) (plan : Memory → Plan Memory A) → NodeOk x → ((m : Memory) → x.memory ≡ Some m → IsKept x.role m x.store.records → IsSized m → PlanOk x.role m (plan m))
+pub acts_ok : {A : Type 0} (x : Node) (halted : A) (plan : Memory → Plan Memory A) → NodeOk x → ((m : Memory) → x.memory ≡ Some m → IsKept x.role m x.store.records → IsMemorySized m → PlanOk x.role m (plan m))
     → DidOk x (acts x halted plan)
 acts_ok x halted plan ok f =
     let d = acts_fits x halted plan ok (λ m there kept sized. let p = f m there kept sized in record { leads = p.leads; sized = p.sized; few = p.few }) in
@@ -102,8 +106,9 @@ acts_ok x halted plan ok f =
       few = d.few;
       rises = acts_rise x halted plan (λ m there.
           let kept : IsKept x.role m x.store.records = subst (λ o. Left (IsKept x.role) x.store.records o) there ok.kept in
-          let sized : IsSized m = subst (λ o. IfSome o IsSized) there ok.sized in
+          let sized : IsMemorySized m = subst (λ o. IfSome o IsMemorySized) there ok.sized in
           ((f m there kept sized).rises kept.station.range.counter, kept.station.counter.limit, kept.station.counter.below));
+      from = acts_from x halted plan (λ m there. (f m there (subst (λ o. Left (IsKept x.role) x.store.records o) there ok.kept) (subst (λ o. IfSome o IsMemorySized) there ok.sized)).from);
     }
 
 -- # Frames
@@ -120,8 +125,8 @@ sealed_few (Some g) first units = by_key (sealing_key g)
     by_key None = omega arith
     by_key (Some key) = let same = length-letters g key first units in omega arith
 
-pub waits_little : (m : Memory) → IsSized m → pending m.station ≤ 21
-waits_little m h = pending_bound m.station (record { bodies = h.station.waiting.0; blocks = h.station.waiting.1; datagrams = h.station.short })
+pub waits_little : (m : Memory) → IsMemorySized m → pending m.station ≤ 21
+waits_little m h = pending_bound m.station h.station.waiting
 
 -- # Plans that are made of words
 
@@ -141,11 +146,12 @@ module _ (role : Role) (W : RingWord → Type 0) (L : Granted → Type 0) (P : E
       let both = length-append d.plain (sealed_by d.memory.station.ring d.memory.station.counter.next d.units) in
       omega arith
 
-  pub plan_ok : {H F : Type 0} (ends : Ends F) (K : Memory → H → Type 0) → ((n : Memory) (answer : H) → K n answer → (r : Records) → IsKept role m r → IsKept role n r) → ((n : Memory) (answer : H) → K n answer → IsSized m → IsSized n) → ((n : Memory) (answer : H) → K n answer → n.station.counter ≡ m.station.counter)
-      → (p : Plan Memory (Result H F)) → Planned in_memory ends m K (λ d a. MadeIn W L P E g m d × Few m.station d) p → IsSized m → PlanOk role m p
+  pub plan_ok : {H F : Type 0} (ends : Ends F) (K : Memory → H → Type 0) → ((n : Memory) (answer : H) → K n answer → (r : Records) → IsKept role m r → IsKept role n r) → ((n : Memory) (answer : H) → K n answer → IsMemorySized m → IsMemorySized n) → ((n : Memory) (answer : H) → K n answer → n.station.counter ≡ m.station.counter)
+      → (p : Plan Memory (Result H F)) → Planned in_memory ends m K (λ d a. MadeIn W L P E g m d × Few m.station d) p → IsMemorySized m → PlanOk role m p
   plan_ok ends K kept sized same p s h = record {
     leads = plan_leads role W L P E g m words offers known pairs coordinator grants ends K kept p s (waits_little m h);
-    sized = plan_sized W L P E g m ends K (λ d a. MadeIn W L P E g m d × Few m.station d) sized (λ d answer x. x.0) p s h;
+    sized = plan_sized W L P E g m words ends K (λ d a. MadeIn W L P E g m d × Few m.station d) sized (λ d answer x. x.0) p s h;
     few = plan_few ends K p s (waits_little m h);
     rises = λ fits. plan_rises W L P E g m ends K (λ d a. MadeIn W L P E g m d × Few m.station d) same (λ d answer x. x.0) p s fits;
+    from = plan_from W L P E g m ends K (λ d a. MadeIn W L P E g m d × Few m.station d) (λ d answer x. x.0) p s;
   }

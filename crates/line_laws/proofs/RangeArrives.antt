@@ -18,8 +18,9 @@ use Rattle.node_rules.specs.Coordinators as coordinators
 use Rattle.node_rules.specs.NodeSteps.{NodeStep, acts, of_station, answering}
 use Rattle.line_rules.specs.Steps.{identity, hears, note_by, forged_by, told, ran, trace_of, happened, flights_of, heard, arrives}
 use Rattle.line_rules.specs.Worlds.{Trace, World}
-use Rattle.line_laws.specs.Letters.{OpensWhatItSeals, IsFlight, AreFlights}
-use Rattle.line_laws.specs.Ranges.{IsLoad, IsStationRanged}
+use Rattle.node_rules.specs.Ciphers.{OpensWhatItSeals}
+use Rattle.line_laws.specs.Letters.{IsFlight, AreFlights}
+use Rattle.line_laws.specs.Ranges.{HasRoomInFrames, IsStationRanged}
 use Rattle.line_laws.proofs.Made.{RingWord, Carry}
 use Rattle.line_laws.proofs.StoreMarks.{IsPlain}
 use Rattle.line_laws.proofs.StoreFold.{WordFits}
@@ -44,7 +45,7 @@ pub record JoinsWell (ciphers : Ciphers) (x : Node) (got : Accepted) (cost note 
 
 module _ (ciphers : Ciphers) (opens : OpensWhatItSeals ciphers) (w : World) (are : AreFlights ciphers w.flights) (number : ℕ) (x : Node) (octets : List ℕ) (cost : ℕ) where
   -- what came is in range
-  came_ranged : (got : Accepted) (note : ℕ) → WhatCame ciphers opens w are number x octets cost 1 0 (omega arith) got → (W : RingWord → Type 0) → ((to n : ℕ) (load : Load) → W (Carry to n load) → (to < 0xFFFE) × IsLoad load) → ((v : RingWord) → W v → WordFits v)
+  came_ranged : (got : Accepted) (note : ℕ) → WhatCame ciphers opens w are number x octets cost 1 0 (omega arith) got → (W : RingWord → Type 0) → ((to n : ℕ) (load : Load) → W (Carry to n load) → (to < 0xFFFE) × HasRoomInFrames load) → ((v : RingWord) → W v → WordFits v)
       → InRange W (heard_given got cost note w.clock)
   came_ranged got note (PlainCame plain) W carries words = plain_ranged got cost note w.clock (λ from all key e. subst IsPlain e plain) W carries words
   came_ranged got note (LetterCame l fits from counter is origin) W carries words = heard_ranged l fits from counter got is cost note w.clock W carries words

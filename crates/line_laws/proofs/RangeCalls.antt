@@ -14,7 +14,7 @@ use Rattle.node_rules.specs.Drafts.{Ends, alone, empty_draft}
 use Rattle.node_rules.specs.MemoryDrafts.{in_memory, with_station}
 use Rattle.node_rules.specs.NodeSteps.{of_station}
 use Rattle.node_rules.proofs.MemoryDraftShapes.{whole}
-use Rattle.line_laws.specs.Ranges.{IsLoad, IsStationRanged, IsBody}
+use Rattle.line_laws.specs.Ranges.{HasRoomInFrames, IsStationRanged, IsBody}
 use Rattle.line_laws.proofs.Planned.{Planned, Refuses, Keeps, Ended}
 use Rattle.line_laws.proofs.Made.{Given, RingWord, Carry, Drop, Install, Draw, Activate, Made}
 use Rattle.line_laws.proofs.MadeIn.{MadeIn, Station}
@@ -27,7 +27,7 @@ use Rattle.line_laws.proofs.RangeFrames.{IsSent}
 use Rattle.line_laws.proofs.RangePlans.{RangeOk, plan_ranged}
 
 -- what a call without a frame is given
-pub call_ranged : (W : RingWord → Type 0) (cost note now : ℕ) (near : Option ℕ) → IfSome near (λ by. (by < 0xFFFE) × (cost < 2 ^ 16)) → ((to n : ℕ) (load : Load) → W (Carry to n load) → (to < 0xFFFE) × IsLoad load) → ((w : RingWord) → W w → WordFits w)
+pub call_ranged : (W : RingWord → Type 0) (cost note now : ℕ) (near : Option ℕ) → IfSome near (λ by. (by < 0xFFFE) × (cost < 2 ^ 16)) → ((to n : ℕ) (load : Load) → W (Carry to n load) → (to < 0xFFFE) × HasRoomInFrames load) → ((w : RingWord) → W w → WordFits w)
     → InRange W (record { got = None; cost = cost; note = note; now = now; near = near })
 call_ranged W cost note now near h carries words = record {
   comes = λ by all u c. absurd (no_some _ c.is);
@@ -57,18 +57,18 @@ module _ (m : Memory) (h : IsStationRanged m.station) where
     some : 0 < length datagram
     short : length datagram ≤ 1280
 
-  send_carries : (to note : ℕ) (datagram : List ℕ) → to < 0xFFFE → (t n : ℕ) (load : Load) → IsTheSend to note datagram (Carry t n load) → (t < 0xFFFE) × IsLoad load
+  send_carries : (to note : ℕ) (datagram : List ℕ) → to < 0xFFFE → (t n : ℕ) (load : Load) → IsTheSend to note datagram (Carry t n load) → (t < 0xFFFE) × HasRoomInFrames load
   send_carries to note datagram there t n load c = subst Fits (sym c.is) (there, (c.some, c.short, h.tag))
     where
       Fits : RingWord → Type 0
-      Fits (Carry t n load) = (t < 0xFFFE) × IsLoad load
+      Fits (Carry t n load) = (t < 0xFFFE) × HasRoomInFrames load
       Fits Drop = Unit {0}
       Fits (Install granted) = Unit {0}
       Fits (Draw index key) = Unit {0}
       Fits (Activate index) = Unit {0}
 
   send_words : (to note : ℕ) (datagram : List ℕ) (w : RingWord) → IsTheSend to note datagram w → WordFits w
-  send_words to note datagram w c = subst WordFits (sym c.is) tt
+  send_words to note datagram w c = subst WordFits (sym c.is) (c.some, c.short, h.tag)
 
   pub send_ranged : (to : ℕ) (datagram : List ℕ) (note now : ℕ) → to < 0xFFFE → RangeOk (of_station m (calls.send m.station to datagram note now))
   send_ranged to datagram note now there =

@@ -1,5 +1,5 @@
 -- What the coordinator hears of a letter keeps the ranges.
-use Rattle.std.proofs.Common.{◌≡◌, ℕ, ◌<◌, ◌≤◌, List, length, Some, refl}
+use Rattle.std.proofs.Common.{◌≡◌, ℕ, ◌<◌, ◌≤◌, List, length, Some, refl, arith}
 use Rattle.plc_base.specs.declared.address.Eui.{Eui}
 use Rattle.plc_base.specs.declared.key.Key.{Key}
 use Rattle.joining_messages.specs.declared.message.JoinMessage.{JoinMessage}
@@ -10,7 +10,7 @@ use Rattle.node_rules.specs.Memory.{Memory, Load, Command}
 use Rattle.node_rules.specs.Coordinators as coordinators
 use Rattle.node_rules.specs.Hearing.{dropped}
 use Rattle.node_rules.specs.Joining.{command_of}
-use Rattle.line_laws.specs.Ranges.{IsLoad, IsStationRanged}
+use Rattle.line_laws.specs.Ranges.{HasRoomInFrames, IsStationRanged}
 use Rattle.line_laws.proofs.Made.{Given, RingWord, Carry}
 use Rattle.line_laws.proofs.MemoryDraftForms.{HandedIn}
 use Rattle.line_laws.proofs.CoordinatorForms.{IsReached, IsSaidDown, IsGranted, coordinator_is}
@@ -34,11 +34,11 @@ pub record SpeaksWell (own : coordinators.CoordinatorIdentity) (g : Given) (m : 
 pub data SaysOnly (own : coordinators.CoordinatorIdentity) (g : Given) (m : Memory) : RingWord → Type 0 where
   ToMeter : (to : ℕ) (join : JoinMessage) → IsReached g m to → IsSaidDown HasEight own m join → SaysOnly own g m (Carry to 0 (Command (command_of join)))
 
-pub coordinator_carries : (own : coordinators.CoordinatorIdentity) (g : Given) (m : Memory) → SpeaksWell own g m → (to n : ℕ) (load : Load) → SaysOnly own g m (Carry to n load) → (to < 0xFFFE) × IsLoad load
+pub coordinator_carries : (own : coordinators.CoordinatorIdentity) (g : Given) (m : Memory) → SpeaksWell own g m → (to n : ℕ) (load : Load) → SaysOnly own g m (Carry to n load) → (to < 0xFFFE) × HasRoomInFrames load
 coordinator_carries own g m speaks to n load (ToMeter t join there said) = (speaks.reached t there, speaks.short join said)
 
 pub coordinator_words : (own : coordinators.CoordinatorIdentity) (g : Given) (m : Memory) (w : RingWord) → SaysOnly own g m w → WordFits w
-coordinator_words own g m w (ToMeter to join there said) = tt
+coordinator_words own g m w (ToMeter to join there said) = omega arith
 
 abbrev AnyKey : Eui → Key → Type 0
 AnyKey eui psk = Unit {0}

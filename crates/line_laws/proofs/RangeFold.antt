@@ -25,7 +25,7 @@ use Rattle.node_rules.specs.Frames.{to_all}
 use Rattle.node_rules.specs.Memory.{StationMemory, Body, Load, address_of, next_hop}
 use Rattle.node_rules.specs.Drafts.{Draft, tag_after, all_go, units_of, waits_for, with_rank, with_own_number, with_next_tag, with_ring, with_routing_by, goes, body_goes, waits, leave, numbers_spent}
 use Rattle.line_laws.specs.Letters.{IsFit}
-use Rattle.line_laws.specs.Ranges.{IsLoad, IsBody, HasHop, IsStationRanged, IsOut, IsRanged}
+use Rattle.line_laws.specs.Ranges.{HasRoomInFrames, IsBody, HasHop, IsStationRanged, IsOut, IsRanged}
 use Rattle.line_laws.specs.Stores.{IsReadable}
 use Rattle.line_laws.proofs.StoreFold.{WordFits, ring_fits}
 use Rattle.line_laws.proofs.RangeUnits.{less_fit, less_route, all_out}
@@ -40,7 +40,7 @@ pub record InRange (W : RingWord → Type 0) (g : Given) : Type 0 where
   -- a neighbour that the workshop gives
   pub near : (by : ℕ) → g.near ≡ Some by → (by < 0xFFFE) × (g.cost < 2 ^ 16)
   -- a body that is sent out
-  pub carries : (to note : ℕ) (load : Load) → W (Carry to note load) → (to < 0xFFFE) × IsLoad load
+  pub carries : (to note : ℕ) (load : Load) → W (Carry to note load) → (to < 0xFFFE) × HasRoomInFrames load
   -- a ring that is left is read back
   pub words : (w : RingWord) → W w → WordFits w
 

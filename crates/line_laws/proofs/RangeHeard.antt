@@ -20,9 +20,9 @@ use Rattle.node_rules.specs.Memory.{StationMemory, Memory, Load}
 use Rattle.node_rules.specs.Joining.{command_of}
 use Rattle.node_rules.specs.Hearing.{dropped}
 use Rattle.node_rules.specs.Meters as meters
-use Rattle.node_rules.proofs.Readings.{messages_read}
+use Rattle.loadng_messages.proofs.Readings.{message_read}
 use Rattle.line_laws.specs.Letters.{IsFit, IsRoute, IsLetter}
-use Rattle.line_laws.specs.Ranges.{IsLoad, IsStationRanged}
+use Rattle.line_laws.specs.Ranges.{HasRoomInFrames, IsStationRanged}
 use Rattle.line_laws.proofs.LetterAccepts.{IsOfLetter}
 use Rattle.line_laws.proofs.Made.{Given, IsCome, IsTold, RingWord, Carry}
 use Rattle.line_laws.proofs.HearingForms.{Handed, HandsUp, HandsOn, Gathers, Completes}
@@ -63,15 +63,15 @@ module _ (l : Letter) (fits : IsLetter l) (from counter : ℕ) (got : Accepted) 
   heard_told by all message t =
       let x = comes_of by all (units.Local t.code t.body) t.came in
       let r : IsRoute (units.Local t.code t.body) = subst IsRoute (sym x.1) fits.route in
-      let read : message_in t.body ≡ Some r.1.0 = messages_read r.1.0 t.body (r.1.1, r.1.2) in
+      let read : message_in t.body ≡ Some r.1.0 = message_read r.1.0 t.body (r.1.1, r.1.2) in
       subst messages.IsMessage (same_Some r.1.0 message (sym read ∙ t.read)) r.1.1
 
-  pub heard_ranged : (W : RingWord → Type 0) → ((to n : ℕ) (load : Load) → W (Carry to n load) → (to < 0xFFFE) × IsLoad load) → ((w : RingWord) → W w → WordFits w) → InRange W heard
+  pub heard_ranged : (W : RingWord → Type 0) → ((to n : ℕ) (load : Load) → W (Carry to n load) → (to < 0xFFFE) × HasRoomInFrames load) → ((w : RingWord) → W w → WordFits w) → InRange W heard
   heard_ranged W carries words = record { comes = heard_fits; told = heard_told; near = λ by e. absurd (cc); carries = carries; words = words }
 
 -- a plain frame brings no unit
 pub plain_ranged : (got : Accepted) (cost note now : ℕ) → ((from : ℕ) (all : Bool) (key : Key) → got.path ≡ paths.Sealed from all key → ⊥) → (W : RingWord → Type 0)
-    → ((to n : ℕ) (load : Load) → W (Carry to n load) → (to < 0xFFFE) × IsLoad load) → ((w : RingWord) → W w → WordFits w) → InRange W (heard_given got cost note now)
+    → ((to n : ℕ) (load : Load) → W (Carry to n load) → (to < 0xFFFE) × HasRoomInFrames load) → ((w : RingWord) → W w → WordFits w) → InRange W (heard_given got cost note now)
 plain_ranged got cost note now plain W carries words = record {
   comes = λ by all u c. absurd (plain by all c.key (ap (λ (x : Accepted). x.path) (same_Some got c.got c.is) ∙ c.path));
   told = λ by all message t. absurd (plain by all t.came.key (ap (λ (x : Accepted). x.path) (same_Some got t.came.got t.came.is) ∙ t.came.path));
@@ -96,7 +96,7 @@ handed_ranged word g m n answer (ByStation l a k) h = of_station_handed g m.stat
 abbrev pub SaysShort : meters.Identity → Memory → Type 0
 SaysShort x m = (join : JoinMessage) → IsSaidUp x m join → length (command_of join) ≤ 375
 
-pub meter_carries : (g : Given) (x : meters.Identity) (m : Memory) → SaysShort x m → (to n : ℕ) (load : Load) → RingCause g x m (Carry to n load) → (to < 0xFFFE) × IsLoad load
+pub meter_carries : (g : Given) (x : meters.Identity) (m : Memory) → SaysShort x m → (to n : ℕ) (load : Load) → RingCause g x m (Carry to n load) → (to < 0xFFFE) × HasRoomInFrames load
 meter_carries g x m short to n load (ToCoordinator join said) = (omega arith, short join said)
 
 pub meter_hears_ranged : (x : meters.Identity) (m : Memory) (got : Accepted) (cost note now : ℕ) → InRange (RingCause (heard_given got cost note now) x m) (heard_given got cost note now) → IsStationRanged m.station → RangeOk (meters.hear_meter x m got cost note now)

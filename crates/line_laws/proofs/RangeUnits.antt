@@ -16,7 +16,7 @@ use Rattle.fragment_buffers.specs.Cutting.{piece_of, cut}
 use Rattle.node_rules.specs.Memory.{Load, Datagram, Command}
 use Rattle.node_rules.specs.Drafts.{own_mesh, units_of, all_go}
 use Rattle.line_laws.specs.Letters.{IsFit, IsRoute}
-use Rattle.line_laws.specs.Ranges.{IsLoad, IsOut}
+use Rattle.line_laws.specs.Ranges.{HasRoomInFrames, IsOut}
 use Rattle.line_laws.proofs.Made.{IsLess, Whole, Part, Carried}
 
 -- # Lengths
@@ -130,7 +130,7 @@ module _ (own to : ℕ) (here : own < 0xFFFE) (there : to < 0xFFFE) where
       let within : k < div_ceil (length d) 368 = omega (arith, length-range_with_len 0 (div_ceil (length d) 368)) in
       subst (λ (j : ℕ). IsFit (units.Part (own_mesh own to) (piece_of d tag j))) (sym (get_or-range_with_len 0 (div_ceil (length d) 368) k e within ∙ omega arith)) (part_fit d tag k above below low within)))
 
-  pub units_fit : (load : Load) → IsLoad load → All IsFit (units_of own to load)
+  pub units_fit : (load : Load) → HasRoomInFrames load → All IsFit (units_of own to load)
   unfolding cut
   units_fit (Command octets) h = All-cons IsFit _ [] (record {
     fields = own_is;
@@ -153,6 +153,6 @@ module _ (own to : ℕ) (here : own < 0xFFFE) (there : to < 0xFFFE) where
       by_size true pieces = All-cons IsRoute _ [] tt (All-nil IsRoute)
       by_size false pieces = All-map IsRoute (λ piece. units.Part (own_mesh own to) piece) pieces (λ k p lt. tt)
 
-  pub all_out : (hop note : ℕ) (load : Load) → hop < 0xFFFE → IsLoad load → All IsOut (all_go hop note (units_of own to load))
+  pub all_out : (hop note : ℕ) (load : Load) → hop < 0xFFFE → HasRoomInFrames load → All IsOut (all_go hop note (units_of own to load))
   all_out hop note load short h = All-map IsOut (λ unit. record { to = hop; unit = unit; note = note }) (units_of own to load)
       (λ k u lt. record { to = (omega arith, omega arith); unit = units_fit load h k u lt; route = routeless load k u lt })

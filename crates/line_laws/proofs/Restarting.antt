@@ -1,5 +1,5 @@
 -- What the records give again, after a restart.
-use Rattle.std.proofs.Common.{◌≡◌, true, List, [], ◌∷◌, map, Result, Ok, refl, sym, ap, ◌∙◌, subst, arith}
+use Rattle.std.proofs.Common.{◌≡◌, ◌<◌, true, List, [], ◌∷◌, map, Result, Ok, refl, sym, ap, ◌∙◌, subst, arith, ◌^◌}
 use Rattle.std.proofs.lemmas.List.Elements.{All-nil}
 use Rattle.plc_base.specs.Keeper.{Records}
 use Rattle.plc_base.specs.SlotTables as slots
@@ -15,9 +15,9 @@ use Rattle.routing_set.specs.OwnNumber as own_number
 use Rattle.routing_set.proofs.Histories.{opened_again}
 use Rattle.node_rules.specs.Memory.{StationMemory, Body, Memory, Role, Coordinator, Meter}
 use Rattle.node_rules.specs.StoreReading.{station_of, memory_of, remembering}
-use Rattle.node_rules.specs.Laws.{IsShort}
+use Rattle.node_rules.specs.Laws.{IsShort, IsLoad}
 use Rattle.line_laws.specs.Stores.{IsStationKept, IsNamed, IsKept}
-use Rattle.line_laws.specs.Sizes.{IsSized}
+use Rattle.line_laws.specs.Sizes.{IsMemorySized}
 use Rattle.line_laws.proofs.StoreFold.{ended_kept}
 
 -- a line as its records give it
@@ -75,13 +75,13 @@ pub record Again (role : Role) (r : Records) : Type 0 where
   pub memory : Memory
   pub is : memory_of role r ≡ Ok memory
   pub kept : IsKept role memory r
-  pub sized : IsSized memory
+  pub sized : IsMemorySized memory
   pub next : memory.station.counter.next ≡ counter.stored_limit r
 
-rested_sized : (l : StationMemory) (b : book.Book) → IsSized (remembering (rested l) b)
+rested_sized : (l : StationMemory) (b : book.Book) → l.next_tag < 2 ^ 16 → IsMemorySized (remembering (rested l) b)
 unfolding rested
-rested_sized l b = record {
-  station = record { reassemblies = (omega arith, omega arith); waiting = (omega arith, omega arith); short = All-nil (λ (x : Body). IsShort x.load) };
+rested_sized l b low = record {
+  station = record { reassemblies = (omega arith, omega arith); waiting = record { bodies = omega arith; blocks = omega arith; datagrams = All-nil (λ (x : Body). IsShort x.load) }; loads = All-nil (λ (x : Body). IsLoad x.load); tag = low };
   sessions = omega arith;
   randoms = omega arith;
 }
@@ -95,7 +95,7 @@ again (Meter psk) m r k = record {
   memory = remembering (rested m.station) [];
   is = rw (station_again m.station r k.station) refl;
   kept = record { station = rested_kept m.station r k.station; book = refl; sessions = All-nil IsNamed };
-  sized = rested_sized m.station [];
+  sized = rested_sized m.station [] k.station.range.tag;
   next = next_again m.station r k.station;
 }
 again Coordinator m r k =
@@ -104,7 +104,7 @@ again Coordinator m r k =
       memory = remembering (rested m.station) m.book;
       is = rw (station_again m.station r k.station, opened) refl;
       kept = record { station = rested_kept m.station r k.station; book = k.book; sessions = All-nil IsNamed };
-      sized = rested_sized m.station m.book;
+      sized = rested_sized m.station m.book k.station.range.tag;
       next = next_again m.station r k.station;
     }
   where

@@ -9,7 +9,7 @@ use Rattle.std.proofs.lemmas.Option.{slice_get-get_or, same_Some}
 use Rattle.node_rules.specs.Ciphers.{Ciphers}
 use Rattle.node_rules.specs.Frames.{Sent, Sealed, Up, Down, spelled}
 use Rattle.line_rules.specs.Worlds.{Flight}
-use Rattle.line_rules.specs.Runs.{NonceParts, nonce_parts, CounterRises}
+use Rattle.line_rules.specs.Nonces.{NonceParts, nonce_parts, CounterRises}
 use Rattle.line_rules.specs.Steps.{flight_by}
 use Rattle.line_laws.specs.Owed.{KeepsRanges}
 use Rattle.line_laws.proofs.HeadsSaid.{sealed_counter, up_nonce, down_nonce}

@@ -28,7 +28,8 @@ use Rattle.loadng_messages.specs.declared.message.Message.{Message}
 use Rattle.loadng_messages.specs.Grammar as messages
 use Rattle.node_rules.specs.Ciphers.{Ciphers}
 use Rattle.node_rules.specs.Frames.{Letter, Sealed, Arrived, head_of, spelled, arrived, arrived_with}
-use Rattle.node_rules.proofs.Readings.{messages_read, units_read}
+use Rattle.loadng_messages.proofs.Readings.{message_read}
+use Rattle.mesh_header.proofs.Readings.{unit_read}
 use Rattle.line_laws.specs.Loops.{LetterRead}
 
 -- what is sealed into a frame is opened of it, under the same key
@@ -58,8 +59,8 @@ letter_read ciphers seals letter fits = record {
       = ap (λ (x : Arrived). x.opened letter.key) (sym this) ∙ ap (λ k. ciphers.opens letter.key k (take 15 octets) (body_in octets)) head_is
       ∙ ap (λ b. ciphers.opens letter.key (head_of letter) (take 15 octets) b) body_is ∙ text in
       let payload_is : payload ≡ spelling letter.unit = same_Some _ _ (sym opened ∙ found) in
-      (cc (sender), units_read letter.unit payload (fits.unit, payload_is));
-  messages = λ message is. messages_read message (messages.spelling message) (fits.message message is, refl);
+      (cc (sender), unit_read letter.unit payload (fits.unit, payload_is));
+  messages = λ message is. message_read message (messages.spelling message) (fits.message message is, refl);
 }
 
 -- # The ciphers of the network

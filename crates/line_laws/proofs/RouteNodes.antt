@@ -34,7 +34,7 @@ use Rattle.line_rules.specs.Steps.{restarts, memory_by, ticked, blank_node, coor
 use Rattle.node_rules.specs.Coordinators as coordinator_rules
 use Rattle.node_rules.proofs.Writing.{clean}
 use Rattle.line_laws.specs.Stores.{IsKept}
-use Rattle.line_laws.specs.Sizes.{IsSized}
+use Rattle.line_laws.specs.Sizes.{IsMemorySized}
 use Rattle.line_laws.proofs.Keeping.{Left}
 use Rattle.line_laws.proofs.Nodes.{NodeOk}
 use Rattle.line_laws.proofs.StepsOk.{blank_ok}
@@ -47,7 +47,7 @@ use Rattle.line_laws.specs.Loops.{ranks_in, stored}
 
 -- what holds of the frames of a plan holds of those that go out
 pub acts_frames : {A : Type 0} (P : Sent → Type 0) (x : Node) (halted : A) (plan : Memory → Plan Memory A) → NodeOk x
-    → ((m : Memory) → x.memory ≡ Some m → IsKept x.role m x.store.records → IsSized m → All P (plan m).frames) → All P (acts x halted plan).frames
+    → ((m : Memory) → x.memory ≡ Some m → IsKept x.role m x.store.records → IsMemorySized m → All P (plan m).frames) → All P (acts x halted plan).frames
 unfolding acts
 acts_frames {A = A} P x halted plan ok f = by_memory x.memory refl ok.kept ok.sized
   where
@@ -57,7 +57,7 @@ acts_frames {A = A} P x halted plan ok f = by_memory x.memory refl ok.kept ok.si
         (λ (c : IsCutOff x.store.records x.store.cut (plan m) (carry_out x.store.records x.store.cut (plan m))). rw c.frames (All-nil P))
         (clean x.store.records x.store.cut (plan m))
 
-    by_memory : (o : Option Memory) → x.memory ≡ o → Left (IsKept x.role) x.store.records o → IfSome o IsSized
+    by_memory : (o : Option Memory) → x.memory ≡ o → Left (IsKept x.role) x.store.records o → IfSome o IsMemorySized
         → let d : NodeStep A = option_map_or (λ m. left_by x (carry_out x.store.records x.store.cut (plan m))) o (stays x halted) in All P d.frames
     by_memory None e kept sized = All-nil P
     by_memory (Some m) e kept sized = by_plan m (f m e kept sized)

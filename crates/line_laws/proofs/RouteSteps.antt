@@ -45,7 +45,7 @@ use Rattle.line_rules.specs.Worlds.{World, Flight, Trace, node_at, flight_at, is
 use Rattle.line_rules.specs.Steps.{Step, set_up, ran, told, acted, once_begun, in_setup, has_begun, takes_setup, on_node, on_meter, made_node, blank_node, identity, hears, restarts, ticked, rand, join, joins_by, leave, send, sends_by, sent_if, breaks, breaks_by, lose, tick, restart, cut, show, psk_of, trace_of, happened, coordinator, coordinator_node, meter, is_known, depot, depot_by, provisioned, near, near_by, keeps_rank, ranks_full, offered_near, preset, allow, allowed, deliver, inject, arrives, accepted_by, received, by_coordinator, forged_by, note_by, rekey, challenge, activate, kick, step}
 use Rattle.node_rules.specs.NodeSteps.{NodeStep, acts, answering, of_station, changing}
 use Rattle.line_laws.specs.Stores.{IsReadable, IsKept}
-use Rattle.line_laws.specs.Sizes.{IsSized}
+use Rattle.line_laws.specs.Sizes.{IsMemorySized}
 use Rattle.line_laws.specs.Owed.{AreOctets, KeepsRanges}
 use Rattle.line_laws.proofs.Keeping.{Left}
 use Rattle.line_laws.proofs.Nodes.{NodeOk, DidOk, acts_ok}
@@ -147,7 +147,7 @@ module _ (ciphers : Ciphers) (h : Homes) where
 
   -- one call of a node, told to a world u
   one_call : {A : Type 0} (w u : World) (addressed : Addressed h w) (number : ℕ) (x : Node) (halted : A) (plan : Memory → Plan Memory A) → node_at w number ≡ Some x → NodeOk x
-      → ((m : Memory) → IsAt (At h number) (address_of m.station) → IsKept x.role m x.store.records → IsSized m → PlanRanks (At h number) (Own h number) (IsNearer h u) m (plan m))
+      → ((m : Memory) → IsAt (At h number) (address_of m.station) → IsKept x.role m x.store.records → IsMemorySized m → PlanRanks (At h number) (Own h number) (IsNearer h u) m (plan m))
       → ((m : Memory) → x.memory ≡ Some m → Reads ciphers (plan m))
       → CallHolds u number x (acts x halted plan)
   unfolding CallHolds
@@ -156,8 +156,8 @@ module _ (ciphers : Ciphers) (h : Homes) where
     acts_frames (FrameRead ciphers) x halted plan ok (λ m is kept sized. reads m is),
   )
     where
-      sized_of : (m : Memory) → x.memory ≡ Some m → IsSized m
-      sized_of m is = subst (λ o. IfSome o IsSized) is ok.sized
+      sized_of : (m : Memory) → x.memory ≡ Some m → IsMemorySized m
+      sized_of m is = subst (λ o. IfSome o IsMemorySized) is ok.sized
 
 -- # Events
 
@@ -210,7 +210,7 @@ module _ (ciphers : Ciphers) (fits : KeepsRanges ciphers) (h : Homes) (w : World
 
   -- a call of one node
   call : {A : Type 0} (u : World) (number : ℕ) (x : Node) (halted : A) (plan : Memory → Plan Memory A) → node_at w number ≡ Some x
-      → ((m : Memory) → IsAt (At h number) (address_of m.station) → IsKept x.role m x.store.records → IsSized m → PlanRanks (At h number) (Own h number) (IsNearer h u) m (plan m))
+      → ((m : Memory) → IsAt (At h number) (address_of m.station) → IsKept x.role m x.store.records → IsMemorySized m → PlanRanks (At h number) (Own h number) (IsNearer h u) m (plan m))
       → ((m : Memory) → x.memory ≡ Some m → Reads ciphers (plan m))
       → CallHolds ciphers h u number x (acts x halted plan)
   call u number x halted plan there ranks read = one_call ciphers h w u homes.addressed number x halted plan there (node_ok number x there) ranks read

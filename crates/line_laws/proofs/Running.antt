@@ -1,5 +1,5 @@
 -- The laws of every run.
-use Rattle.std.proofs.Common.{◌≡◌, ℕ, ◌+◌, ◌≤◌, Bool, true, false, List, [], ◌∷◌, length, Option, Some, None, Ok, Err, refl, ap, subst, arith}
+use Rattle.std.proofs.Common.{◌≡◌, ℕ, ◌≤◌, Bool, true, false, List, [], ◌∷◌, length, Option, Some, None, Ok, Err, refl, ap, subst, arith}
 use Rattle.std.specs.Prelude.{All, AllPairs, IfSome, if◌then◌else◌}
 use Rattle.std.specs.Option.{option_map_or}
 use Rattle.std.proofs.lemmas.List.Elements.{All-nil, All-cons, All-head, All-tail, All-weaker}
@@ -9,16 +9,19 @@ use Rattle.line_rules.specs.declared.event.Event.TheVariants as events
 use Rattle.line_rules.specs.declared.event.Answer.TheVariants as said
 use Rattle.line_rules.specs.declared.event.StepFault.TheVariants as faults
 use Rattle.node_rules.specs.Ciphers.{Ciphers}
-use Rattle.line_rules.specs.Events.{IsEvent}
+use Rattle.line_rules.specs.Events.{IsEvent, AreEvents}
 use Rattle.node_rules.specs.Memory.{Memory, Role, Coordinator, Meter, Node}
 use Rattle.line_rules.specs.Worlds.{World, node_at, start}
-use Rattle.line_rules.specs.Runs as runs
-use Rattle.line_rules.specs.Runs.{Entry, IsRun, IsAlwaysSized, is_restart, RestartsAreAnswered}
+use Rattle.line_rules.specs.Nonces as nonces
+use Rattle.line_rules.specs.SafeRuns.{IsSized}
+use Rattle.node_rules.specs.Laws.{IsWithinSizes}
+use Rattle.line_rules.specs.Runs.{Entry, IsRun, events_of}
+use Rattle.line_rules.specs.SafeRuns.{IsAlwaysSized, is_restart, RestartsAreAnswered}
 use Rattle.line_rules.specs.Steps.{Step, step, restart, restarts, restart_word, acted, has_begun}
 use Rattle.line_laws.specs.Stores.{IsKept}
-use Rattle.line_laws.specs.Sizes.{IsSized}
+use Rattle.line_laws.specs.Sizes.{IsMemorySized}
 use Rattle.line_laws.specs.Owed.{KeepsRanges}
-use Rattle.line_laws.specs.Laws.{AreSaid, FlightsAreOctets, IsSpelled, EveryFlightIsSpelled, EveryCounterRises, AddsUp, EveryFlightIsTold, EveryRunIsSized, EveryRestartIsAnswered}
+use Rattle.line_laws.specs.Laws.{FlightsAreOctets, EveryCounterRises, EveryRunIsSized, EveryRestartIsAnswered}
 use Rattle.line_laws.proofs.Keeping.{Left}
 use Rattle.line_laws.proofs.Nodes.{NodeOk}
 use Rattle.line_laws.proofs.Worlds.{none_rising, NodeFits, FlightFits, WorldOk, at_place}
@@ -36,26 +39,19 @@ good : (w : World) (s : Step) → StepGood w s → Good s
 good w s (Fails fault) = tt
 good w s (Taken r ok few is) = (ok, few)
 
-abbrev Told : World → Step → Type 0
-Told w (Ok r) = length r.0.flights ≡ length w.flights + r.1.happened.flights
-Told w (Err fault) = Unit {0}
-
-told : (w : World) (s : Step) → StepGood w s → Told w s
-told w s (Fails fault) = tt
-told w s (Taken r ok few is) = is
-
 pub taken_good : (ciphers : Ciphers) → KeepsRanges ciphers → (w : World) → WorldOk w → All FlightFits w.flights → (x : Entry) → IsEvent x.event → step ciphers w x.event ≡ Ok (x.after, x.trace) → WorldOk x.after × (x.trace.happened.flights ≤ 24)
 taken_good ciphers fits w ok flown x says e = subst Good e (good w _ (step_good ciphers fits w ok flown x.event says))
 
 -- # Sizes
 
-memory_sized : (role : Role) (m : Memory) (r : Records) → IsKept role m r → IsSized m → runs.IsWithinSizes m
+memory_sized : (role : Role) (m : Memory) (r : Records) → IsKept role m r → IsMemorySized m → IsWithinSizes m
 memory_sized role m r k h = record {
   peers = k.station.range.marks.short;
   ranks = k.station.range.routing.entries.short;
   floors = k.station.range.routing.sixteen;
   reassemblies = h.station.reassemblies;
   waiting = h.station.waiting;
+  loads = h.station.loads;
   sessions = h.sessions;
   randoms = h.randoms;
   book = by_role role k;
@@ -65,33 +61,33 @@ memory_sized role m r k h = record {
     by_role Coordinator k = k.book.table.short
     by_role (Meter psk) k = rw k.book (omega arith)
 
-node_sized : (x : Node) → NodeOk x → IfSome x.memory runs.IsWithinSizes
+node_sized : (x : Node) → NodeOk x → IfSome x.memory IsWithinSizes
 node_sized x ok = by_memory x.memory ok.kept ok.sized
   where
-    by_memory : (o : Option Memory) → Left (IsKept x.role) x.store.records o → IfSome o IsSized → IfSome o runs.IsWithinSizes
+    by_memory : (o : Option Memory) → Left (IsKept x.role) x.store.records o → IfSome o IsMemorySized → IfSome o IsWithinSizes
     by_memory None k h = tt
     by_memory (Some m) k h = memory_sized x.role m x.store.records k h
 
 abbrev NodeSized : Node → Type 0
-NodeSized x = IfSome x.memory runs.IsWithinSizes
+NodeSized x = IfSome x.memory IsWithinSizes
 
-world_sized : (w : World) → WorldOk w → runs.IsSized w
+world_sized : (w : World) → WorldOk w → IsSized w
 world_sized w ok = record { nodes = ok.count; memories = All-weaker NodeOk NodeSized node_sized w.nodes ok.nodes }
 
 abbrev EntryFlies : Entry → Type 0
 EntryFlies x = All FlightFits x.after.flights
 
 abbrev EntrySized : Entry → Type 0
-EntrySized x = runs.IsSized x.after × (x.trace.happened.flights ≤ 24)
+EntrySized x = IsSized x.after × (x.trace.happened.flights ≤ 24)
 
-sized_from : (ciphers : Ciphers) → KeepsRanges ciphers → (w : World) → WorldOk w → All FlightFits w.flights → (entries : List Entry) → AreSaid entries → FlightsAreOctets entries → IsRun ciphers w entries → IsAlwaysSized entries
+sized_from : (ciphers : Ciphers) → KeepsRanges ciphers → (w : World) → WorldOk w → All FlightFits w.flights → (entries : List Entry) → AreEvents (events_of entries) → FlightsAreOctets entries → IsRun ciphers w entries → IsAlwaysSized entries
 sized_from ciphers fits w ok flown [] says fly run = All-nil EntrySized
 sized_from ciphers fits w ok flown (x ∷ xs) says fly run =
-    let g = taken_good ciphers fits w ok flown x (All-head (λ (y : Entry). IsEvent y.event) x xs says) run.2 in
-    All-cons EntrySized x xs (world_sized x.after g.0, g.1) (sized_from ciphers fits x.after g.0 (All-head EntryFlies x xs fly) xs (All-tail (λ (y : Entry). IsEvent y.event) x xs says) (All-tail EntryFlies x xs fly) run.3)
+    let g = taken_good ciphers fits w ok flown x (All-head IsEvent x.event (events_of xs) says) run.2 in
+    All-cons EntrySized x xs (world_sized x.after g.0, g.1) (sized_from ciphers fits x.after g.0 (All-head EntryFlies x xs fly) xs (All-tail IsEvent x.event (events_of xs) says) (All-tail EntryFlies x xs fly) run.3)
 
 pub every_run : EveryRunIsSized
-every_run ciphers fits entries says fly run = sized_from ciphers fits start start_ok (All-nil FlightFits) entries says fly run
+every_run ciphers fits entries r fly = sized_from ciphers fits start start_ok (All-nil FlightFits) entries r.events fly r.run
 
 -- # Restarts
 
@@ -121,53 +117,25 @@ module _ (ciphers : Ciphers) (w : World) (ok : WorldOk w) where
 abbrev EntryAnswered : Entry → Type 0
 EntryAnswered x = is_restart x.event ≡ true → x.trace.happened.answer ≡ said.Restarted
 
-answered_from : (ciphers : Ciphers) → KeepsRanges ciphers → (w : World) → WorldOk w → All FlightFits w.flights → (entries : List Entry) → AreSaid entries → FlightsAreOctets entries → IsRun ciphers w entries → RestartsAreAnswered entries
+answered_from : (ciphers : Ciphers) → KeepsRanges ciphers → (w : World) → WorldOk w → All FlightFits w.flights → (entries : List Entry) → AreEvents (events_of entries) → FlightsAreOctets entries → IsRun ciphers w entries → RestartsAreAnswered entries
 answered_from ciphers fits w ok flown [] says fly run = All-nil EntryAnswered
 answered_from ciphers fits w ok flown (x ∷ xs) says fly run =
-    let g = taken_good ciphers fits w ok flown x (All-head (λ (y : Entry). IsEvent y.event) x xs says) run.2 in
-    All-cons EntryAnswered x xs (λ e. subst (Answered ciphers w ok) run.2 (event_answered ciphers w ok x.event e)) (answered_from ciphers fits x.after g.0 (All-head EntryFlies x xs fly) xs (All-tail (λ (y : Entry). IsEvent y.event) x xs says) (All-tail EntryFlies x xs fly) run.3)
+    let g = taken_good ciphers fits w ok flown x (All-head IsEvent x.event (events_of xs) says) run.2 in
+    All-cons EntryAnswered x xs (λ e. subst (Answered ciphers w ok) run.2 (event_answered ciphers w ok x.event e)) (answered_from ciphers fits x.after g.0 (All-head EntryFlies x xs fly) xs (All-tail IsEvent x.event (events_of xs) says) (All-tail EntryFlies x xs fly) run.3)
 
 pub every_restart : EveryRestartIsAnswered
-every_restart ciphers fits entries says fly run = answered_from ciphers fits start start_ok (All-nil FlightFits) entries says fly run
-
--- # Flights
-
-adds_up_from : (ciphers : Ciphers) → KeepsRanges ciphers → (w : World) → WorldOk w → All FlightFits w.flights → (entries : List Entry) → AreSaid entries → FlightsAreOctets entries → IsRun ciphers w entries → AddsUp w entries
-adds_up_from ciphers fits w ok flown [] says fly run = tt
-adds_up_from ciphers fits w ok flown (x ∷ xs) says fly run =
-    let event = All-head (λ (y : Entry). IsEvent y.event) x xs says in
-    let g = taken_good ciphers fits w ok flown x event run.2 in (
-      subst (Told w) run.2 (told w _ (step_good ciphers fits w ok flown x.event event)),
-      adds_up_from ciphers fits x.after g.0 (All-head EntryFlies x xs fly) xs (All-tail (λ (y : Entry). IsEvent y.event) x xs says) (All-tail EntryFlies x xs fly) run.3,
-    )
-
-pub every_flight : EveryFlightIsTold
-every_flight ciphers fits entries says fly run = adds_up_from ciphers fits start start_ok (All-nil FlightFits) entries says fly run
+every_restart ciphers fits entries r fly = answered_from ciphers fits start start_ok (All-nil FlightFits) entries r.events fly r.run
 
 -- # Counters
 
 abbrev EntryRises : Entry → Type 0
-EntryRises x = AllPairs runs.CounterRises x.after.flights
+EntryRises x = AllPairs nonces.CounterRises x.after.flights
 
-counters_from : (ciphers : Ciphers) → KeepsRanges ciphers → (w : World) → WorldOk w → All FlightFits w.flights → (entries : List Entry) → AreSaid entries → FlightsAreOctets entries → IsRun ciphers w entries → runs.CountersRise entries
+counters_from : (ciphers : Ciphers) → KeepsRanges ciphers → (w : World) → WorldOk w → All FlightFits w.flights → (entries : List Entry) → AreEvents (events_of entries) → FlightsAreOctets entries → IsRun ciphers w entries → nonces.CountersRise entries
 counters_from ciphers fits w ok flown [] says fly run = All-nil EntryRises
 counters_from ciphers fits w ok flown (x ∷ xs) says fly run =
-    let g = taken_good ciphers fits w ok flown x (All-head (λ (y : Entry). IsEvent y.event) x xs says) run.2 in
-    All-cons EntryRises x xs g.0.rising.pairs (counters_from ciphers fits x.after g.0 (All-head EntryFlies x xs fly) xs (All-tail (λ (y : Entry). IsEvent y.event) x xs says) (All-tail EntryFlies x xs fly) run.3)
+    let g = taken_good ciphers fits w ok flown x (All-head IsEvent x.event (events_of xs) says) run.2 in
+    All-cons EntryRises x xs g.0.rising.pairs (counters_from ciphers fits x.after g.0 (All-head EntryFlies x xs fly) xs (All-tail IsEvent x.event (events_of xs) says) (All-tail EntryFlies x xs fly) run.3)
 
 pub every_counter : EveryCounterRises
-every_counter ciphers fits entries says fly run = counters_from ciphers fits start start_ok (All-nil FlightFits) entries says fly run
-
--- # Heads
-
-abbrev EntrySpelled : Entry → Type 0
-EntrySpelled x = All IsSpelled x.after.flights
-
-spelled_from : (ciphers : Ciphers) → KeepsRanges ciphers → (w : World) → WorldOk w → All FlightFits w.flights → (entries : List Entry) → AreSaid entries → FlightsAreOctets entries → IsRun ciphers w entries → All EntrySpelled entries
-spelled_from ciphers fits w ok flown [] says fly run = All-nil EntrySpelled
-spelled_from ciphers fits w ok flown (x ∷ xs) says fly run =
-    let g = taken_good ciphers fits w ok flown x (All-head (λ (y : Entry). IsEvent y.event) x xs says) run.2 in
-    All-cons EntrySpelled x xs g.0.rising.heads (spelled_from ciphers fits x.after g.0 (All-head EntryFlies x xs fly) xs (All-tail (λ (y : Entry). IsEvent y.event) x xs says) (All-tail EntryFlies x xs fly) run.3)
-
-pub every_head : EveryFlightIsSpelled
-every_head ciphers fits entries says fly run = spelled_from ciphers fits start start_ok (All-nil FlightFits) entries says fly run
+every_counter ciphers fits entries r fly = counters_from ciphers fits start start_ok (All-nil FlightFits) entries r.events fly r.run

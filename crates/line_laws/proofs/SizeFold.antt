@@ -1,5 +1,5 @@
 -- What each word leaves is within the sizes.
-use Rattle.std.proofs.Common.{◌≡◌, ℕ, ◌+◌, ◌≤◌, ◌<◌, Bool, true, false, ◌⊎◌, inl, inr, List, [], ◌∷◌, ◌++◌, length, set, drop, Option, Some, None, Result, refl, sym, ap, ◌∙◌, arith}
+use Rattle.std.proofs.Common.{◌≡◌, ℕ, ◌+◌, ◌%◌, ◌≤◌, ◌<◌, ◌^◌, Bool, true, false, ◌⊎◌, inl, inr, List, [], ◌∷◌, ◌++◌, length, set, drop, Option, Some, None, Result, refl, sym, ap, ◌∙◌, arith}
 use Rattle.std.specs.Prelude.{if◌then◌else◌, is_some, ◌==◌, ◌&&◌, ◌||◌, nat_lt, nat_le, not, slice_get, position, get_or}
 use Rattle.std.specs.List.{filter, sum_by, list_any}
 use Rattle.std.specs.Option.{option_map_or, option_and_then}
@@ -18,16 +18,17 @@ use Rattle.fragment_buffers.specs.Taking as pieces
 use Rattle.fragment_buffers.specs.Reassembly.{PlacedPiece, Reassembly, placed, begun as piece_begun, datagram_of, repeats, overlaps}
 use Rattle.mesh_header.specs.Pieces.{Placed}
 use Rattle.node_rules.specs.declared.heard.Heard.{Heard}
-use Rattle.node_rules.specs.Memory.{StationMemory, Body, Memory, CoordinatorSession, load_octets}
+use Rattle.node_rules.specs.Memory.{StationMemory, Body, Load, Datagram, Command, Memory, CoordinatorSession, load_octets}
 use Rattle.node_rules.specs.Plans.{Plan, resting}
 use Rattle.node_rules.specs.Drafts.{Draft, Ends, empty_draft, waits_for, no_room, blocks_waiting, with_rank, with_own_number, with_next_tag, with_ring, with_routing_by, goes, body_goes, waits, leave}
 use Rattle.node_rules.specs.MemoryDrafts.{in_memory, on_station, station_part, with_memory_by, with_pair_tags, goes_up, goes_down}
 use Rattle.node_rules.specs.Coordinators as coordinators
 use Rattle.node_rules.specs.Coordinators.{with_book_entry}
-use Rattle.node_rules.specs.Laws.{IsShort}
-use Rattle.line_laws.specs.Sizes.{IsStationSized, IsSized}
+use Rattle.node_rules.specs.Laws.{IsShort, WaitingFits, IsLoad}
+use Rattle.line_laws.specs.Sizes.{IsStationSized, IsMemorySized}
 use Rattle.line_laws.proofs.Planned.{Planned, Refuses, Keeps, Ended}
-use Rattle.line_laws.proofs.Made.{RingWord, Given, Made, Starts, Ranks, Numbers, Tags, Rings, Idles, Loses, Goes, Sends, Waits, Leaves}
+use Rattle.line_laws.proofs.StoreFold.{WordFits}
+use Rattle.line_laws.proofs.Made.{RingWord, Carry, Given, Made, Starts, Ranks, Numbers, Tags, Rings, Idles, Loses, Goes, Sends, Waits, Leaves}
 use Rattle.line_laws.proofs.MadeIn.{unheard, MadeIn, Begins, Station, OnStation, Remembers, Tags as TagsIn, Enters, Up, Down, Beside, Ends as EndsIn, Asks, Replies, Opens, Answers, Closes, Gives}
 use Rattle.line_laws.proofs.HearingForms.{Handed, HandsUp, HandsOn, Gathers, Completes}
 
@@ -116,15 +117,29 @@ has_room l octets = by_tests (nat_lt (length l.waiting) 8) (nat_lt 80 (blocks_wa
     by_tests true true ea eb e = absurd (cc)
     by_tests false b ea eb e = absurd (cc)
 
-waits_sized : (l : StationMemory) (b : Body) → no_room l (length (load_octets b.load)) ≡ false → IsShort b.load → IsStationSized l → IsStationSized (record l { waiting = l.waiting ++ b ∷ [] })
-waits_sized l b room short h =
+-- a load is short
+load_short : (load : Load) → IsLoad load → IsShort load
+load_short (Datagram octets tag) h = h.1
+load_short (Command octets) h = tt
+
+-- what waits may fit beside another part of the memory
+same_waiting : (l k : StationMemory) → k.waiting ≡ l.waiting → WaitingFits l → WaitingFits k
+same_waiting l k e w = record { bodies = rw e w.bodies; blocks = rw e w.blocks; datagrams = rw e w.datagrams }
+
+waits_sized : (l : StationMemory) (b : Body) → no_room l (length (load_octets b.load)) ≡ false → IsLoad b.load → IsStationSized l → IsStationSized (record l { waiting = l.waiting ++ b ∷ [] })
+waits_sized l b room load h =
     let r = has_room l (length (load_octets b.load)) room in
     let count : length l.waiting < 8 = r.count in
     let blocks : waiting_blocks l.waiting + pieces.blocks (length (load_octets b.load)) ≤ 80 = r.blocks in
     let longer = length-append l.waiting (b ∷ []) in
     let sum : waiting_blocks (l.waiting ++ b ∷ []) ≡ waiting_blocks l.waiting + waiting_blocks (b ∷ []) = sum_by-append (λ (x : Body). pieces.blocks (length (load_octets x.load))) l.waiting (b ∷ []) in
     let one : waiting_blocks (b ∷ []) ≡ pieces.blocks (length (load_octets b.load)) + waiting_blocks [] = sum_by-cons (λ (x : Body). pieces.blocks (length (load_octets x.load))) b [] in
-    record { reassemblies = h.reassemblies; waiting = (omega arith, omega arith); short = All-push (λ (x : Body). IsShort x.load) l.waiting b h.short short }
+    record {
+      reassemblies = h.reassemblies;
+      waiting = record { bodies = omega arith; blocks = omega arith; datagrams = All-push (λ (x : Body). IsShort x.load) l.waiting b h.waiting.datagrams (load_short b.load load) };
+      loads = All-push (λ (x : Body). IsLoad x.load) l.waiting b h.loads load;
+      tag = h.tag;
+    }
 
 -- some of them stay
 pub stays_sized : (l : StationMemory) (keep : Body → Bool) → IsStationSized l → IsStationSized (record l { waiting = filter keep l.waiting })
@@ -132,31 +147,45 @@ stays_sized l keep h =
     let count : length (filter keep l.waiting) + length (filter (λ b. not (keep b)) l.waiting) ≡ length l.waiting = length-filter_both keep (λ b. not (keep b)) (λ b. refl) l.waiting in
     let sum : waiting_blocks (filter keep l.waiting) + waiting_blocks (filter (λ b. not (keep b)) l.waiting) ≡ waiting_blocks l.waiting
     = sum_by-filter_both keep (λ b. not (keep b)) (λ b. refl) (λ (b : Body). pieces.blocks (length (load_octets b.load))) l.waiting in
-    let few = h.waiting.0 in
-    let low : waiting_blocks l.waiting ≤ 80 = h.waiting.1 in
-    record { reassemblies = h.reassemblies; waiting = (omega arith, omega arith); short = All-filter keep (λ (x : Body). IsShort x.load) l.waiting h.short }
+    let few = h.waiting.bodies in
+    let low : waiting_blocks l.waiting ≤ 80 = h.waiting.blocks in
+    record {
+      reassemblies = h.reassemblies;
+      waiting = record { bodies = omega arith; blocks = omega arith; datagrams = All-filter keep (λ (x : Body). IsShort x.load) l.waiting h.waiting.datagrams };
+      loads = All-filter keep (λ (x : Body). IsLoad x.load) l.waiting h.loads;
+      tag = h.tag;
+    }
 
 -- # The words of the line
 
-pub made_sized : (W : RingWord → Type 0) (g : Given) (s d : Draft StationMemory) → Made W g s d → IsStationSized s.memory → IsStationSized d.memory
+-- a tag has two octets
+tag_low : (n : ℕ) → n % 65536 < 2 ^ 16
+tag_low n = omega arith
+
+pub made_sized : (W : RingWord → Type 0) (words : (w : RingWord) → W w → WordFits w) (g : Given) (s d : Draft StationMemory) → Made W g s d → IsStationSized s.memory → IsStationSized d.memory
 unfolding with_rank with_own_number with_next_tag with_ring with_routing_by goes body_goes waits leave
-made_sized W g s d Starts h = h
-made_sized W g s d (Ranks by origin rank e made o fits) h = let k = made_sized W g s e made h in record { reassemblies = k.reassemblies; waiting = k.waiting; short = k.short }
-made_sized W g s d (Numbers e made left) h = let k = made_sized W g s e made h in record { reassemblies = k.reassemblies; waiting = k.waiting; short = k.short }
-made_sized W g s d (Tags e made) h = let k = made_sized W g s e made h in record { reassemblies = k.reassemblies; waiting = k.waiting; short = k.short }
-made_sized W g s d (Rings x e made change) h = let k = made_sized W g s e made h in record { reassemblies = k.reassemblies; waiting = k.waiting; short = k.short }
-made_sized W g s d (Idles e made) h = record { reassemblies = (omega arith, omega arith); waiting = (omega arith, omega arith); short = All-nil (λ (x : Body). IsShort x.load) }
-made_sized W g s d (Loses lost by e made) h = let k = made_sized W g s e made h in record { reassemblies = k.reassemblies; waiting = k.waiting; short = k.short }
-made_sized W g s d (Goes to unit note e made said alone) h = made_sized W g s e made h
-made_sized W g s d (Sends own hop to note load e made here there short carried alone) h = made_sized W g s e made h
-made_sized W g s d (Waits to note load now e made none room short carried alone) h = waits_sized e.memory (record { to = to; note = note; since = now; load = load }) room short (made_sized W g s e made h)
-made_sized W g s d (Leaves own dest hop rank e made here offered) h = stays_sized e.memory (λ b. not (waits_for dest b)) (made_sized W g s e made h)
+made_sized W words g s d Starts h = h
+made_sized W words g s d (Ranks by origin rank e made o fits) h = let k = made_sized W words g s e made h in record { reassemblies = k.reassemblies; waiting = same_waiting e.memory d.memory refl k.waiting; loads = k.loads; tag = k.tag }
+made_sized W words g s d (Numbers e made left) h = let k = made_sized W words g s e made h in record { reassemblies = k.reassemblies; waiting = same_waiting e.memory d.memory refl k.waiting; loads = k.loads; tag = k.tag }
+made_sized W words g s d (Tags e made) h = let k = made_sized W words g s e made h in record { reassemblies = k.reassemblies; waiting = same_waiting e.memory d.memory refl k.waiting; loads = k.loads; tag = tag_low (e.memory.next_tag + 1) }
+made_sized W words g s d (Rings x e made change) h = let k = made_sized W words g s e made h in record { reassemblies = k.reassemblies; waiting = same_waiting e.memory d.memory refl k.waiting; loads = k.loads; tag = k.tag }
+made_sized W words g s d (Idles e made) h = record {
+  reassemblies = (omega arith, omega arith);
+  waiting = record { bodies = omega arith; blocks = omega arith; datagrams = All-nil (λ (x : Body). IsShort x.load) };
+  loads = All-nil (λ (x : Body). IsLoad x.load);
+  tag = (made_sized W words g s e made h).tag;
+}
+made_sized W words g s d (Loses lost by e made) h = let k = made_sized W words g s e made h in record { reassemblies = k.reassemblies; waiting = same_waiting e.memory d.memory refl k.waiting; loads = k.loads; tag = k.tag }
+made_sized W words g s d (Goes to unit note e made said alone) h = made_sized W words g s e made h
+made_sized W words g s d (Sends own hop to note load e made here there short carried alone) h = made_sized W words g s e made h
+made_sized W words g s d (Waits to note load now e made none room short carried alone) h = waits_sized e.memory (record { to = to; note = note; since = now; load = load }) room (words (Carry to note load) carried) (made_sized W words g s e made h)
+made_sized W words g s d (Leaves own dest hop rank e made here offered) h = stays_sized e.memory (λ b. not (waits_for dest b)) (made_sized W words g s e made h)
 
 pub handed_sized : (g : Given) (l n : StationMemory) (answer : Heard) → Handed g l n answer → IsStationSized l → IsStationSized n
 handed_sized g l n answer (HandsUp by own mesh octets came here mine) h = h
 handed_sized g l n answer (HandsOn x none) h = h
-handed_sized g l n answer (Gathers by own mesh piece came here mine e) h = record { reassemblies = gathered_sized l.reassemblies mesh.origin piece g.note g.now h.reassemblies; waiting = h.waiting; short = h.short }
-handed_sized g l n answer (Completes by own mesh piece note octets came here mine e) h = record { reassemblies = gathered_sized l.reassemblies mesh.origin piece g.note g.now h.reassemblies; waiting = h.waiting; short = h.short }
+handed_sized g l n answer (Gathers by own mesh piece came here mine e) h = record { reassemblies = gathered_sized l.reassemblies mesh.origin piece g.note g.now h.reassemblies; waiting = same_waiting l n refl h.waiting; loads = h.loads; tag = h.tag }
+handed_sized g l n answer (Completes by own mesh piece note octets came here mine e) h = record { reassemblies = gathered_sized l.reassemblies mesh.origin piece g.note g.now h.reassemblies; waiting = same_waiting l n refl h.waiting; loads = h.loads; tag = h.tag }
 
 -- # The words over all of the memory
 
@@ -170,7 +199,7 @@ with_sized m s n either h = by_place (position (coordinators.is_of s.server.eui)
     by_place None is (inr room) = let longer = length-append m.sessions (s ∷ []) in omega arith
 
 -- the session of a meter is the one of its number
-session_number : (m : Memory) (eui : Eui) (s : CoordinatorSession) → coordinators.session_of m eui ≡ Some s → book.eui_number s.server.eui ≡ book.eui_number eui
+pub session_number : (m : Memory) (eui : Eui) (s : CoordinatorSession) → coordinators.session_of m eui ≡ Some s → book.eui_number s.server.eui ≡ book.eui_number eui
 session_number m eui s = by_place (position (coordinators.is_of eui) m.sessions) refl
   where
     by_place : (o : Option ℕ) → position (coordinators.is_of eui) m.sessions ≡ o → option_and_then (slice_get m.sessions) o ≡ Some s → book.eui_number s.server.eui ≡ book.eui_number eui
@@ -189,7 +218,7 @@ not_not : (b : Bool) → b ≡ not (not b)
 not_not true = refl
 not_not false = refl
 
-pub beside_sized : (E : Eui → Type 0) (n k : Memory) → Beside E n k → IsSized n → IsSized k
+pub beside_sized : (E : Eui → Type 0) (n k : Memory) → Beside E n k → IsMemorySized n → IsMemorySized k
 beside_sized E n k EndsIn h = record { station = h.station; sessions = h.sessions; randoms = h.randoms }
 beside_sized E n k (Asks s) h = record { station = h.station; sessions = h.sessions; randoms = h.randoms }
 beside_sized E n k (Replies s value here) h = record { station = h.station; sessions = h.sessions; randoms = let less = length-drop 1 n.randoms in let few = h.randoms in omega arith }
@@ -211,26 +240,26 @@ beside_sized E n k (Closes eui) h = record {
 }
 beside_sized E n k (Gives value room) h = record { station = h.station; sessions = h.sessions; randoms = let longer = length-append n.randoms (value ∷ []) in let few : length n.randoms ≤ 7 = ltb-false _ _ room in omega arith }
 
-pub made_in_sized : (W : RingWord → Type 0) (L : Granted → Type 0) (P : Eui → Key → Type 0) (E : Eui → Type 0) (g : Given) (m : Memory) (d : Draft Memory) → MadeIn W L P E g m d → IsSized m → IsSized d.memory
+pub made_in_sized : (W : RingWord → Type 0) (words : (w : RingWord) → W w → WordFits w) (L : Granted → Type 0) (P : Eui → Key → Type 0) (E : Eui → Type 0) (g : Given) (m : Memory) (d : Draft Memory) → MadeIn W L P E g m d → IsMemorySized m → IsMemorySized d.memory
 unfolding empty_draft on_station with_memory_by with_pair_tags with_book_entry goes_up goes_down
-made_in_sized W L P E g m d Begins h = h
-made_in_sized W L P E g m d (Station e made) h = record { station = made_sized W g (empty_draft m.station) e made h.station; sessions = h.sessions; randoms = h.randoms }
-made_in_sized W L P E g m d (OnStation word e made step) h =
-    let k = made_in_sized W L P E g m e made h in
-    record { station = made_sized W (unheard g) (station_part e) (word (station_part e)) step k.station; sessions = k.sessions; randoms = k.randoms }
-made_in_sized W L P E g m d (Remembers change e made beside) h = beside_sized E e.memory (change e.memory) beside (made_in_sized W L P E g m e made h)
-made_in_sized W L P E g m d (TagsIn made opened e x) h = made_in_sized W L P E g m e x h
-made_in_sized W L P E g m d (Enters x e made change) h = let k = made_in_sized W L P E g m e made h in record { station = k.station; sessions = k.sessions; randoms = k.randoms }
-made_in_sized W L P E g m d (Up agent own message e made) h = made_in_sized W L P E g m e made h
-made_in_sized W L P E g m d (Down own message e made) h = made_in_sized W L P E g m e made h
+made_in_sized W words L P E g m d Begins h = h
+made_in_sized W words L P E g m d (Station e made) h = record { station = made_sized W words g (empty_draft m.station) e made h.station; sessions = h.sessions; randoms = h.randoms }
+made_in_sized W words L P E g m d (OnStation word e made step) h =
+    let k = made_in_sized W words L P E g m e made h in
+    record { station = made_sized W words (unheard g) (station_part e) (word (station_part e)) step k.station; sessions = k.sessions; randoms = k.randoms }
+made_in_sized W words L P E g m d (Remembers change e made beside) h = beside_sized E e.memory (change e.memory) beside (made_in_sized W words L P E g m e made h)
+made_in_sized W words L P E g m d (TagsIn made opened e x) h = made_in_sized W words L P E g m e x h
+made_in_sized W words L P E g m d (Enters x e made change) h = let k = made_in_sized W words L P E g m e made h in record { station = k.station; sessions = k.sessions; randoms = k.randoms }
+made_in_sized W words L P E g m d (Up agent own message e made) h = made_in_sized W words L P E g m e made h
+made_in_sized W words L P E g m d (Down own message e made) h = made_in_sized W words L P E g m e made h
 
 -- # Plans
 
-pub plan_sized : {H F : Type 0} (W : RingWord → Type 0) (L : Granted → Type 0) (P : Eui → Key → Type 0) (E : Eui → Type 0) (g : Given) (m : Memory) (ends : Ends F) (K : Memory → H → Type 0) (D : Draft Memory → H → Type 0)
-    → ((n : Memory) (answer : H) → K n answer → IsSized m → IsSized n) → ((d : Draft Memory) (answer : H) → D d answer → MadeIn W L P E g m d) → (p : Plan Memory (Result H F)) → Planned in_memory ends m K D p → IsSized m → IsSized p.memory
+pub plan_sized : {H F : Type 0} (W : RingWord → Type 0) (L : Granted → Type 0) (P : Eui → Key → Type 0) (E : Eui → Type 0) (g : Given) (m : Memory) (words : (w : RingWord) → W w → WordFits w) (ends : Ends F) (K : Memory → H → Type 0) (D : Draft Memory → H → Type 0)
+    → ((n : Memory) (answer : H) → K n answer → IsMemorySized m → IsMemorySized n) → ((d : Draft Memory) (answer : H) → D d answer → MadeIn W L P E g m d) → (p : Plan Memory (Result H F)) → Planned in_memory ends m K D p → IsMemorySized m → IsMemorySized p.memory
 unfolding resting
-plan_sized W L P E g m ends K D beside made p (Refuses reason) h = h
-plan_sized W L P E g m ends K D beside made p (Keeps n answer k) h = beside n answer k h
-plan_sized W L P E g m ends K D beside made p (Ended d answer done left) h =
-    let k = made_in_sized W L P E g m d (made d answer done) h in
-    record { station = record { reassemblies = k.station.reassemblies; waiting = k.station.waiting; short = k.station.short }; sessions = k.sessions; randoms = k.randoms }
+plan_sized W L P E g m words ends K D beside made p (Refuses reason) h = h
+plan_sized W L P E g m words ends K D beside made p (Keeps n answer k) h = beside n answer k h
+plan_sized W L P E g m words ends K D beside made p (Ended d answer done left) h =
+    let k = made_in_sized W words L P E g m d (made d answer done) h in
+    record { station = record { reassemblies = k.station.reassemblies; waiting = same_waiting d.memory.station _ refl k.station.waiting; loads = k.station.loads; tag = k.station.tag }; sessions = k.sessions; randoms = k.randoms }

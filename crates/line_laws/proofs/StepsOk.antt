@@ -54,19 +54,18 @@ use Rattle.line_rules.specs.Answers.{Reception, meter_reception, coordinator_rec
 use Rattle.group_keys.specs.declared.fault.RingFault.TheVariants.{Store as RingStore}
 use Rattle.node_rules.specs.Drafts.{choose}
 use Rattle.node_rules.specs.MemoryDrafts.{with_station}
-use Rattle.node_rules.specs.Laws.{IsShort}
+use Rattle.node_rules.specs.Laws.{IsShort, IsLoad}
 use Rattle.line_rules.specs.Events.{IsEvent}
 use Rattle.line_rules.specs.Worlds.{World, Flight, Trace, node_at, flight_at, is_forged_tag}
 use Rattle.line_rules.specs.Steps.{Step, set_up, ran, told, flights_of, acted, once_begun, in_setup, has_begun, takes_setup, on_node, on_meter, made_node, blank_node, identity, hears, restarts, memory_by, ticked, rand, join, joins_by, leave, send, sends_by, sent_if, breaks, breaks_by, lose, tick, restart, cut, show, psk_of, trace_of, happened, coordinator, coordinator_node, meter, is_known, depot, depot_by, provisioned, near, near_by, keeps_rank, ranks_full, offered_near, preset, allow, allowed, deliver, inject, arrives, accepted_by, received, by_coordinator, forged_by, note_by, rekey, challenge, activate, kick, step}
 use Rattle.node_rules.specs.NodeSteps.{NodeStep, acts, stays, answering, of_station}
 use Rattle.line_laws.specs.Stores.{IsReadable, IsStationKept, BookKept, IsNamed, IsKept}
-use Rattle.line_laws.specs.Sizes.{IsStationSized, IsSized}
+use Rattle.line_laws.specs.Sizes.{IsStationSized, IsMemorySized}
 use Rattle.line_laws.specs.Owed.{AreOctets, KeepsRanges}
 use Rattle.line_laws.proofs.Keeping.{Left, leads_beside}
 use Rattle.line_laws.proofs.StoreFold.{ended_kept, beside_kept}
 use Rattle.line_laws.proofs.SizeFold.{stays_sized}
 use Rattle.line_laws.proofs.Restarting.{Again, again}
-use Rattle.line_laws.specs.Laws.{IsSpelled}
 use Rattle.line_laws.proofs.Rising.{IsBelow, lost_pairs}
 use Rattle.line_laws.proofs.Nodes.{PlanFits, PlanOk, NodeOk, DidOk, acts_fits, acts_ok}
 use Rattle.line_laws.proofs.Frontiers.{next_of, frontier, same_low, numbered_lower, numbered_le}
@@ -81,13 +80,13 @@ use Rattle.line_laws.proofs.Worlds.{NodeFits, FlightFits, Rising, WorldOk, withi
 -- # What a node does by itself
 
 answering_ok : {A B : Type 0} (x : Node) (reads : A → B) (d : NodeStep A) → DidOk x d → DidOk x (answering reads d)
-answering_ok x reads d h = record { node = h.node; role = h.role; eui = h.eui; few = h.few; rises = h.rises }
+answering_ok x reads d h = record { node = h.node; role = h.role; eui = h.eui; few = h.few; rises = h.rises; from = h.from }
 
 stays_ok : {A : Type 0} (x : Node) (answer : A) → NodeOk x → DidOk x (stays x answer)
-stays_ok x answer ok = record { node = ok; role = refl; eui = refl; few = omega arith; rises = same_low (frontier x) }
+stays_ok x answer ok = record { node = ok; role = refl; eui = refl; few = omega arith; rises = same_low (frontier x); from = tt }
 
 -- a plan of the coordinator, at node 0
-pub coordinator_acts : {A : Type 0} (x : Node) (halted : A) (plan : Memory → Plan Memory A) → x.role ≡ Coordinator → NodeOk x → ((m : Memory) → IsSized m → PlanOk Coordinator m (plan m)) → DidOk x (acts x halted plan)
+pub coordinator_acts : {A : Type 0} (x : Node) (halted : A) (plan : Memory → Plan Memory A) → x.role ≡ Coordinator → NodeOk x → ((m : Memory) → IsMemorySized m → PlanOk Coordinator m (plan m)) → DidOk x (acts x halted plan)
 coordinator_acts x halted plan is ok f = acts_ok x halted plan ok (λ m there kept sized. subst (λ r. PlanOk r m (plan m)) (sym is) (f m sized))
 
 -- what a restart gives
@@ -107,11 +106,12 @@ restarts_ok x ok =
     let next = a.next in
     let rises : next_of x.memory x.store.records ≤ a.memory.station.counter.next = omega arith in
     record {
-      node = record { kept = subst (λ o. Left (IsKept x.role) x.store.records (memory_by o)) (sym a.is) a.kept; sized = subst (λ o. IfSome (memory_by o) IsSized) (sym a.is) a.sized };
+      node = record { kept = subst (λ o. Left (IsKept x.role) x.store.records (memory_by o)) (sym a.is) a.kept; sized = subst (λ o. IfSome (memory_by o) IsMemorySized) (sym a.is) a.sized };
       role = refl;
       eui = refl;
       few = omega arith;
       rises = subst (λ o. next_of x.memory x.store.records ≤ next_of (memory_by o) x.store.records) (sym a.is) rises;
+      from = tt;
     }
 
 -- time
@@ -128,15 +128,15 @@ tick_station_sized now l h =
     let few = h.reassemblies.0 in
     let low = h.reassemblies.1 in
     let w = stays_sized l (λ (b : Body). calls.is_within 30 now b.since) h in
-    record { reassemblies = (omega arith, omega arith); waiting = w.waiting; short = w.short }
+    record { reassemblies = (omega arith, omega arith); waiting = record { bodies = w.waiting.bodies; blocks = w.waiting.blocks; datagrams = w.waiting.datagrams }; loads = w.loads; tag = w.tag }
 
-tick_meter : (now : ℕ) (psk : Key) (m : Memory) (r : Records) → IsKept (Meter psk) m r → IsSized m → IsKept (Meter psk) (meters.tick now m) r × IsSized (meters.tick now m)
+tick_meter : (now : ℕ) (psk : Key) (m : Memory) (r : Records) → IsKept (Meter psk) m r → IsMemorySized m → IsKept (Meter psk) (meters.tick now m) r × IsMemorySized (meters.tick now m)
 tick_meter now psk m r k h = (
   record { station = tick_station_kept now m.station r k.station; book = k.book; sessions = k.sessions },
   record { station = tick_station_sized now m.station h.station; sessions = h.sessions; randoms = h.randoms },
 )
 
-tick_coordinator : (now : ℕ) (m : Memory) (r : Records) → IsKept Coordinator m r → IsSized m → IsKept Coordinator (coordinator_rules.tick now m) r × IsSized (coordinator_rules.tick now m)
+tick_coordinator : (now : ℕ) (m : Memory) (r : Records) → IsKept Coordinator m r → IsMemorySized m → IsKept Coordinator (coordinator_rules.tick now m) r × IsMemorySized (coordinator_rules.tick now m)
 tick_coordinator now m r k h =
     let young : CoordinatorSession → Bool = λ s. calls.is_within 120 now s.since in
     let count : length (filter young m.sessions) + length (filter (λ s. not (young s)) m.sessions) ≡ length m.sessions = length-filter_both young (λ s. not (young s)) (λ s. refl) m.sessions in
@@ -148,15 +148,15 @@ tick_coordinator now m r k h =
 pub ticked_ok : (now : ℕ) (x : Node) → NodeOk x → NodeOk (ticked now x)
 ticked_ok now x ok = by_role x.role x.memory ok.kept ok.sized
   where
-    by_role : (role : Role) (o : Option Memory) → Left (IsKept role) x.store.records o → IfSome o IsSized → NodeOk (ticked now (record { role = role; eui = x.eui; store = x.store; memory = o }))
+    by_role : (role : Role) (o : Option Memory) → Left (IsKept role) x.store.records o → IfSome o IsMemorySized → NodeOk (ticked now (record { role = role; eui = x.eui; store = x.store; memory = o }))
     by_role Coordinator None k h = record { kept = k; sized = tt }
     by_role (Meter psk) None k h = record { kept = k; sized = tt }
     by_role Coordinator (Some m) k h = let t = tick_coordinator now m x.store.records k h in record { kept = t.0; sized = t.1 }
     by_role (Meter psk) (Some m) k h = let t = tick_meter now psk m x.store.records k h in record { kept = t.0; sized = t.1 }
 
-pub resting_ok : {A : Type 0} (role : Role) (m : Memory) → IsSized m → (answer failed : A) → PlanOk role m (resting m answer failed)
+pub resting_ok : {A : Type 0} (role : Role) (m : Memory) → IsMemorySized m → (answer failed : A) → PlanOk role m (resting m answer failed)
 unfolding resting
-resting_ok role m h answer failed = record { leads = leads_beside (IsKept role) m m (λ r k. k); sized = h; few = omega arith; rises = λ fits. record { high = tt; with_own_number = omega arith } }
+resting_ok role m h answer failed = record { leads = leads_beside (IsKept role) m m (λ r k. k); sized = h; few = omega arith; rises = λ fits. record { high = tt; with_own_number = omega arith }; from = tt }
 
 -- # A new node
 
@@ -199,7 +199,7 @@ pub blank_ok : (role : Role) (eui : Eui) → NodeOk (blank_node role eui)
 blank_ok role eui = record {
   kept = record { station = blank_kept; book = by_role role; sessions = All-nil IsNamed };
   sized = record {
-    station = record { reassemblies = (omega arith, omega arith); waiting = (omega arith, omega arith); short = All-nil (λ (b : Body). IsShort b.load) };
+    station = record { reassemblies = (omega arith, omega arith); waiting = record { bodies = omega arith; blocks = omega arith; datagrams = All-nil (λ (b : Body). IsShort b.load) }; loads = All-nil (λ (b : Body). IsLoad b.load); tag = omega arith };
     sessions = omega arith;
     randoms = omega arith;
   };
@@ -306,7 +306,7 @@ module _ (ciphers : Ciphers) (fits : KeepsRanges ciphers) (w : World) (ok : Worl
     fits = All-push NodeFits w.nodes x ok.fits given;
     first = first;
     count = let longer = length-append w.nodes (x ∷ []) in omega arith;
-    rising = record { below = made_below; pairs = ok.rising.pairs; homes = λ k e lt. let h = ok.rising.homes k e lt in let longer = length-append w.nodes (x ∷ []) in omega arith; heads = ok.rising.heads };
+    rising = record { below = made_below; pairs = ok.rising.pairs; homes = λ k e lt. let h = ok.rising.homes k e lt in let longer = length-append w.nodes (x ∷ []) in omega arith };
     quiet = ok.quiet;
   }
     where
@@ -369,9 +369,6 @@ module _ (ciphers : Ciphers) (fits : KeepsRanges ciphers) (w : World) (ok : Worl
       by_number true e = absurd (no_some f e)
       by_number false e = e
 
-  lost_spelled : (f : Flight) → IsSpelled f → IsSpelled (record f { lost = true })
-  lost_spelled f h = record { sealed = h.sealed; plain = h.plain }
-
   lost_rising : (number : ℕ) (f : Flight) → flight_at w number ≡ Some f → Rising (record (ran w) { flights = slice_set w.flights (number - 1) (record f { lost = true }) })
   lost_rising number f there =
       let is = flight_is number f there in
@@ -379,7 +376,6 @@ module _ (ciphers : Ciphers) (fits : KeepsRanges ciphers) (w : World) (ok : Worl
         below = λ n x here. All-set (IsBelow n (frontier x)) w.flights (number - 1) (record f { lost = true }) (at_place (IsBelow n (frontier x)) w.flights (number - 1) f is (ok.rising.below n x here)) (ok.rising.below n x here);
         pairs = lost_pairs w.flights (number - 1) f is (place_within w.flights (number - 1) f is) ok.rising.pairs;
         homes = All-set (λ (g : Flight). g.from < length w.nodes) w.flights (number - 1) (record f { lost = true }) (at_place (λ (g : Flight). g.from < length w.nodes) w.flights (number - 1) f is ok.rising.homes) ok.rising.homes;
-        heads = All-set IsSpelled w.flights (number - 1) (record f { lost = true }) (lost_spelled f (at_place IsSpelled w.flights (number - 1) f is ok.rising.heads)) ok.rising.heads;
       }
 
   lose_good : (number : ℕ) → StepGood w (lose w number)
@@ -405,7 +401,6 @@ module _ (ciphers : Ciphers) (fits : KeepsRanges ciphers) (w : World) (ok : Worl
       below = λ n y is. ticked_below n y (slice_get w.nodes n) refl (sym (slice_get-map (ticked (w.clock + seconds)) w.nodes n) ∙ is);
       pairs = ok.rising.pairs;
       homes = λ k e lt. let h = ok.rising.homes k e lt in let same : length (map (ticked (w.clock + seconds)) w.nodes) ≡ length w.nodes = length-map w.nodes _ in omega arith;
-      heads = ok.rising.heads;
     };
     quiet = λ e. absurd (true_false e);
   }) (omega arith) (none_more w (ran w) refl))
@@ -430,7 +425,7 @@ module _ (ciphers : Ciphers) (fits : KeepsRanges ciphers) (w : World) (ok : Worl
   cut_good : (number nth : ℕ) (keeps_new : Bool) → StepGood w (cut ciphers w number nth keeps_new)
   unfolding cut
   cut_good number nth keeps_new = once _ (at_node number _ (λ x there.
-      let h = node_ok number x there in acted_good number x _ there (record { node = record { kept = h.kept; sized = h.sized }; role = refl; eui = refl; few = omega arith; rises = same_low (frontier x) })))
+      let h = node_ok number x there in acted_good number x _ there (record { node = record { kept = h.kept; sized = h.sized }; role = refl; eui = refl; few = omega arith; rises = same_low (frontier x); from = tt })))
 
   show_good : (number : ℕ) → StepGood w (show w number)
   unfolding show
@@ -443,7 +438,7 @@ module _ (ciphers : Ciphers) (fits : KeepsRanges ciphers) (w : World) (ok : Worl
 
   -- # deliver, inject
 
-  hears_ok : (x : Node) (got : Accepted) (cost note now : ℕ) → NodeOk x → RoutesFit got → DidOk x (hears ciphers x got cost note now)
+  pub hears_ok : (x : Node) (got : Accepted) (cost note now : ℕ) → NodeOk x → RoutesFit got → DidOk x (hears ciphers x got cost note now)
   hears_ok x got cost note now h routes = by_role x.role refl
     where
       hears_as : Role → NodeStep Reception
@@ -475,13 +470,13 @@ module _ (ciphers : Ciphers) (fits : KeepsRanges ciphers) (w : World) (ok : Worl
       by_answer : (r : Result Accepted FrameRefusal) → (acts x (Err frames.Halted) plan).answer ≡ r → StepGood w (Ok (accepted_by ciphers w number octets cost (acts x (Err frames.Halted) plan)))
       by_answer (Err reason) e =
           let k : NodeStep (Result Accepted FrameRefusal) = record (acts x (Err frames.Halted) plan) { answer = Err reason } in
-          rw e (Taken (told ciphers (ran w) number k, trace_of (happened w (frame_word reason))) (told_ok ciphers fits (ran w) number x k ran_ok there (record { node = did.node; role = did.role; eui = did.eui; few = did.few; rises = did.rises }) (λ e. absurd (true_false e))) (omega arith)
+          rw e (Taken (told ciphers (ran w) number k, trace_of (happened w (frame_word reason))) (told_ok ciphers fits (ran w) number x k ran_ok there (record { node = did.node; role = did.role; eui = did.eui; few = did.few; rises = did.rises; from = did.from }) (λ e. absurd (true_false e))) (omega arith)
           (told_none ciphers (ran w) number k (acts_quiet x (Err frames.Halted) plan (λ m. accept_quiet m.station _ _ (accept_is m.station x.eui (arrived ciphers octets))))))
       by_answer (Ok got) e =
           let y = (acts x (Err frames.Halted) plan).node in
           let d = hears ciphers y got cost (note_by w octets got.path) w.clock in
           let heard = hears_ok y got cost (note_by w octets got.path) w.clock did.node (routes got e) in
-          rw e (received_good number x (forged_by w octets got.path || list_any (is_forged_tag w.made) d.opened) d there (record { node = heard.node; role = heard.role ∙ did.role; eui = heard.eui ∙ did.eui; few = heard.few; rises = numbered_lower (frontier x) (frontier y) (frontier d.node) d.frames (numbered_le (frontier x) (frontier y) (acts x (Err frames.Halted) plan).frames did.rises) heard.rises }))
+          rw e (received_good number x (forged_by w octets got.path || list_any (is_forged_tag w.made) d.opened) d there (record { node = heard.node; role = heard.role ∙ did.role; eui = heard.eui ∙ did.eui; few = heard.few; rises = numbered_lower (frontier x) (frontier y) (frontier d.node) d.frames (numbered_le (frontier x) (frontier y) (acts x (Err frames.Halted) plan).frames did.rises) heard.rises; from = heard.from }))
 
   deliver_good : (flight number cost : ℕ) → StepGood w (deliver ciphers w flight number cost)
   unfolding deliver
@@ -504,7 +499,7 @@ module _ (ciphers : Ciphers) (fits : KeepsRanges ciphers) (w : World) (ok : Worl
   abbrev own_of : Node → coordinator_rules.CoordinatorIdentity
   own_of c = record { eui = c.eui; ciphers = ciphers }
 
-  order_good : {A : Type 0} (c : Node) (answer : Answer) (order : Memory → Plan Memory (Result A CoordinatorRefusal)) → node_at w 0 ≡ Some c → ((m : Memory) → IsSized m → PlanOk Coordinator m (order m))
+  order_good : {A : Type 0} (c : Node) (answer : Answer) (order : Memory → Plan Memory (Result A CoordinatorRefusal)) → node_at w 0 ≡ Some c → ((m : Memory) → IsMemorySized m → PlanOk Coordinator m (order m))
       → StepGood w (Ok (by_coordinator ciphers w c answer order))
   order_good c answer order there f = acted_good 0 c _ there (answering_ok c (ordered_word answer) _ (coordinator_acts c (Err orders.Halted) order (ok.first c there) (node_ok 0 c there) f))
 
@@ -545,7 +540,7 @@ module _ (ciphers : Ciphers) (fits : KeepsRanges ciphers) (w : World) (ok : Worl
 
   -- # Setup
 
-  pub begin_ok : (key : Key) → length key.0 ≡ 16 → (m : Memory) → IsSized m → PlanOk Coordinator m (coordinator_rules.begin m (first_grant key))
+  pub begin_ok : (key : Key) → length key.0 ≡ 16 → (m : Memory) → IsMemorySized m → PlanOk Coordinator m (coordinator_rules.begin m (first_grant key))
   unfolding choose
   begin_ok key long m sized = by_ring (is_some m.station.ring)
     where
@@ -592,7 +587,7 @@ module _ (ciphers : Ciphers) (fits : KeepsRanges ciphers) (w : World) (ok : Worl
       first_same [] some x = absurd (omega arith)
       first_same (y ∷ xs) some x = refl
 
-  preset_good : (number : ℕ) (plan : StationMemory → calls.Presetting) → ((role : Role) (m : Memory) → IsSized m → PlanFits role m (of_station m (plan m.station))) → ((l : StationMemory) → (plan l).frames ≡ []) → StepGood w (preset ciphers w number plan)
+  preset_good : (number : ℕ) (plan : StationMemory → calls.Presetting) → ((role : Role) (m : Memory) → IsMemorySized m → PlanFits role m (of_station m (plan m.station))) → ((l : StationMemory) → (plan l).frames ≡ []) → StepGood w (preset ciphers w number plan)
   preset_good number plan f quiet = setup_with _ (λ began. at_node number _ (λ x there.
       Taken _ (told_fits ciphers (set_up w) number x _ set_up_ok there (acts_fits x (Ok tt) _ (node_ok number x there) (λ m here kept sized. f x.role m sized)) (set_up_ok.quiet (still began)) (acts_quiet x (Ok tt) _ (λ m. quiet m.station))) (omega arith) (told_none ciphers (set_up w) number _ (acts_quiet x (Ok tt) _ (λ m. quiet m.station)))))
 
@@ -637,7 +632,7 @@ module _ (ciphers : Ciphers) (fits : KeepsRanges ciphers) (w : World) (ok : Worl
       by_answer (Err reason) e = rw e (Fails faults.Setup)
       by_answer (Ok g) e =
           let k : NodeStep (Result Granted CoordinatorRefusal) = record d { answer = Ok g } in
-          let first = told_ok ciphers fits (set_up w) 0 c k set_up_ok hc (record { node = did.node; role = did.role; eui = did.eui; few = did.few; rises = did.rises }) (λ e. quiet) in
+          let first = told_ok ciphers fits (set_up w) 0 c k set_up_ok hc (record { node = did.node; role = did.role; eui = did.eui; few = did.few; rises = did.rises; from = did.from }) (λ e. quiet) in
           let second = acts_ok x (Ok tt) (λ m. meters.provision m g) (node_ok number x hx) (λ m here kept sized. provision_ok x.role m sized g (readable g e)) in
           rw e (Taken (provisioned ciphers (told ciphers (set_up w) 0 k) number x g) (told_ok ciphers fits (told ciphers (set_up w) 0 k) number x _ first (other_there 0 number k x (λ same. apart (sym same)) hx) second (λ e. acts_quiet x (Ok tt) (λ m. meters.provision m g) (λ m. install_quiet m.station g))) (omega arith)
           (let one = told_none ciphers (set_up w) 0 k quiet in let two = told_none ciphers (told ciphers (set_up w) 0 k) number (acts x (Ok tt) (λ m. meters.provision m g)) (acts_quiet x (Ok tt) (λ m. meters.provision m g) (λ m. install_quiet m.station g)) in omega arith))
@@ -657,8 +652,8 @@ module _ (ciphers : Ciphers) (fits : KeepsRanges ciphers) (w : World) (ok : Worl
       of_role Coordinator m r e k = k.book.table.short
       of_role (Meter psk) m r e k = absurd (cc)
 
-      kept_at : (c : Node) (m : Memory) → NodeOk c → c.memory ≡ Some m → IsKept c.role m c.store.records × IsSized m
-      kept_at c m h e = (subst (λ o. Left (IsKept c.role) c.store.records o) e h.kept, subst (λ o. IfSome o IsSized) e h.sized)
+      kept_at : (c : Node) (m : Memory) → NodeOk c → c.memory ≡ Some m → IsKept c.role m c.store.records × IsMemorySized m
+      kept_at c m h e = (subst (λ o. Left (IsKept c.role) c.store.records o) e h.kept, subst (λ o. IfSome o IsMemorySized) e h.sized)
 
       granted : (c : Node) (eui : Eui) (psk : Key) (g : Granted) → c.role ≡ Coordinator → NodeOk c → length eui.0 ≡ 8 → length psk.0 ≡ 16 → (acts c (Err orders.Halted) (λ m. coordinator_rules.depot m eui psk)).answer ≡ Ok g → IsReadable g
       granted c eui psk g is h known long e =

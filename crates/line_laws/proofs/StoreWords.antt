@@ -4,7 +4,6 @@ use Rattle.std.specs.Prelude.{if◌then◌else◌, IfSome}
 use Rattle.std.specs.FinMap.{get, insert}
 use Rattle.std.proofs.lemmas.Bool.{ltb-false, eqb-false}
 use Rattle.byteorder.specs.Endian.{big_bytes}
-use Rattle.byteorder.specs.Numbers.{big_number-reads_back}
 use Rattle.plc_base.specs.Keeper.{Records}
 use Rattle.plc_base.specs.Writes.{puts_of}
 use Rattle.plc_base.proofs.StoreLemmas.{get-insert_same}
@@ -17,6 +16,9 @@ use Rattle.routing_set.proofs.Limits as number_limits
 use Rattle.node_rules.specs.Memory.{StationMemory}
 use Rattle.node_rules.specs.Drafts.{tag_slot, tag_after, numbers_spent}
 use Rattle.node_rules.specs.StoreReading.{tag_in}
+use Rattle.plc_base.specs.NumberSlots.{read_result}
+use Rattle.plc_base.proofs.NumberSlots.{stored-insert}
+use Rattle.fragment_buffers.specs.NextTag.{tag_at}
 use Rattle.line_laws.specs.Stores.{IsReadable, IsStationKept}
 use Rattle.line_laws.proofs.Keeping.{Leads}
 use Rattle.line_laws.proofs.Beside.{Lasts, With, low_one, low_beside}
@@ -115,7 +117,7 @@ number_leads B lasts l left = by_due (own_number.passes l.own_number) refl
 -- # The tag
 
 tag_reads : (r : Records) (tag : ℕ) → tag < 2 ^ 16 → tag_in (get (insert r tag_slot (big_bytes 2 tag)) tag_slot) ≡ Ok tag
-tag_reads r tag fits = ap tag_in (get-insert_same r tag_slot tag_slot (big_bytes 2 tag) refl) ∙ ap Ok (big_number-reads_back 2 tag [] (omega arith))
+tag_reads r tag fits = ap (read_result tag_at) (stored-insert tag_at r tag (omega arith) (omega arith))
 
 pub tag_kept : (l : StationMemory) (r : Records) (tag : ℕ) → IsStationKept l r → tag < 2 ^ 16 → IsStationKept (record l { next_tag = tag }) (insert r tag_slot (big_bytes 2 tag))
 tag_kept l r tag k fits = record {

@@ -14,11 +14,9 @@ use Rattle.node_rules.specs.Memory.{Memory, Coordinator, Meter, Node}
 use Rattle.line_rules.specs.Worlds.{World, Flight, node_at}
 use Rattle.node_rules.specs.NodeSteps.{NodeStep}
 use Rattle.line_rules.specs.Steps.{told, flights_of, flight_by}
-use Rattle.line_rules.specs.Runs.{CounterRises}
+use Rattle.line_rules.specs.Nonces.{CounterRises}
 use Rattle.frame_counters.proofs.Limits.{stored_limit-kept}
 use Rattle.line_laws.proofs.Frontiers.{next_of, frontier}
-use Rattle.line_laws.specs.Laws.{IsSpelled}
-use Rattle.line_laws.proofs.HeadsSaid.{spelled_well}
 use Rattle.line_laws.proofs.Rising.{IsBelow, Grown, grows}
 use Rattle.line_laws.specs.Stores.{IsKept}
 use Rattle.line_laws.specs.Owed.{AreOctets, KeepsRanges}
@@ -38,7 +36,6 @@ pub record Rising (w : World) : Type 0 where
   pub below : (number : ℕ) (x : Node) → node_at w number ≡ Some x → All (IsBelow number (frontier x)) w.flights
   pub pairs : AllPairs CounterRises w.flights
   pub homes : All (λ (f : Flight). f.from < length w.nodes) w.flights
-  pub heads : All IsSpelled w.flights
 
 -- What holds of a line of nodes.
 pub record WorldOk (w : World) : Type 0 where
@@ -97,7 +94,6 @@ none_rising w e = record {
   below = λ number x there. subst (All (IsBelow number (frontier x))) (sym e) (All-nil (IsBelow number (frontier x)));
   pairs = subst (AllPairs CounterRises) (sym e) none_pairs;
   homes = subst (All (λ (f : Flight). f.from < length w.nodes)) (sym e) (All-nil (λ (f : Flight). f.from < length w.nodes));
-  heads = subst (All IsSpelled) (sym e) (All-nil IsSpelled);
 }
   where
     none_pairs : AllPairs CounterRises []
@@ -119,7 +115,7 @@ frontier_cap x ok = by_memory x.memory ok.kept
 
 told_rising : {A : Type 0} (ciphers : Ciphers) → KeepsRanges ciphers → (w : World) (number : ℕ) (x : Node) (d : NodeStep A) → WorldOk w → node_at w number ≡ Some x → DidOk x d → Rising (told ciphers w number d)
 unfolding told
-told_rising ciphers fits w number x d ok there did = record { below = below; pairs = grown.pairs; homes = All-append (λ (f : Flight). f.from < length (set w.nodes number d.node)) w.flights (flights_of ciphers number d) old_homes new_homes; heads = All-append IsSpelled w.flights (flights_of ciphers number d) ok.rising.heads new_heads }
+told_rising ciphers fits w number x d ok there did = record { below = below; pairs = grown.pairs; homes = All-append (λ (f : Flight). f.from < length (set w.nodes number d.node)) w.flights (flights_of ciphers number d) old_homes new_homes }
   where
     grown : Grown ciphers fits number (w.flights ++ flights_of ciphers number d) (frontier d.node)
     grown = grows ciphers fits number w.flights d.frames (frontier x) (frontier d.node) (frontier_cap d.node did.node) (record { pairs = ok.rising.pairs; below = ok.rising.below number x there }) did.rises
@@ -135,9 +131,6 @@ told_rising ciphers fits w number x d ok there did = record { below = below; pai
 
     new_homes : All (λ (f : Flight). f.from < length (set w.nodes number d.node)) (flights_of ciphers number d)
     new_homes = All-map (λ (f : Flight). f.from < length (set w.nodes number d.node)) (λ frame. flight_by number (spelled ciphers frame)) d.frames (λ k e lt. here)
-
-    new_heads : All IsSpelled (flights_of ciphers number d)
-    new_heads = All-map IsSpelled (λ frame. flight_by number (spelled ciphers frame)) d.frames (λ k e lt. spelled_well ciphers number _)
 
     others : (n : ℕ) → n ≢ number → (bound : ℕ) → All (IsBelow n bound) (flights_of ciphers number d)
     others n ne bound = All-map (IsBelow n bound) (λ frame. flight_by number (spelled ciphers frame)) d.frames (λ k e lt home. absurd (ne (sym home)))
@@ -159,7 +152,6 @@ same_rising w v r e f = record {
   below = λ number x there. subst (All (IsBelow number (frontier x))) (sym f) (r.below number x (sym (ap (λ ns. slice_get ns number) e) ∙ there));
   pairs = subst (AllPairs CounterRises) (sym f) r.pairs;
   homes = subst (λ fs. All (λ (g : Flight). g.from < length v.nodes) fs) (sym f) (subst (λ ns. All (λ (g : Flight). g.from < length ns) w.flights) (sym e) r.homes);
-  heads = subst (All IsSpelled) (sym f) r.heads;
 }
 
 -- clock and counts do not matter

@@ -2,10 +2,12 @@
 use Rattle.std.specs.Prelude.{◌≡◌, All, false, List, [], ◌∷◌, ◌++◌}
 use Rattle.node_rules.specs.Ciphers.{Ciphers}
 use Rattle.line_rules.specs.Events.{IsEui}
-use Rattle.line_rules.specs.Worlds.{Issued, start}
-use Rattle.line_rules.specs.Runs.{Entry, IsRun, issued, HasOnlyIssuedKeys, Agrees}
+use Rattle.line_rules.specs.Worlds.{Issued}
+use Rattle.line_rules.specs.Runs.{Entry, issued}
+use Rattle.line_rules.specs.SafeRuns.{HasOnlyIssuedKeys}
+use Rattle.line_rules.specs.Agreement.{Agrees}
 use Rattle.line_laws.specs.Owed.{KeepsRanges}
-use Rattle.line_laws.specs.Laws.{AreSaid, FlightsAreOctets}
+use Rattle.line_laws.specs.Laws.{IsLineRun, FlightsAreOctets}
 
 -- every meter to which keys are issued is named by 8 octets
 abbrev pub IssuedAreNamed : List Entry → Type 0
@@ -19,10 +21,9 @@ IsIssuedAfter before (x ∷ xs) = x.trace.happened.forged ≡ false → HasOnlyI
 -- so it is from the beginning of a run on
 abbrev pub OnlyIssuedKeys : Type 0
 OnlyIssuedKeys =
-    (ciphers : Ciphers) → KeepsRanges ciphers → (entries : List Entry) → AreSaid entries → FlightsAreOctets entries → IssuedAreNamed entries → IsRun ciphers start entries
-    → IsIssuedAfter [] entries
+    (ciphers : Ciphers) → KeepsRanges ciphers → (entries : List Entry) → IsLineRun ciphers entries → FlightsAreOctets entries → IssuedAreNamed entries → IsIssuedAfter [] entries
 
 -- a joining that is done in a run was taken before it, with the same random values
 abbrev pub EveryJoiningAgrees : Type 0
 EveryJoiningAgrees =
-    (ciphers : Ciphers) → KeepsRanges ciphers → (entries : List Entry) → AreSaid entries → FlightsAreOctets entries → IsRun ciphers start entries → Agrees entries
+    (ciphers : Ciphers) → KeepsRanges ciphers → (entries : List Entry) → IsLineRun ciphers entries → FlightsAreOctets entries → Agrees entries

@@ -1,48 +1,66 @@
--- What holds of every run, forged or not.
-use Rattle.std.specs.Prelude.{Some, None, true, is_some, ◌≡◌, ◌+◌, All, List, [], ◌∷◌, length}
+-- What holds of every run of the line.
+use Rattle.std.specs.Prelude.{All, List}
 use Rattle.node_rules.specs.Ciphers.{Ciphers}
-use Rattle.line_rules.specs.Events.{IsEvent}
-use Rattle.line_rules.specs.Worlds.{World, Flight, start}
-use Rattle.line_rules.specs.Runs.{Entry, IsRun, IsAlwaysSized, RestartsAreAnswered, CountersRise, nonce_parts}
-use Rattle.plc_base.specs.declared.key.Key.{Key}
+use Rattle.line_rules.specs.Events.{AreEvents}
+use Rattle.line_rules.specs.Worlds.{Flight, start}
+use Rattle.line_rules.specs.Runs.{Entry, IsRun, events_of}
+use Rattle.line_rules.specs.SafeRuns.{IsAlwaysSized, RestartsAreAnswered}
+use Rattle.line_rules.specs.Nonces.{CountersRise, NoncesDiffer, AreSpelled, AreAddressed, AreApart}
+use Rattle.line_rules.specs.Forgery.{IsForgedRight}
+use Rattle.line_rules.specs.Traces.{CountsRight, AreTracedRight}
 use Rattle.line_laws.specs.Owed.{AreOctets, KeepsRanges}
 
--- A flight with a key is a sealed frame, whose head has a nonce, and one without a key is not.
-pub record IsSpelled (f : Flight) : Type 0 where
-  pub sealed : (key : Key) → f.key ≡ Some key → is_some (nonce_parts f) ≡ true
-  pub plain : f.key ≡ None → nonce_parts f ≡ None
-
--- the events of a run are ones that lines can say
-abbrev pub AreSaid : List Entry → Type 0
-AreSaid entries = All (λ (x : Entry). IsEvent x.event) entries
+-- A run of the line from its beginning, whose events are ones that lines can say.
+pub record IsLineRun (ciphers : Ciphers) (entries : List Entry) : Type 0 where
+  pub events : AreEvents (events_of entries)
+  pub run : IsRun ciphers start entries
 
 -- every flight of a run is octets
 abbrev pub FlightsAreOctets : List Entry → Type 0
 FlightsAreOctets entries = All (λ (x : Entry). All (λ (f : Flight). AreOctets f.octets) x.after.flights) entries
 
+-- # Whatever the ciphers are
+
+-- the counts of each world are those of its history
+abbrev pub EveryCountIsRight : Type 0
+EveryCountIsRight = (ciphers : Ciphers) (entries : List Entry) → IsLineRun ciphers entries → CountsRight start entries
+
+-- the history has of each event what the report says
+abbrev pub EveryTraceIsRight : Type 0
+EveryTraceIsRight = (ciphers : Ciphers) (entries : List Entry) → IsLineRun ciphers entries → AreTracedRight start entries
+
+-- exactly forged events are reported to be forged
+abbrev pub EveryForgeryIsTold : Type 0
+EveryForgeryIsTold = (ciphers : Ciphers) (entries : List Entry) → IsLineRun ciphers entries → IsForgedRight ciphers start entries
+
+-- each flight with a key is a sealed frame under it, and each other one a plain frame
+abbrev pub EveryFlightIsSpelled : Type 0
+EveryFlightIsSpelled = (ciphers : Ciphers) (entries : List Entry) → IsLineRun ciphers entries → AreSpelled ciphers entries
+
+-- # Forged or not
+
 -- no table passes its size, and no event sends more than 24 frames
 abbrev pub EveryRunIsSized : Type 0
-EveryRunIsSized = (ciphers : Ciphers) → KeepsRanges ciphers → (entries : List Entry) → AreSaid entries → FlightsAreOctets entries → IsRun ciphers start entries → IsAlwaysSized entries
+EveryRunIsSized = (ciphers : Ciphers) → KeepsRanges ciphers → (entries : List Entry) → IsLineRun ciphers entries → FlightsAreOctets entries → IsAlwaysSized entries
 
 -- a restart finds a store that has a reading
 abbrev pub EveryRestartIsAnswered : Type 0
-EveryRestartIsAnswered = (ciphers : Ciphers) → KeepsRanges ciphers → (entries : List Entry) → AreSaid entries → FlightsAreOctets entries → IsRun ciphers start entries → RestartsAreAnswered entries
-
--- each event says how many flights it adds
-abbrev pub AddsUp : World → List Entry → Type 0
-AddsUp w [] = Unit {0}
-AddsUp w (x ∷ xs) = (length x.after.flights ≡ length w.flights + x.trace.happened.flights) × AddsUp x.after xs
-
--- the flights that are told are all that there are
-abbrev pub EveryFlightIsTold : Type 0
-EveryFlightIsTold = (ciphers : Ciphers) → KeepsRanges ciphers → (entries : List Entry) → AreSaid entries → FlightsAreOctets entries → IsRun ciphers start entries → AddsUp start entries
+EveryRestartIsAnswered = (ciphers : Ciphers) → KeepsRanges ciphers → (entries : List Entry) → IsLineRun ciphers entries → FlightsAreOctets entries → RestartsAreAnswered entries
 
 -- the counters of one node's sealed flights rise
 abbrev pub EveryCounterRises : Type 0
-EveryCounterRises = (ciphers : Ciphers) → KeepsRanges ciphers → (entries : List Entry) → AreSaid entries → FlightsAreOctets entries → IsRun ciphers start entries → CountersRise entries
+EveryCounterRises = (ciphers : Ciphers) → KeepsRanges ciphers → (entries : List Entry) → IsLineRun ciphers entries → FlightsAreOctets entries → CountersRise entries
 
--- every flight with a key is a sealed frame, so that the laws of counters and nonces say something of it
-abbrev pub EveryFlightIsSpelled : Type 0
-EveryFlightIsSpelled =
-    (ciphers : Ciphers) → KeepsRanges ciphers → (entries : List Entry) → AreSaid entries → FlightsAreOctets entries → IsRun ciphers start entries
-    → All (λ (x : Entry). All IsSpelled x.after.flights) entries
+-- a sealed flight has in its sender field the address of the node that sent it
+abbrev pub EverySenderIsRight : Type 0
+EverySenderIsRight = (ciphers : Ciphers) → KeepsRanges ciphers → (entries : List Entry) → IsLineRun ciphers entries → FlightsAreOctets entries → AreAddressed start entries
+
+-- # Up to the first forged event
+
+-- no two nodes have one address
+abbrev pub EveryAddressDiffers : Type 0
+EveryAddressDiffers = (ciphers : Ciphers) → KeepsRanges ciphers → (entries : List Entry) → IsLineRun ciphers entries → FlightsAreOctets entries → AreApart entries
+
+-- no two flights under one key have one nonce
+abbrev pub EveryNonceDiffers : Type 0
+EveryNonceDiffers = (ciphers : Ciphers) → KeepsRanges ciphers → (entries : List Entry) → IsLineRun ciphers entries → FlightsAreOctets entries → NoncesDiffer entries

@@ -1,9 +1,8 @@
 -- What flights are: each sealed one is the spelling of a letter in its ranges, each other one a plain frame.
-use Rattle.std.specs.Prelude.{◌≡◌, ℕ, ◌+◌, ◌<◌, ◌≤◌, ◌^◌, All, List, length, Some, None, ⊤}
+use Rattle.std.specs.Prelude.{◌≡◌, ℕ, ◌<◌, ◌≤◌, ◌^◌, All, List, length, Some, None, ⊤}
 use Rattle.plc_base.specs.Addresses.{IsAddress}
 use Rattle.plc_base.specs.declared.key.Key.{Key}
-use Rattle.mac_frames.specs.declared.head.MacHead.{MacHead}
-use Rattle.mac_frames.specs.Grammar.{IsTarget, header}
+use Rattle.mac_frames.specs.Grammar.{IsTarget}
 use Rattle.mesh_header.specs.declared.unit.Unit.{Unit}
 use Rattle.mesh_header.specs.declared.unit.Unit.TheVariants as units
 use Rattle.mesh_header.specs.Grammar.{IsUnit, spelling}
@@ -14,11 +13,6 @@ use Rattle.joining_messages.specs.declared.message.JoinMessage.{JoinMessage}
 use Rattle.node_rules.specs.Ciphers.{Ciphers}
 use Rattle.node_rules.specs.Frames.{Letter, Sealed, Up, Down, spelled}
 use Rattle.line_rules.specs.Worlds.{Flight}
-
--- What a key sealed, the same key opens: with the same head, behind the octets of that head. A tag has four octets.
-pub record OpensWhatItSeals (ciphers : Ciphers) : Type 0 where
-  pub opens : (key : Key) (head : MacHead) (payload : List ℕ) → ciphers.opens key head (header head) (ciphers.seals key head payload) ≡ Some payload
-  pub tag : (key : Key) (head : MacHead) (payload : List ℕ) → length (ciphers.seals key head payload) ≡ length payload + 4
 
 -- A unit that a sealed frame has room for.
 pub record IsFit (unit : Unit) : Type 0 where
@@ -42,7 +36,7 @@ pub record IsLetter (l : Letter) : Type 0 where
   pub route : IsRoute l.unit
 
 -- A flight under a key is the spelling of a letter that this key sealed, under the letter's note.
-pub record IsSpelled (ciphers : Ciphers) (f : Flight) (key : Key) : Type 0 where
+pub record SpellsLetter (ciphers : Ciphers) (f : Flight) (key : Key) : Type 0 where
   pub letter : Letter
   pub fits : IsLetter letter
   pub key_is : letter.key ≡ key
@@ -56,7 +50,7 @@ pub data IsPlain (ciphers : Ciphers) (octets : List ℕ) : Type 0 where
 
 -- A flight is what its key says.
 pub record IsFlight (ciphers : Ciphers) (f : Flight) : Type 0 where
-  pub sealed : (key : Key) → f.key ≡ Some key → IsSpelled ciphers f key
+  pub sealed : (key : Key) → f.key ≡ Some key → SpellsLetter ciphers f key
   pub plain : f.key ≡ None → IsPlain ciphers f.octets × (f.note ≡ 0)
 
 -- all the flights are

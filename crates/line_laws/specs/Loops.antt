@@ -24,8 +24,6 @@ use Rattle.node_rules.specs.declared.heard.Accepted.{Accepted}
 use Rattle.node_rules.specs.declared.heard.MeterHeard.TheVariants as meter_heard
 use Rattle.node_rules.specs.declared.refusal.CoordinatorRefusal.TheVariants as orders
 use Rattle.node_rules.specs.declared.refusal.FrameRefusal.{FrameRefusal}
-use Rattle.node_rules.specs.declared.refusal.FrameRefusal.TheVariants as frames
-use Rattle.node_rules.specs.Accepting.{accept}
 use Rattle.node_rules.specs.Calls as calls
 use Rattle.node_rules.specs.Ciphers.{Ciphers}
 use Rattle.node_rules.specs.Coordinators as coordinator_rules
@@ -37,11 +35,13 @@ use Rattle.node_rules.specs.Memory.{Memory, MeterSession, Meter, Node, node_addr
 use Rattle.node_rules.specs.Meters as meters
 use Rattle.node_rules.specs.Meters.{Identity}
 use Rattle.node_rules.specs.Plans.{Plan}
-use Rattle.line_rules.specs.Runs.{Entry, IsRun, HasNoLoop}
+use Rattle.line_rules.specs.Forgery.{accepting}
+use Rattle.line_rules.specs.Runs.{Entry}
+use Rattle.line_rules.specs.SafeRuns.{HasNoLoop}
 use Rattle.node_rules.specs.NodeSteps.{NodeStep, acts, of_station}
 use Rattle.line_rules.specs.Steps.{identity, hears, psk_of, note_by, forged_by}
 use Rattle.line_rules.specs.Worlds.{World, node_at, is_forged_tag, start}
-use Rattle.line_laws.specs.Laws.{AreSaid, FlightsAreOctets}
+use Rattle.line_laws.specs.Laws.{IsLineRun, FlightsAreOctets}
 use Rattle.line_laws.specs.Owed.{AreOctets, KeepsRanges}
 
 -- # What nodes store
@@ -96,10 +96,6 @@ FrameRead ciphers (Down from message) = Unit {0}
 -- what the letters of a plan spell is read back
 abbrev pub Reads : Ciphers → {A : Type 0} → Plan Memory A → Type 0
 Reads ciphers p = All (FrameRead ciphers) p.frames
-
--- what is left of accepting octets
-abbrev pub accepting : Ciphers → Node → List ℕ → NodeStep (Result Accepted FrameRefusal)
-accepting ciphers x octets = acts x (Err frames.Halted) (λ m. of_station m (accept m.station x.eui (arrived ciphers octets)))
 
 -- So it is of every call of a node of a line that may send sealed frames.
 pub record CallsRead (ciphers : Ciphers) (w : World) : Type 0 where
@@ -181,4 +177,4 @@ nowhere i = None
 -- a run whose addresses and letters are right has no loop before it is forged
 abbrev pub EveryRunIsLoopFree : Type 0
 EveryRunIsLoopFree =
-    (ciphers : Ciphers) → KeepsRanges ciphers → (entries : List Entry) → AreSaid entries → FlightsAreOctets entries → IsRun ciphers start entries → AreHomed ciphers nowhere start entries → AreLoopFree start entries
+    (ciphers : Ciphers) → KeepsRanges ciphers → (entries : List Entry) → IsLineRun ciphers entries → FlightsAreOctets entries → AreHomed ciphers nowhere start entries → AreLoopFree start entries

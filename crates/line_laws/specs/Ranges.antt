@@ -10,14 +10,14 @@ use Rattle.line_laws.specs.Stores.{IsReadable}
 use Rattle.line_laws.specs.Letters.{IsFit, IsRoute}
 
 -- a datagram that was taken, with a tag; a command, with its code in front
-abbrev pub IsLoad : Load → Type 0
-IsLoad (Datagram octets tag) = (0 < length octets) × (length octets ≤ 1280) × (tag < 2 ^ 16)
-IsLoad (Command octets) = length octets ≤ 375
+abbrev pub HasRoomInFrames : Load → Type 0
+HasRoomInFrames (Datagram octets tag) = (0 < length octets) × (length octets ≤ 1280) × (tag < 2 ^ 16)
+HasRoomInFrames (Command octets) = length octets ≤ 375
 
 -- A body that waits for one node.
 pub record IsBody (b : Body) : Type 0 where
   pub to : IsAddress b.to
-  pub load : IsLoad b.load
+  pub load : HasRoomInFrames b.load
 
 -- the next hop of an entry is one node
 abbrev pub HasHop : RoutingEntry → Type 0

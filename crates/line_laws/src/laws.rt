@@ -1,7 +1,7 @@
 //! Laws of the runs: each carried by a function that does nothing.
 ghost use Rattle.line_laws.specs.Issued.{EveryJoiningAgrees, OnlyIssuedKeys};
 ghost use Rattle.line_laws.specs.Loops.{EveryRunIsLoopFree};
-ghost use Rattle.line_laws.specs.Laws.{EveryCounterRises, EveryFlightIsSpelled, EveryFlightIsTold, EveryRunIsSized, EveryRestartIsAnswered};
+ghost use Rattle.line_laws.specs.Laws.{EveryAddressDiffers, EveryCountIsRight, EveryCounterRises, EveryFlightIsSpelled, EveryForgeryIsTold, EveryNonceDiffers, EveryRestartIsAnswered, EveryRunIsSized, EverySenderIsRight, EveryTraceIsRight};
 
 /// In every run, forged or not, no table passes its size, and no event sends more than 24 frames.
 #[tactic(auto)]
@@ -15,19 +15,13 @@ pub fn every_restart_is_answered()
     ensures { EveryRestartIsAnswered }
 {}
 
-/// In every run, forged or not, an event says as many flights as it adds.
-#[tactic(auto)]
-pub fn every_flight_is_told()
-    ensures { EveryFlightIsTold }
-{}
-
 /// In every run, forged or not, over restarts and failed writes, the counters of the sealed flights of one node rise.
 #[tactic(auto)]
 pub fn every_counter_rises()
     ensures { EveryCounterRises }
 {}
 
-/// In every run, forged or not, a flight with a key is a sealed frame, and one without a key is not.
+/// In every run, forged or not, a flight with a key is a sealed frame under this key, and one without a key is a plain frame.
 #[tactic(auto)]
 pub fn every_flight_is_spelled()
     ensures { EveryFlightIsSpelled }
@@ -50,4 +44,44 @@ pub fn only_issued_keys()
 #[tactic(auto)]
 pub fn every_joining_agrees()
     ensures { EveryJoiningAgrees }
+{}
+
+/// In every run, forged or not, the world counts events, sends, datagrams that were handed up, forged events, joinings, flights and
+/// pair tags as its history has them.
+#[tactic(auto)]
+pub fn every_count_is_right()
+    ensures { EveryCountIsRight }
+{}
+
+/// In every run, forged or not, the history has a send, a datagram that was handed up, a grant that was taken, issued keys or a
+/// joining that is done exactly where the answer of the event says so.
+#[tactic(auto)]
+pub fn every_trace_is_right()
+    ensures { EveryTraceIsRight }
+{}
+
+/// In every run exactly those events are reported to be forged in which a node accepted octets that no node sent under their key, or
+/// found a pair tag right that no node made.
+#[tactic(auto)]
+pub fn every_forgery_is_told()
+    ensures { EveryForgeryIsTold }
+{}
+
+/// In every run, forged or not, each sealed flight has in its sender field the address that its node has after the event that sent it.
+#[tactic(auto)]
+pub fn every_sender_is_right()
+    ensures { EverySenderIsRight }
+{}
+
+/// In every run, up to its first forged event, no two nodes have one address.
+#[tactic(auto)]
+pub fn every_address_differs()
+    ensures { EveryAddressDiffers }
+{}
+
+/// In every run, up to its first forged event, over restarts, failed writes and presets, no two flights that were sealed under one key
+/// have one nonce.
+#[tactic(auto)]
+pub fn every_nonce_differs()
+    ensures { EveryNonceDiffers }
 {}

@@ -13,11 +13,11 @@ use Rattle.line_world.specs.declared.world.TheConstants.{MAX_EVENTS}
 use Rattle.line_world.specs.Worlds.{World, Step, start}
 use Rattle.line_world.specs.Steps.{step}
 use Rattle.line_world.specs.Runs.{Entry, IsRun, CountsRight}
-use Rattle.line_replay.specs.declared.reading.Reading.{Reading}
-use Rattle.line_replay.specs.declared.reading.Reading.TheVariants.{Quiet, NoForm, Reads}
-use Rattle.line_replay.specs.declared.report.Reason.TheVariants as reasons
-use Rattle.line_replay.specs.Readings.{reading}
-use Rattle.line_replay.specs.Report.{Taking, Skipped, Taken, Refused, step_taking, reading_taking, taking, Playing, entry_text, turn_by, turn_of, end_of, is_forged, outcome, report, entries_by, entries_from, entries, entries_text, last_by, last_from, last_text, forged_in}
+use Rattle.line_script.specs.declared.reading.Reading.{Reading}
+use Rattle.line_script.specs.declared.reading.Reading.TheVariants.{Quiet, NoForm, Reads}
+use Rattle.line_script.specs.declared.report.Reason.TheVariants as reasons
+use Rattle.line_script.specs.Readings.{reading}
+use Rattle.line_replay.specs.Report.{Taking, Skipped, Taken, Refused, step_taking, is_on_the_line, event_taking, reading_taking, taking, Playing, entry_text, turn_by, turn_of, end_of, is_forged, outcome, report, entries_by, entries_from, entries, entries_text, last_by, last_from, last_text, forged_in}
 use Rattle.line_replay.specs.declared.status.Status.{Status}
 use Rattle.line_replay.specs.declared.status.Status.TheVariants as status
 use Rattle.line_replay.specs.Tool.{status_of, Ran, Names, is_whole}
@@ -39,10 +39,14 @@ room_goes : (w : World) (event : Event) (b : Bool) → nat_lt w.events MAX_EVENT
 room_goes w event true room = step_goes w event (step w event) (ltb-true w.events MAX_EVENTS room) refl
 room_goes w event false room = tt
 
+line_goes : (w : World) (event : Event) (b : Bool) → GoesOn w (if b then event_taking w event else Refused reasons.Form)
+line_goes w event true = room_goes w event (nat_lt w.events MAX_EVENTS) refl
+line_goes w event false = tt
+
 reading_goes : (w : World) (r : Reading) → GoesOn w (reading_taking w r)
 reading_goes w Quiet = tt
 reading_goes w NoForm = tt
-reading_goes w (Reads event) = room_goes w event (nat_lt w.events MAX_EVENTS) refl
+reading_goes w (Reads event) = line_goes w event (is_on_the_line event)
 
 taking_goes : (w : World) (content : Content) → GoesOn w (taking w content)
 unfolding taking

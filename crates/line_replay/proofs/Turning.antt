@@ -12,23 +12,23 @@ use Rattle.line_rules.specs.declared.happenings.Happenings.{Happenings}
 use Rattle.line_world.specs.declared.world.TheConstants.{MAX_EVENTS}
 use Rattle.line_world.specs.Worlds.{World}
 use Rattle.line_world.specs.Steps.{step}
-use Rattle.line_replay.specs.declared.reading.Reading.TheVariants.{Reads}
-use Rattle.line_replay.specs.Texts.{happened_text, sent_text}
-use Rattle.line_replay.specs.Report.{Playing, reading_taking, turn_by}
+use Rattle.line_script.specs.Texts.{happened_text}
+use Rattle.line_replay.specs.Texts.{sent_text}
+use Rattle.line_replay.specs.Report.{Playing, event_taking, turn_by}
 
-abbrev text_of : Bool → ℕ → World → Happenings → List ℕ
-text_of quiet number next h = happened_text number h ++ sent_text quiet next h.first_flight
+abbrev text_of : Bool → ℕ → World → Event → Happenings → List ℕ
+text_of quiet number next e h = happened_text number e h ++ sent_text quiet next h.first_flight
 
 turn_is : (quiet : Bool) (number : ℕ) (w next : World) (e : Event) (h : Happenings) → w.events < MAX_EVENTS → step w e ≡ Ok (next, h)
-    → turn_by quiet number (reading_taking w (Reads e)) ≡ Takes (record { quiet = quiet; world = next }) (text_of quiet (w.events + 1) next h)
+    → turn_by quiet number (event_taking w e) ≡ Takes (record { quiet = quiet; world = next }) (text_of quiet (w.events + 1) next e h)
 turn_is quiet number w next e h room is = rw (lt-ltb w.events MAX_EVENTS room, is) refl
 
 pub event_taken : {old new : SinkState} (quiet : Bool) (number count : ℕ) (w next : World) (e : Event) (h : Happenings) (r : Result (Unit {0}) StopReason) → count ≡ w.events → w.events < MAX_EVENTS → step w e ≡ Ok (next, h)
-    → Told old new (text_of quiet (count + 1) next h) r → Turned {M = Playing} old new (record { quiet = quiet; world = w }) (record { quiet = quiet; world = next }) (turn_by quiet number (reading_taking w (Reads e))) r
+    → Told old new (text_of quiet (count + 1) next e h) r → Turned {M = Playing} old new (record { quiet = quiet; world = w }) (record { quiet = quiet; world = next }) (turn_by quiet number (event_taking w e)) r
 event_taken {old} {new} quiet number count w next e h r counts room is t =
     subst (λ (turn : Turn Playing). Turned {M = Playing} old new (record { quiet = quiet; world = w }) (record { quiet = quiet; world = next }) turn r) (sym (turn_is quiet number w next e h room is))
-    (subst (λ n. Turned {M = Playing} old new (record { quiet = quiet; world = w }) (record { quiet = quiet; world = next }) (Takes (record { quiet = quiet; world = next }) (text_of quiet (n + 1) next h)) r) counts
-    (taken (text_of quiet (count + 1) next h) r t (record { quiet = quiet; world = w }) (record { quiet = quiet; world = next })))
+    (subst (λ n. Turned {M = Playing} old new (record { quiet = quiet; world = w }) (record { quiet = quiet; world = next }) (Takes (record { quiet = quiet; world = next }) (text_of quiet (n + 1) next e h)) r) counts
+    (taken (text_of quiet (count + 1) next e h) r t (record { quiet = quiet; world = w }) (record { quiet = quiet; world = next })))
 
 -- what a buffer has that was emptied, where the text was appended
 pub made_so : {T E : Type 0} (r : Result T E) (text : List ℕ) {shown old new : List ℕ} → shown ≡ new → old ≡ [] → OnOk r (new ≡ old ++ text) → OnOk r (shown ≡ text)

@@ -1,4 +1,3 @@
-pub mod Readings
 pub mod Report
 pub mod Shown
 pub mod Statuses

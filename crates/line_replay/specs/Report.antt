@@ -1,21 +1,23 @@
 -- What a script does, line by line, and its report.
-use Rattle.std.specs.Prelude.{◌≡◌, Some, ℕ, ◌+◌, Bool, List, [], ◌∷◌, ◌++◌, if◌then◌else◌, nat_lt, Ok, Err}
+use Rattle.std.specs.Prelude.{◌≡◌, Some, ℕ, ◌+◌, Bool, true, false, List, [], ◌∷◌, ◌++◌, if◌then◌else◌, nat_lt, Ok, Err}
 use Rattle.line_driver.specs.Lines.{Content, Text, Long, TooMuch, Line, lines}
 use Rattle.line_driver.specs.Clauses.{IsStop}
 use Rattle.line_driver.specs.Outcomes.{Turn, Skips, Takes, Stops, Outcome, outcome as outcome_of}
 use Rattle.line_rules.specs.declared.event.Event.{Event}
+use Rattle.line_rules.specs.declared.event.Event.TheVariants.{Coordinator, Meter, Depot, Near, Counter, Send, Deliver, Inject, Lose, Restart}
 use Rattle.line_rules.specs.declared.event.StepFault.TheVariants as faults
 use Rattle.line_world.specs.declared.world.Flight.{Flight}
 use Rattle.line_world.specs.declared.world.TheConstants.{MAX_EVENTS}
 use Rattle.line_world.specs.Worlds.{World, Step, start}
 use Rattle.line_world.specs.Steps.{step}
 use Rattle.line_world.specs.Runs.{Entry}
-use Rattle.line_replay.specs.declared.reading.Reading.{Reading}
-use Rattle.line_replay.specs.declared.reading.Reading.TheVariants.{Quiet, NoForm, Reads}
-use Rattle.line_replay.specs.declared.report.Reason.{Reason}
-use Rattle.line_replay.specs.declared.report.Reason.TheVariants as reasons
-use Rattle.line_replay.specs.Readings.{reading}
-use Rattle.line_replay.specs.Texts.{happened_text, fly_by, sent_text, bad_text, end_text}
+use Rattle.line_script.specs.declared.reading.Reading.{Reading}
+use Rattle.line_script.specs.declared.reading.Reading.TheVariants.{Quiet, NoForm, Reads}
+use Rattle.line_script.specs.declared.report.Reason.{Reason}
+use Rattle.line_script.specs.declared.report.Reason.TheVariants as reasons
+use Rattle.line_script.specs.Readings.{reading}
+use Rattle.line_script.specs.Texts.{happened_text, bad_text, end_text}
+use Rattle.line_replay.specs.Texts.{fly_by, sent_text, totals}
 
 -- What a line does: nothing, or it is an event that is taken, or it is bad.
 pub data Taking : Type 0 where
@@ -31,11 +33,28 @@ step_taking w event (Err faults.Node) = Refused reasons.Node
 step_taking w event (Err faults.Flight) = Refused reasons.Flight
 step_taking w event (Err faults.Memory) = Skipped
 
+-- the line takes the events of these kinds; those of the others have a reading and are refused as if they had none
+abbrev pub is_on_the_line : Event → Bool
+is_on_the_line (Coordinator eui key) = true
+is_on_the_line (Meter eui psk) = true
+is_on_the_line (Depot node) = true
+is_on_the_line (Near a b cost) = true
+is_on_the_line (Counter node value) = true
+is_on_the_line (Send from to datagram) = true
+is_on_the_line (Deliver flight node cost) = true
+is_on_the_line (Inject node cost octets) = true
+is_on_the_line (Lose flight) = true
+is_on_the_line (Restart node) = true
+is_on_the_line _ = false
+
+-- an event of a kind that the line takes
+abbrev pub event_taking : World → Event → Taking
+event_taking w event = if nat_lt w.events MAX_EVENTS then step_taking w event (step w event) else Refused reasons.Events
+
 abbrev pub reading_taking : World → Reading → Taking
 reading_taking w Quiet = Skipped
 reading_taking w NoForm = Refused reasons.Form
-reading_taking w (Reads event) =
-    if nat_lt w.events MAX_EVENTS then step_taking w event (step w event) else Refused reasons.Events
+reading_taking w (Reads event) = if is_on_the_line event then event_taking w event else Refused reasons.Form
 
 -- the reasons of a bad line, in their order
 unfoldable pub taking : World → Content → Taking
@@ -47,7 +66,7 @@ taking w (Text octets) = reading_taking w (reading octets)
 
 -- the lines that report an event, in a quiet report without those of its flights
 abbrev pub entry_text : Bool → Entry → List ℕ
-entry_text quiet entry = happened_text entry.number entry.happened ++ sent_text quiet entry.after entry.happened.first_flight
+entry_text quiet entry = happened_text entry.number entry.event entry.happened ++ sent_text quiet entry.after entry.happened.first_flight
 
 -- A world, and whether its report is quiet.
 pub record Playing : Type 0 where
@@ -64,7 +83,7 @@ abbrev pub turn_of : Playing → ℕ → Content → Turn Playing
 turn_of p number content = turn_by p.quiet number (taking p.world content)
 
 abbrev pub end_of : Playing → List ℕ
-end_of p = end_text p.world
+end_of p = end_text (totals p.world)
 
 -- the octet that is too much makes its line bad
 pub stops_at_too_much : (p : Playing) (number : ℕ) → IsStop (turn_of p number TooMuch)
@@ -136,7 +155,7 @@ last_by w number (Refused reason) rest = bad_text number reason
 
 -- the line of the first bad line, or the last line at the end of input
 abbrev pub last_from : World → List Line → Bool → List ℕ
-last_from w [] ended = if ended then end_text w else []
+last_from w [] ended = if ended then end_text (totals w) else []
 last_from w (line ∷ lines) ended = last_by w line.number (taking w line.content) (λ next. last_from next lines ended)
 
 abbrev pub last_text : List ℕ → Bool → List ℕ

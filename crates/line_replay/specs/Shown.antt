@@ -1,7 +1,6 @@
 -- What the command `show` writes of frames in hexadecimal.
 use Rattle.std.specs.Prelude.{ℕ, ◌+◌, ◌==◌, Bool, List, [], ◌∷◌, ◌++◌, length, codes, Option, None, Some, if◌then◌else◌}
 use Rattle.std.specs.Fmt.{decimal}
-use Rattle.byteorder.specs.Endian.{big_bytes}
 use Rattle.hex.specs.Hex.{encode_lower}
 use Rattle.line_driver.specs.Lines.{Content, Text, Long, TooMuch}
 use Rattle.line_driver.specs.Clauses.{IsStop}
@@ -15,9 +14,10 @@ use Rattle.mac_frames.specs.Faults.{frame_fault}
 use Rattle.mac_frames.specs.Reading.{head_in, body_in}
 use Rattle.line_replay.specs.declared.show.FrameLine.{FrameLine}
 use Rattle.line_replay.specs.declared.show.FrameLine.TheVariants.{Quiet, NoForm, Reads}
-use Rattle.line_replay.specs.declared.report.Reason.TheVariants as reasons
-use Rattle.line_replay.specs.Readings.{hex_octets}
-use Rattle.line_replay.specs.Texts.{bad_text}
+use Rattle.line_script.specs.declared.report.Reason.TheVariants as reasons
+use Rattle.line_script.specs.Words.{hex_octets}
+use Rattle.line_script.specs.NodeTexts.{short_word}
+use Rattle.line_script.specs.Texts.{bad_text}
 
 -- what a line holds: nothing, or a frame in hexadecimal, or it has no reading
 abbrev pub frame_by : Option (List ℕ) → FrameLine
@@ -37,10 +37,6 @@ kind_word kinds.Mode = codes "Mode"
 kind_word kinds.Level = codes "Level"
 kind_word kinds.Long = codes "Long"
 kind_word kinds.Address = codes "Address"
-
--- a short address, as 4 digits
-abbrev pub short_word : ℕ → List ℕ
-short_word address = encode_lower (big_bytes 2 address)
 
 -- a payload, or - where it is empty
 abbrev pub payload_word : List ℕ → List ℕ

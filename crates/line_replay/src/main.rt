@@ -1,7 +1,6 @@
 //! Replays the script that stands on standard input.
 #![tactic(auto)]
 
-mod reading;
 mod replay;
 mod report;
 mod show;

@@ -2,18 +2,38 @@
 ghost use Rattle.std.specs.Prelude.{◌≡◌, ◌++◌, OnOk, string_bytes};
 ghost use Rattle.line_driver.specs.Clauses.{Turned};
 ghost use Rattle.line_world.specs.Worlds.{start};
-ghost use Rattle.line_replay.specs.declared.reading.Reading.TheVariants.{Reads};
-ghost use Rattle.line_replay.specs.Texts.{happened_text, sent_text};
-ghost use Rattle.line_replay.specs.Report.{Playing, is_forged, reading_taking, turn_by, turn_of, end_of, stops_at_too_much};
+ghost use Rattle.line_script.specs.declared.reading.Reading.TheVariants.{Reads};
+ghost use Rattle.line_script.specs.Texts.{happened_text};
+ghost use Rattle.line_replay.specs.Texts.{sent_text};
+ghost use Rattle.line_replay.specs.Report.{Playing, is_forged, is_on_the_line, event_taking, reading_taking, turn_by, turn_of, end_of, stops_at_too_much};
 
-use crate::reading::{LINE_OCTETS, Reading, read_line};
-use crate::report::{Reason, end_text, push_happened, push_sent, refuse};
+use crate::report::{push_sent, refuse, totals};
 use line_driver::{LineKind, LineMachine, StopReason, tell, tell_made};
 use line_rules::{Event, Happenings, StepFault};
+use line_script::{LINE_OCTETS, Reading, Reason, end_text, push_happened, read_line};
 use line_world::{MAX_EVENTS, World};
 use plc_base::{FrameBuf, Sink};
 use std::alloc::{AllocError, Global};
 use std::marker::Model;
+
+/// Whether the line takes events of this kind.
+fn is_on_the_line(event: &Event<'_>) -> bool
+    ensures { result ≡ is_on_the_line event.now }
+{
+    match event {
+        Event::Coordinator { .. } => true,
+        Event::Meter { .. } => true,
+        Event::Depot { .. } => true,
+        Event::Near { .. } => true,
+        Event::Counter { .. } => true,
+        Event::Send { .. } => true,
+        Event::Deliver { .. } => true,
+        Event::Inject { .. } => true,
+        Event::Lose { .. } => true,
+        Event::Restart { .. } => true,
+        _ => false,
+    }
+}
 
 /// The world that a script acts on. A contract sees it, and whether its report is quiet.
 #[derive(Drop)]
@@ -42,18 +62,19 @@ fn push_entry(
     quiet: bool,
     world: &World,
     number: u32,
+    event: &Event<'_>,
     happened: &Happenings<'_>,
 ) -> Result<(), AllocError>
     ensures { OnOk result (string_bytes text.new
         ≡ string_bytes text.old
-        ++ (happened_text number happened.now ++ sent_text quiet world.now happened.now.first_flight)) }
+        ++ (happened_text number event.now happened.now ++ sent_text quiet world.now happened.now.first_flight)) }
 {
-    push_happened(text, alloc, number, happened)?;
+    push_happened(text, alloc, number, event, happened)?;
     push_sent(text, alloc, quiet, world, happened.first_flight)
 }
 
 impl Player {
-    /// Takes an event, and reports it.
+    /// Takes an event of a kind that the line takes, and reports it.
     #[tactic(auto, using(line_driver::proofs::Turned::stopped))]
     fn take_event<K: Sink>(
         &mut self,
@@ -62,7 +83,7 @@ impl Player {
         sink: &mut K,
     ) -> Result<(), StopReason>
         ensures { Turned (K.state sink.old) (K.state sink.new) self.old self.new
-            (turn_by self.old.quiet number (reading_taking self.old.world (Reads event.now))) result }
+            (turn_by self.old.quiet number (event_taking self.old.world event.now)) result }
     {
         let taken = self.world.counts().events;
         if taken >= MAX_EVENTS {
@@ -82,9 +103,27 @@ impl Player {
             self.quiet,
             &self.world,
             taken + 1,
+            event,
             &happened,
         );
         tell_made(sink, made, self.text.as_str())
+    }
+
+    /// Takes an event that was read, and reports it.
+    #[tactic(auto, using(line_driver::proofs::Turned::stopped))]
+    fn take_read<K: Sink>(
+        &mut self,
+        number: u32,
+        event: &Event<'_>,
+        sink: &mut K,
+    ) -> Result<(), StopReason>
+        ensures { Turned (K.state sink.old) (K.state sink.new) self.old self.new
+            (turn_by self.old.quiet number (reading_taking self.old.world (Reads event.now))) result }
+    {
+        if is_on_the_line(event) {
+            return self.take_event(number, event, sink);
+        }
+        refuse(self.alloc, number, Reason::Form, sink)
     }
 }
 
@@ -153,12 +192,15 @@ impl LineMachine for Replay {
             LineKind::Text => match read_line(line, &mut self.space) {
                 Reading::Quiet => Ok(()),
                 Reading::NoForm => refuse(alloc, number, Reason::Form, sink),
-                Reading::Reads(event) => self.player.take_event(number, &event, sink),
+                Reading::Reads(event) => self.player.take_read(number, &event, sink),
             },
         }
     }
 
     fn finish<K: Sink>(&self, sink: &mut K) -> Result<(), StopReason> {
-        tell(sink, end_text(self.player.alloc, &self.player.world))
+        tell(
+            sink,
+            end_text(self.player.alloc, totals(&self.player.world)),
+        )
     }
 }

@@ -1,11 +1,11 @@
 //! Frames in hexadecimal, one a line, and what each is.
 ghost use Rattle.std.specs.Prelude.{◌≡◌, ◌≤◌, length, IfOk, string_bytes, List, ℕ};
-ghost use Rattle.line_replay.specs.Shown.{frame_line, kind_word, short_word, payload_word, plain_text, head_text, fault_text, frame_text_by, shown_text, frames_text, show_turn, show_stops};
+ghost use Rattle.line_replay.specs.Shown.{frame_line, kind_word, payload_word, plain_text, head_text, fault_text, frame_text_by, shown_text, frames_text, show_turn, show_stops};
 ghost use Rattle.mac_frames.specs.Faults.{frame_fault};
 
-use crate::reading::{LINE_OCTETS, hex_octets};
-use crate::report::{Reason, refuse};
+use crate::report::refuse;
 use line_driver::{LineKind, LineMachine, StopReason, tell};
+use line_script::{LINE_OCTETS, Reason, hex_octets, short_word};
 use mac_frames::{FrameFault, FrameFaultKind, MacHead, read_frame};
 use plc_base::{Eui, OctetRef, Sink};
 use std::alloc::{AllocError, Global};
@@ -57,13 +57,6 @@ fn fault_text(alloc: Global, fault: FrameFault) -> Result<String, AllocError>
     let kind = kind_word(fault.kind);
     let place = fault.place;
     format!(in alloc; "fault {kind} {place}\n")
-}
-
-/// A short address, as 4 digits.
-fn short_word(alloc: Global, address: u16) -> Result<String, AllocError>
-    ensures { IfOk result (λ text. string_bytes text ≡ short_word address) }
-{
-    hex::encode(alloc, address.to_be_bytes().as_slice())
 }
 
 /// A payload, or - where it is empty.

@@ -3,4 +3,9 @@ pub mod Events
 pub mod Worlds
 pub mod Steps
 pub mod Runs
+pub mod SafeRuns
+pub mod Nonces
+pub mod Agreement
+pub mod Forgery
+pub mod Traces
 pub mod Laws

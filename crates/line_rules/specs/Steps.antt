@@ -8,7 +8,6 @@ use Rattle.plc_base.specs.declared.key.Key.{Key}
 use Rattle.plc_base.specs.declared.key.Rand.{Rand}
 use Rattle.plc_base.specs.declared.keeper.BadStore.{BadStore}
 use Rattle.plc_base.specs.declared.out_frame.OutFrame.{OutFrame}
-use Rattle.plc_base.specs.declared.tags.PairTag.{PairTag}
 use Rattle.plc_base.specs.Grant.{Granted}
 use Rattle.routing_set.specs.RoutingSet as routing
 use Rattle.line_rules.specs.declared.event.Event.{Event}
@@ -30,7 +29,7 @@ use Rattle.node_rules.specs.declared.refusal.LeaveRefusal.TheVariants as leaves
 use Rattle.node_rules.specs.declared.refusal.RandomFault.TheVariants as randoms
 use Rattle.node_rules.specs.declared.refusal.SendRefusal.TheVariants as sends
 use Rattle.node_rules.specs.Ciphers.{Ciphers}
-use Rattle.node_rules.specs.Frames.{Sent, spelled, arrived}
+use Rattle.node_rules.specs.Frames.{spelled, arrived}
 use Rattle.node_rules.specs.Memory.{StationMemory, Memory, Node, Role, Coordinator, Meter, node_address}
 use Rattle.node_rules.specs.Plans.{Plan}
 use Rattle.node_rules.specs.NodeSteps.{NodeStep, acts, stays, of_station, answering, changing}

@@ -3,3 +3,4 @@ pub mod Faults
 pub mod Reading
 pub mod Sealing
 pub mod Control
+pub mod Sent

@@ -27,7 +27,8 @@ use Rattle.node_rules.specs.Plans.{Plan}
 use Rattle.node_rules.specs.Drafts.{counters_left, Draft, empty_draft, refused, sealing, checked, choose}
 use Rattle.node_rules.specs.Hearing as station_rules
 use Rattle.node_rules.specs.Hearing.{dropped}
-use Rattle.node_rules.specs.Joining.{message, server_for, rand_p_in}
+use Rattle.node_rules.specs.Joining.{message, server_for}
+use Rattle.eap_psk.specs.Sessions.{rand_p_in}
 use Rattle.node_rules.specs.MemoryDrafts.{with_memory_by, is_commanded, in_memory, oldest, Unread, unread}
 use Rattle.node_rules.specs.Coordinators.{CoordinatorIdentity, Hearing, drop_it, ends, session_of, allowed_entry, grant_for, declines, challenges, open_session, asked, keys_for, take_second, accepts, take_fourth, take_packet, answered, hear_join, hear_join_in, heard_by, hear_coordinator, with_book_entry, changed, Ordering, orders, allow, depot_by, depot, rekey, activate_self, challenge_by, challenge_at, challenge, allowed_address, activate_by, activate, kick_by, kick, changes, kick_goes, without_session}
 use Rattle.node_rules.proofs.Shapes.{Rests, rests_shape, checked_shape, choose_shape, sealed_shape, sealing_shape, option_shape}

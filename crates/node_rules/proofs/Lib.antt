@@ -10,4 +10,4 @@ pub mod MeterShapes
 pub mod CoordinatorShapes
 pub mod Refusals
 pub mod Bounds
-pub mod Readings
+pub mod Outcomes

@@ -22,7 +22,8 @@ use Rattle.node_rules.specs.Plans.{Plan}
 use Rattle.node_rules.specs.Drafts.{Draft, empty_draft, checked, choose}
 use Rattle.node_rules.specs.Hearing as station_rules
 use Rattle.node_rules.specs.Hearing.{dropped}
-use Rattle.node_rules.specs.Joining.{peer_for, identifier_of, message}
+use Rattle.node_rules.specs.Joining.{message}
+use Rattle.eap_psk.specs.Sessions.{peer_for, identifier_of}
 use Rattle.node_rules.specs.MemoryDrafts.{in_memory, goes_down, oldest, Unread, unread, packet_fault}
 use Rattle.node_rules.specs.Meters.{Hearing, Identity, drop_it, ends, carry_up, carries_down, carry_down, reply_with, reply, take_with, take_by, take, takes, replies, challenged, declined, kicked, activated, hear_near, hear_order, hear_join, hear_join_in, heard_by, hear_meter, joining_ends, join, leaving_ends, leave}
 use Rattle.node_rules.proofs.Shapes.{Rests, rests_shape, checked_shape, choose_shape, sealed_shape, sealing_shape, option_shape}

@@ -1,6 +1,5 @@
 -- What a station does by itself: sending, time, its ring, and the settings of the workshop.
 use Rattle.std.specs.Prelude.{ℕ, ◌+◌, Bool, not, ◌==◌, ◌||◌, nat_lt, nat_le, List, [], length, is_some, Option, Some, None, Result, Ok, Err, if◌then◌else◌}
-use Rattle.std.specs.List.{filter}
 use Rattle.std.specs.Option.{option_map, option_map_or}
 use Rattle.plc_base.specs.Faults.{◌then◌, ◌when◌}
 use Rattle.plc_base.specs.declared.key.Key.{Key}
@@ -14,13 +13,15 @@ use Rattle.routing_set.specs.declared.rank.Rank.{Rank}
 use Rattle.routing_set.specs.RoutingSet as routing
 use Rattle.routing_set.specs.OwnNumber as own_number
 use Rattle.fragment_buffers.specs.Taking as pieces
+pub use Rattle.plc_base.specs.Times.{is_within}
+use Rattle.fragment_buffers.specs.Waiting.{still_waiting}
 use Rattle.node_rules.specs.declared.heard.SentHow.{SentHow}
 use Rattle.node_rules.specs.declared.heard.SentHow.TheVariants.{Sent, Waiting}
 use Rattle.node_rules.specs.declared.refusal.SendRefusal.{SendRefusal}
 use Rattle.node_rules.specs.declared.refusal.SendRefusal.TheVariants.{NotJoined, BadSize, ToSelf, WaitingFull, SeqSpent, CounterSpent, Store}
 use Rattle.node_rules.specs.declared.refusal.PresetFault.{PresetFault}
 use Rattle.node_rules.specs.declared.refusal.PresetFault.TheVariants as presets
-use Rattle.node_rules.specs.Memory.{StationMemory, Body, Datagram, Command, address_of, next_hop}
+use Rattle.node_rules.specs.Memory.{StationMemory, Datagram, Command, address_of, next_hop}
 use Rattle.node_rules.specs.Plans.{Plan, resting}
 use Rattle.node_rules.specs.Accepting.{is_own}
 use Rattle.node_rules.specs.Drafts.{Draft, Ends, Lack, OfRoom, OfNumbers, alone, empty_draft, with_rank, with_ring, with_next_tag, sets_out, lack, is_awaited, counters_left, refused, sealing, sealed, checked, choose}
@@ -95,16 +96,12 @@ room l to octets = option_map_or (λ _. room_fault l to octets) (address_of l) (
 abbrev pub broke : ℕ → StationMemory → StationMemory
 broke next l = record l { routing = routing.without_next l.routing next }
 
--- whether so many seconds have not passed since a time
-abbrev pub is_within : ℕ → ℕ → ℕ → Bool
-is_within seconds now since = nat_lt now (since + seconds)
-
 -- the routes end that were offered 21,600 seconds ago, the reassemblies that began 60 and the bodies that came 30 seconds ago
 abbrev pub tick : ℕ → StationMemory → StationMemory
 tick now l = record l {
   routing = routing.expired l.routing now;
   reassemblies = pieces.unexpired l.reassemblies now;
-  waiting = filter (λ (b : Body). is_within 30 now b.since) l.waiting;
+  waiting = still_waiting now l.waiting;
 }
 
 -- # The ring

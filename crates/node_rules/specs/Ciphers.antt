@@ -1,17 +1,14 @@
 -- What frames and the packets of a joining are made with.
-use Rattle.std.specs.Prelude.{ℕ, List, ◌++◌, length, Option, Some, None, if◌then◌else◌}
-use Rattle.std.specs.Str.{bytes_eq}
-use Rattle.plc_base.specs.Fields.{after}
-use Rattle.aes_modes.specs.Ccm.{ccm_text, ccm_tag}
+use Rattle.std.specs.Prelude.{◌≡◌, ℕ, ◌+◌, List, ◌++◌, length, Option, Some}
 use Rattle.plc_base.specs.declared.key.Key.{Key}
 use Rattle.plc_base.specs.declared.key.Rand.{Rand}
 use Rattle.plc_base.specs.Grant.{Granted}
 use Rattle.mac_frames.specs.declared.head.MacHead.{MacHead}
 use Rattle.mac_frames.specs.Grammar.{header}
-use Rattle.mac_frames.specs.Sealing.{nonce_of, payload_in, sealed_tag}
-use Rattle.joining_messages.specs.Reading.{grant_in}
-use Rattle.eap_psk.specs.Keys.{keys_of, transient_key, mac_p, mac_s, channel, channel_text}
-use Rattle.eap_psk.specs.Messages as packets
+use Rattle.mac_frames.specs.Sealing.{opened_in}
+use Rattle.mac_frames.specs.Sent.{sealed_body}
+use Rattle.eap_psk.specs.Keys.{keys_of}
+use Rattle.eap_psk.specs.Sessions as sessions
 use Rattle.eap_psk.specs.Faults as eap_faults
 use Rattle.eap_psk.specs.declared.fault.EapFault.{EapFault}
 use Rattle.eap_psk.specs.declared.server.Server.{Server}
@@ -41,53 +38,29 @@ pub record Ciphers : Type 0 where
 
 -- the payload under the key and the nonce of its head, and the four octets of the tag over header and payload
 abbrev pub sealed_with_ccm : Key → MacHead → List ℕ → List ℕ
-sealed_with_ccm key head payload = ccm_text key.0 (nonce_of head) payload ++ ccm_tag 4 key.0 (nonce_of head) (header head) payload
+sealed_with_ccm key head payload = sealed_body key.0 head payload
 
 -- the payload where the tag is right
 abbrev pub opened_with_ccm : Key → MacHead → List ℕ → List ℕ → Option (List ℕ)
-opened_with_ccm key head front body =
-    if bytes_eq (sealed_tag body) (ccm_tag 4 key.0 (nonce_of head) front (payload_in key.0 head body))
-    then Some (payload_in key.0 head body) else None
+opened_with_ccm key head front body = opened_in key.0 head front body
 
--- # Joining: EAP-PSK (RFC 4764)
-
--- with the identifier of the first packet
-abbrev pub second_packet : Key → ℕ → Peer → List ℕ
-second_packet psk identifier peer =
-    packets.head 2 identifier 62 1 peer.rand_s.0 ++ (peer.rand_p.0 ++ (mac_p (keys_of psk.0).ak peer.eui.0 peer.id_s.0 peer.rand_s.0 peer.rand_p.0 ++ peer.eui.0))
-
--- the key of the protected channel of a session
-abbrev pub tek_of : Key → Rand → List ℕ
-tek_of psk rand_p = transient_key (keys_of psk.0).kdk rand_p.0
-
--- the third packet: its head, MAC_S, and the grant in the protected channel
-abbrev pub third_packet : Key → Server → Rand → Granted → List ℕ
-third_packet psk server rand_p granted =
-    let text = packets.granting_text granted in
-    let head = packets.third_head 2 server.rand_s.0 (length text) in
-    head ++ (mac_s (keys_of psk.0).ak server.id_s.0 rand_p.0 ++ channel (tek_of psk rand_p) 0 head text)
-
--- the grant in the channel of the third packet, behind the flags and the type of the extension
-abbrev pub grant_of : Key → Peer → List ℕ → Option Granted
-grant_of psk peer packet = grant_in (after 2 (channel_text (tek_of psk peer.rand_p) 0 (after 58 packet)))
-
--- with the identifier of the third packet
-abbrev pub fourth_packet : Key → ℕ → Peer → List ℕ
-fourth_packet psk identifier peer =
-    packets.fourth_head identifier peer.rand_s.0 ++ channel (tek_of psk peer.rand_p) 1 (packets.fourth_head identifier peer.rand_s.0) packets.success_text
+-- What a key sealed, the same key opens, under the same head and after the octets of that head; a tag has four octets.
+pub record OpensWhatItSeals (ciphers : Ciphers) : Type 0 where
+  pub opens : (key : Key) (head : MacHead) (payload : List ℕ) → ciphers.opens key head (header head) (ciphers.seals key head payload) ≡ Some payload
+  pub tag : (key : Key) (head : MacHead) (payload : List ℕ) → length (ciphers.seals key head payload) ≡ length payload + 4
 
 -- # The network's
 
--- the ciphers of the network
+-- CCM* for frames, and EAP-PSK (RFC 4764) for the packets of a joining
 abbrev pub network : Ciphers
 network = record {
   seals = sealed_with_ccm;
   opens = opened_with_ccm;
-  second = second_packet;
-  third = third_packet;
-  fourth = fourth_packet;
+  second = λ psk identifier peer. sessions.second_packet (keys_of psk.0) identifier peer;
+  third = λ psk server rand_p granted. sessions.third_packet (keys_of psk.0) 2 (sessions.peer_of server rand_p) granted;
+  fourth = λ psk identifier peer. sessions.fourth_packet (keys_of psk.0) identifier peer;
   second_fault = λ psk server packet. eap_faults.second_fault (keys_of psk.0) server packet;
   third_fault = λ psk peer packet. eap_faults.third_fault (keys_of psk.0) peer packet;
   fourth_fault = λ psk server rand_p packet. eap_faults.fourth_fault (keys_of psk.0) server rand_p.0 packet;
-  granted = grant_of;
+  granted = λ psk peer packet. sessions.granted_by (keys_of psk.0) peer packet;
 }

@@ -37,7 +37,8 @@ use Rattle.node_rules.specs.Accepting.{same_eui}
 use Rattle.node_rules.specs.Drafts.{Draft, Ends, Lack, OfRoom, OfNumbers, empty_draft, with_ring, counters_left, refused, sealing, sealed, checked, choose}
 use Rattle.node_rules.specs.Hearing.{dropped, hear}
 use Rattle.node_rules.specs.Calls as calls
-use Rattle.node_rules.specs.Joining.{first_packet, server_for, rand_p_in, server_agrees, message, command_of}
+use Rattle.node_rules.specs.Joining.{first_packet, server_for, server_agrees, message, command_of}
+use Rattle.eap_psk.specs.Sessions.{rand_p_in}
 use Rattle.node_rules.specs.MemoryDrafts.{with_station, in_memory, on_station, with_memory_by, with_pair_tags, goes_down, is_commanded, command_lack, oldest, without_oldest, Unread, unread, packet_fault}
 use Rattle.node_rules.specs.Drafts as drafts
 

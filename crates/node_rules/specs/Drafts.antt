@@ -2,7 +2,6 @@
 use Rattle.std.specs.Prelude.{ℕ, ◌+◌, ◌-◌, ◌%◌, Bool, true, false, not, ◌==◌, nat_lt, nat_le, List, [], ◌∷◌, ◌++◌, length, map, drop, Option, Some, None, is_some, Result, Ok, Err, if◌then◌else◌}
 use Rattle.std.specs.List.{filter, list_any, sum_by, flat_map}
 use Rattle.std.specs.Option.{option_map_or}
-use Rattle.byteorder.specs.Endian.{big_bytes}
 use Rattle.plc_base.specs.Faults.{◌then◌, ◌when◌}
 use Rattle.plc_base.specs.declared.tags.PairTag.{PairTag}
 use Rattle.plc_base.specs.declared.key.Key.{Key}
@@ -14,23 +13,18 @@ use Rattle.group_keys.specs.KeyRing as ring
 use Rattle.routing_set.specs.declared.rank.Rank.{Rank}
 use Rattle.routing_set.specs.RoutingSet as routing
 use Rattle.routing_set.specs.OwnNumber as own_number
-use Rattle.fragment_buffers.specs.Cutting as cutting
-use Rattle.fragment_buffers.specs.Taking.{blocks}
-use Rattle.mesh_header.specs.declared.unit.Mesh.{Mesh}
+pub use Rattle.fragment_buffers.specs.Loads.{Outgoing, own_mesh, units_of, all_go}
+pub use Rattle.fragment_buffers.specs.Waiting.{waits_for}
+use Rattle.fragment_buffers.specs.Waiting.{is_awaited_in, waiting_blocks, no_room_in}
+pub use Rattle.fragment_buffers.specs.NextTag.{tag_slot, tag_after, tag_write}
 use Rattle.mesh_header.specs.declared.unit.Unit.{Unit}
-use Rattle.mesh_header.specs.declared.unit.Unit.TheVariants.{Whole, Part, Carried, Local}
+use Rattle.mesh_header.specs.declared.unit.Unit.TheVariants.{Local}
 use Rattle.loadng_messages.specs.declared.message.Message.{Message}
 use Rattle.loadng_messages.specs.declared.message.Message.TheVariants.{Rreq}
 use Rattle.loadng_messages.specs.Grammar as messages
 use Rattle.node_rules.specs.Frames.{Sent, Sealed, to_all}
-use Rattle.node_rules.specs.Memory.{StationMemory, Body, Load, Datagram, Command, load_octets, next_hop}
+use Rattle.node_rules.specs.Memory.{StationMemory, Load, next_hop}
 use Rattle.node_rules.specs.Plans.{Plan, resting}
-
--- A unit on its way out, which is not sealed yet.
-pub record Outgoing : Type 0 where
-  pub to : ℕ
-  pub unit : Unit
-  pub note : ℕ
 
 -- What is being done, up to the sealing of its units, which comes last.
 pub record Draft (M : Type 0) : Type 0 where
@@ -68,18 +62,10 @@ with_own_number d = record d {
 abbrev pub number_of : Draft StationMemory → ℕ
 number_of d = d.memory.own_number.last + 1
 
--- the slot of the next datagram tag
-abbrev pub tag_slot : ℕ
-tag_slot = 4
-
--- the tag behind this one, and 0 behind the last
-abbrev pub tag_after : ℕ → ℕ
-tag_after tag = (tag + 1) % 65536
-
 -- the tag of a datagram is taken: the next one is stored
 unfoldable pub with_next_tag : Draft StationMemory → Draft StationMemory
 with_next_tag d = record d {
-  puts = d.puts ++ record { slot = tag_slot; octets = big_bytes 2 (tag_after d.memory.next_tag) } ∷ [];
+  puts = d.puts ++ tag_write d.memory.next_tag ∷ [];
   memory = record d.memory { next_tag = tag_after d.memory.next_tag };
 }
 
@@ -101,34 +87,15 @@ goes to unit note d = record d { units = d.units ++ record { to = to; unit = uni
 abbrev pub tells : ℕ → Message → Draft StationMemory → Draft StationMemory
 tells to message d = goes to (Local 1 (messages.spelling message)) 0 d
 
--- the mesh header of what a node sends itself: 14 hops are left to it
-abbrev pub own_mesh : ℕ → ℕ → Mesh
-own_mesh own to = record { hops = 14; origin = own; to = to }
-
--- the units of a body: a datagram that fits goes whole, a longer one in pieces, and a command behind its code
-abbrev pub units_of : ℕ → ℕ → Load → List Unit
-units_of own to (Datagram octets tag) =
-    if nat_le (length octets) 375 then Whole (own_mesh own to) octets ∷ []
-    else map (λ piece. Part (own_mesh own to) piece) (cutting.cut octets tag)
-units_of own to (Command octets) = Carried (own_mesh own to) (drop 1 octets) ∷ []
-
--- each of the units goes to the hop
-abbrev pub all_go : ℕ → ℕ → List Unit → List Outgoing
-all_go hop note units = map (λ unit. record { to = hop; unit = unit; note = note }) units
-
 -- a body goes to a next hop
 unfoldable pub body_goes : ℕ → ℕ → ℕ → ℕ → Load → Draft StationMemory → Draft StationMemory
 body_goes own hop to note load d = record d { units = d.units ++ all_go hop note (units_of own to load) }
 
 -- # Bodies that wait
 
--- whether a body waits for an address
-abbrev pub waits_for : ℕ → Body → Bool
-waits_for dest b = b.to == dest
-
 -- whether something waits for an address
 abbrev pub is_awaited : StationMemory → ℕ → Bool
-is_awaited l dest = list_any (waits_for dest) l.waiting
+is_awaited l dest = is_awaited_in l.waiting dest
 
 -- a body waits from now on
 unfoldable pub waits : ℕ → ℕ → Load → ℕ → Draft StationMemory → Draft StationMemory
@@ -167,11 +134,11 @@ pub data Lack : Type 0 where
 
 -- how many blocks the waiting bodies fill
 abbrev pub blocks_waiting : StationMemory → ℕ
-blocks_waiting l = sum_by (λ (b : Body). blocks (length (load_octets b.load))) l.waiting
+blocks_waiting l = waiting_blocks l.waiting
 
 -- whether a body of so many octets more can't wait: 8 bodies wait, or their blocks pass 80
 abbrev pub no_room : StationMemory → ℕ → Bool
-no_room l octets = if nat_lt (length l.waiting) 8 then nat_lt 80 (blocks_waiting l + blocks octets) else true
+no_room l octets = no_room_in l.waiting octets
 
 -- whether no own number is left
 abbrev pub numbers_spent : StationMemory → Bool

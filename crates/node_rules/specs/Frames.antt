@@ -1,5 +1,5 @@
 -- Frames as values, and the two words at the edge: what a frame spells, and what arrived octets are.
-use Rattle.std.specs.Prelude.{ℕ, ◌%◌, true, not, ◌==◌, List, take, is_some, Option, Some, None, if◌then◌else◌}
+use Rattle.std.specs.Prelude.{ℕ, true, List, take, is_some, Option, Some, None, if◌then◌else◌}
 use Rattle.plc_base.specs.declared.address.TheConstants.{PAN}
 use Rattle.plc_base.specs.declared.address.Eui.{Eui}
 use Rattle.plc_base.specs.declared.key.Key.{Key}
@@ -7,6 +7,8 @@ use Rattle.plc_base.specs.declared.out_frame.OutFrame.{OutFrame}
 use Rattle.mac_frames.specs.declared.head.MacHead.{MacHead}
 use Rattle.mac_frames.specs.declared.head.MacHead.TheVariants as heads
 use Rattle.mac_frames.specs.Grammar.{header_then}
+pub use Rattle.mac_frames.specs.Sent.{to_all}
+use Rattle.mac_frames.specs.Sent.{sent_head}
 use Rattle.mac_frames.specs.Faults.{frame_fault}
 use Rattle.mac_frames.specs.Reading.{head_in, body_in}
 use Rattle.mesh_header.specs.declared.unit.Unit.{Unit}
@@ -15,10 +17,6 @@ use Rattle.mesh_header.specs.Grammar.{spelling}
 use Rattle.joining_messages.specs.declared.message.JoinMessage.{JoinMessage}
 use Rattle.joining_messages.specs.Messages as joining
 use Rattle.node_rules.specs.Ciphers.{Ciphers}
-
--- the short address that all nodes hear
-abbrev pub to_all : ℕ
-to_all = 0xFFFF
 
 -- # What a node sends
 
@@ -41,9 +39,9 @@ pub data Sent : Type 0 where
 
 -- # What a frame spells
 
--- a sealed frame asks for an acknowledgement unless it goes to all, and its sequence is the low octet of its counter
+-- the head of a sealed frame
 abbrev pub head_of : Letter → MacHead
-head_of l = heads.Sealed (not (l.to == to_all)) (l.counter % 256) PAN l.to l.from l.counter l.index
+head_of l = sent_head l.to l.from l.counter l.index
 
 -- the unit of a joining message on a plain frame
 abbrev pub joining_unit : JoinMessage → Unit

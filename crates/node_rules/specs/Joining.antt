@@ -1,16 +1,14 @@
 -- What the two ends of a joining send and check, as functions (RFC 4764), and the messages that carry it.
 use Rattle.std.specs.Prelude.{ℕ, ◌/◌, Bool, ◌==◌, ◌&&◌, nat_lt, List, ◌∷◌, ◌++◌, length, None}
-use Rattle.plc_base.specs.Fields.{octet, part}
+use Rattle.plc_base.specs.Fields.{octet}
 use Rattle.plc_base.specs.declared.address.Eui.{Eui}
 use Rattle.plc_base.specs.declared.key.Rand.{Rand}
 use Rattle.joining_messages.specs.declared.message.JoinMessage.{JoinMessage}
 use Rattle.joining_messages.specs.declared.message.JoinBody.{JoinBody}
 use Rattle.joining_messages.specs.Messages as messages
 use Rattle.eap_psk.specs.Messages as packets
-use Rattle.eap_psk.specs.Faults.{rand_s_of, rand_p_of}
 use Rattle.eap_psk.specs.declared.server.Server.{Server}
 use Rattle.eap_psk.specs.declared.server.Agreed.{Agreed}
-use Rattle.eap_psk.specs.declared.peer.Peer.{Peer}
 
 -- # The packets
 
@@ -22,25 +20,9 @@ first_packet server = packets.head 1 1 30 0 server.rand_s.0 ++ server.id_s.0
 abbrev pub server_for : Eui → Eui → Rand → Server
 server_for eui id_s rand_s = record { eui = eui; id_s = id_s; rand_s = rand_s; rand_p = None }
 
--- the peer that answers a first packet
-abbrev pub peer_for : Eui → Rand → List ℕ → Peer
-peer_for eui rand_p packet = record { eui = eui; id_s = record { 0 = part 22 8 packet }; rand_s = record { 0 = rand_s_of packet }; rand_p = rand_p }
-
--- the RAND_P that a second packet names
-abbrev pub rand_p_in : List ℕ → Rand
-rand_p_in packet = record { 0 = rand_p_of packet }
-
--- the identifier of a packet
-abbrev pub identifier_of : List ℕ → ℕ
-identifier_of packet = octet 1 packet
-
 -- whether a packet counts as a first one: the number of its message is 0
 abbrev pub is_first : List ℕ → Bool
 is_first packet = nat_lt 5 (length packet) && (octet 5 packet / 64 == 0)
-
--- the random values of the meter's end
-abbrev pub peer_agrees : Peer → Agreed
-peer_agrees peer = record { rand_s = peer.rand_s; rand_p = peer.rand_p }
 
 -- the random values of the coordinator's end
 abbrev pub server_agrees : Server → Rand → Agreed

@@ -1,17 +1,8 @@
 -- What holds of the rules whatever a node holds and whatever comes.
-use Rattle.mesh_header.specs.declared.unit.Unit.{Unit as MeshUnit}
-use Rattle.mesh_header.specs.Grammar as units
-use Rattle.mesh_header.specs.Reading.{unit_in}
-use Rattle.loadng_messages.specs.declared.message.Message.{Message}
-use Rattle.loadng_messages.specs.Grammar as messages
-use Rattle.loadng_messages.specs.Reading.{message_in}
-use Rattle.joining_messages.specs.declared.message.JoinMessage.{JoinMessage}
-use Rattle.joining_messages.specs.Messages as joining
-use Rattle.joining_messages.specs.Grants as grants
 use Rattle.plc_base.specs.Grant.{Granted}
-use Rattle.joining_messages.specs.Reading.{join_in, grant_in}
 use Rattle.std.specs.Option.{option_map}
-use Rattle.std.specs.Prelude.{IfSome, ◌<◌, ◌≡◌, ◌⊎◌, ℕ, ◌-◌, ◌≤◌, ◌==◌, All, List, [], ◌∷◌, ◌++◌, length, Option, Some, None, Result, Ok, Err, true, ◌+◌, if◌then◌else◌}
+use Rattle.fragment_buffers.specs.Taking.{blocks_held}
+use Rattle.std.specs.Prelude.{IfSome, ◌<◌, ◌^◌, ◌≡◌, ◌⊎◌, ℕ, ◌-◌, ◌≤◌, ◌==◌, All, List, [], ◌∷◌, ◌++◌, length, Option, Some, None, Result, Ok, Err, true, ◌+◌, if◌then◌else◌}
 use Rattle.std.specs.FinMap.{insert}
 use Rattle.plc_base.specs.declared.keeper.Cut.{Cut}
 use Rattle.plc_base.specs.Keeper.{Records, Write}
@@ -33,7 +24,9 @@ use Rattle.node_rules.specs.Calls as calls
 use Rattle.node_rules.specs.Meters as meters
 use Rattle.node_rules.specs.Coordinators as coordinator_rules
 use Rattle.node_rules.specs.Drafts.{blocks_waiting}
-use Rattle.node_rules.specs.Memory.{StationMemory, Body, Load, Datagram, Command, Memory, Node, node_address, node_route}
+pub use Rattle.fragment_buffers.specs.Loads.{IsShort}
+use Rattle.fragment_buffers.specs.Loads.{Load, Datagram, Command}
+use Rattle.node_rules.specs.Memory.{StationMemory, Body, Memory, Node, node_address, node_route}
 use Rattle.node_rules.specs.Plans.{Plan, Outcome, carry_out}
 use Rattle.node_rules.specs.NodeSteps.{acts, stays}
 
@@ -158,16 +151,28 @@ AnOrderRefusedChangesNothing =
 
 -- # How much is sent
 
--- a datagram that waits has at most 1,280 octets
-abbrev pub IsShort : Load → Type 0
-IsShort (Datagram octets tag) = length octets ≤ 1280
-IsShort (Command octets) = Unit {0}
-
--- What waits is within its sizes: at most 8 bodies, of at most 80 blocks.
-pub record IsWithinSizes (l : StationMemory) : Type 0 where
+-- What waits fits: at most 8 bodies, of at most 80 blocks.
+pub record WaitingFits (l : StationMemory) : Type 0 where
   pub bodies : length l.waiting ≤ 8
   pub blocks : blocks_waiting l ≤ 80
   pub datagrams : All (λ (b : Body). IsShort b.load) l.waiting
+
+-- a datagram has 1 to 1,280 octets, and the tag of its pieces two octets; a command has a code
+abbrev pub IsLoad : Load → Type 0
+IsLoad (Datagram octets tag) = (1 ≤ length octets) × (length octets ≤ 1280) × (tag < 2 ^ 16)
+IsLoad (Command octets) = 1 ≤ length octets
+
+-- No table of a node's memory passes its size, so a node that is within its sizes sends at most 24 frames in a step.
+pub record IsWithinSizes (m : Memory) : Type 0 where
+  pub peers : length m.station.marks ≤ 64
+  pub ranks : length m.station.routing.entries ≤ 64
+  pub floors : length m.station.routing.floors ≡ 16
+  pub reassemblies : (length m.station.reassemblies ≤ 8) × (blocks_held m.station.reassemblies ≤ 80)
+  pub waiting : WaitingFits m.station
+  pub loads : All (λ (b : Body). IsLoad b.load) m.station.waiting
+  pub sessions : length m.sessions ≤ 8
+  pub randoms : length m.randoms ≤ 8
+  pub book : length m.book ≤ 999
 
 -- a plan sends at most 24 frames
 abbrev pub SendsFew : {M A : Type 0} → Plan M A → Type 0
@@ -190,9 +195,9 @@ WritesInTurn p = InTurnFrom 0 p.puts
 
 -- # What a plan does at most
 
--- A plan whose writes are made in turn, and which sends at most 24 frames where what waits is within its sizes.
+-- A plan whose writes are made in turn, and which sends at most 24 frames where what waits fits.
 pub record IsBounded {M A : Type 0} (l : StationMemory) (p : Plan M A) : Type 0 where
-  pub frames : IsWithinSizes l → SendsFew p
+  pub frames : WaitingFits l → SendsFew p
   pub writes : WritesInTurn p
 
 -- what a station, a meter and the coordinator make of a frame
@@ -253,21 +258,3 @@ pub record OnlyMarks {M A : Type 0} (p : Plan M A) : Type 0 where
 -- accepting a frame stores at most the mark of its sender, at a table of at most 64 senders
 abbrev pub AcceptingOnlyMarks : Type 0
 AcceptingOnlyMarks = (l : StationMemory) (own : Eui) (a : Option Arrived) → length l.marks ≤ 64 → OnlyMarks (accept l own a)
-
--- # Readings
-
--- what is read out of octets is the value that they spell
-abbrev pub MessagesAreRead : Type 0
-MessagesAreRead = (m : Message) (octets : List ℕ) → messages.Spells m octets → message_in octets ≡ Some m
-
--- the joining message that is read out of octets is the one that they spell
-abbrev pub JoinsAreRead : Type 0
-JoinsAreRead = (m : JoinMessage) (octets : List ℕ) → joining.Spells m octets → join_in octets ≡ Some m
-
--- the unit that is read out of octets is the one that they spell
-abbrev pub UnitsAreRead : Type 0
-UnitsAreRead = (u : MeshUnit) (octets : List ℕ) → units.Spells u octets → unit_in octets ≡ Some u
-
--- the grant that is read out of octets is the one that they spell
-abbrev pub GrantsAreRead : Type 0
-GrantsAreRead = (g : Granted) (octets : List ℕ) → grants.SpellsGrant g octets → grant_in octets ≡ Some g

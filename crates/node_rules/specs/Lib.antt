@@ -13,4 +13,9 @@ pub mod Coordinators
 pub mod StoreReading
 pub mod NodeSteps
 pub mod Showing
+pub mod MemoryCodes
+pub mod States
+pub mod Agreement
+pub mod Carrying
+pub mod Neighbours
 pub mod Laws

@@ -13,28 +13,11 @@ use Rattle.group_keys.specs.KeyBook as book
 use Rattle.routing_set.specs.RoutingSet as routing
 use Rattle.routing_set.specs.OwnNumber as own_number
 use Rattle.fragment_buffers.specs.Reassembly as reassembly
+pub use Rattle.fragment_buffers.specs.Loads.{Load, Datagram, Command, load_octets}
+pub use Rattle.fragment_buffers.specs.Waiting.{Body}
 use Rattle.eap_psk.specs.declared.server.Server.{Server}
 use Rattle.eap_psk.specs.declared.peer.Peer.{Peer}
 use Rattle.node_rules.specs.declared.heard.Way.{Way}
-
--- # What waits for a route
-
--- a datagram, with the tag that names its pieces where it has more than one, or the octets of a command, its code first
-pub data Load : Type 0 where
-  Datagram : (octets : List ℕ) → (tag : ℕ) → Load
-  Command : (octets : List ℕ) → Load
-
--- the octets of a body
-abbrev pub load_octets : Load → List ℕ
-load_octets (Datagram octets tag) = octets
-load_octets (Command octets) = octets
-
--- A body that waits for a route to an address, from a time on.
-pub record Body : Type 0 where
-  pub to : ℕ
-  pub note : ℕ
-  pub since : ℕ
-  pub load : Load
 
 -- # What a node on the line holds in memory
 

@@ -35,7 +35,8 @@ use Rattle.node_rules.specs.Accepting.{same_eui}
 use Rattle.node_rules.specs.Drafts.{Draft, Ends, empty_draft, with_ring, refused, sealing, sealed, checked, choose}
 use Rattle.node_rules.specs.Hearing.{dropped, hear}
 use Rattle.node_rules.specs.Calls as calls
-use Rattle.node_rules.specs.Joining.{peer_for, identifier_of, is_first, peer_agrees, message}
+use Rattle.node_rules.specs.Joining.{is_first, message}
+use Rattle.eap_psk.specs.Sessions.{peer_for, identifier_of, agreed_by}
 use Rattle.node_rules.specs.MemoryDrafts.{with_station, in_memory, on_station, with_memory_by, with_pair_tags, goes_up, goes_down, is_commanded, command_lack, oldest, without_oldest, Unread, unread, packet_fault}
 
 -- what a meter does about a frame that was accepted
@@ -162,7 +163,7 @@ takes m course peer identifier granted join now =
     (with_pair_tags (success_tag peer.eui identifier peer.rand_s peer.rand_p ∷ [])
     (mac_s_tag peer.eui peer.id_s peer.rand_p ∷ granting_tag peer.eui identifier peer.rand_s peer.rand_p (granting_text granted) ∷ [])
     (on_station (with_ring (Some granted)) (with_memory_by (with_session None) (empty_draft m)))))
-    (heard.Took (peer_agrees peer)))
+    (heard.Took (agreed_by peer)))
 
 -- the third packet has to carry a grant
 abbrev pub take_with : Identity → Memory → Course → List ℕ → ℕ → Peer → Option Granted → Hearing

@@ -1,8 +1,7 @@
 -- What a node is after a restart: what its store gives, and nothing else.
-use Rattle.std.specs.Prelude.{ℕ, List, [], length, map, Option, Some, None, Result, Ok, Err, ◌==◌, if◌then◌else◌}
+use Rattle.std.specs.Prelude.{[], map, Some, None, Result, Ok, Err}
 use Rattle.std.specs.FinMap.{get}
 use Rattle.std.specs.List.{range_with_len}
-use Rattle.byteorder.specs.Endian.{big_number}
 use Rattle.plc_base.specs.Keeper.{Records}
 use Rattle.plc_base.specs.SlotTables as slots
 use Rattle.plc_base.specs.Grant.{Granted}
@@ -15,19 +14,13 @@ use Rattle.group_keys.specs.KeyBook as book
 use Rattle.routing_set.specs.RoutingSet as routing
 use Rattle.routing_set.specs.OwnNumber as own_number
 use Rattle.node_rules.specs.Memory.{StationMemory, Memory, Role, Coordinator, Meter}
-use Rattle.node_rules.specs.Drafts.{tag_slot}
+pub use Rattle.fragment_buffers.specs.NextTag.{tag_in}
+use Rattle.fragment_buffers.specs.NextTag.{tag_slot}
 
 -- what goes on with a part that was read, if it has a reading
 abbrev pub reading : {A B : Type 0} → Result A BadStore → (A → Result B BadStore) → Result B BadStore
 reading (Ok a) rest = rest a
 reading (Err bad) rest = Err bad
-
--- # The next datagram tag
-
--- the tag that the record of its slot gives: 0 where none is there, and no reading where it has not 2 octets
-abbrev pub tag_in : Option (List ℕ) → Result ℕ BadStore
-tag_in None = Ok 0
-tag_in (Some octets) = if length octets == 2 then Ok (big_number 2 octets) else Err (record { slot = tag_slot })
 
 -- # A node on the line
 

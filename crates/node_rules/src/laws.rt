@@ -1,5 +1,9 @@
 //! Laws of the rules: each carried by a function that does nothing.
-ghost use Rattle.node_rules.specs.Laws.{WritesFailCleanly, NoCutNoFailure, HaltedHasNoAddress, RinglessHasNoAddress, HaltedDoesNothing, AFrameRefusedChangesNothing, ADropChangesNothing, AMetersDropChangesNothing, ACoordinatorsDropChangesNothing, ASendRefusedChangesNothing, AJoinRefusedChangesNothing, AnOrderRefusedChangesNothing, HearingIsBounded, AMetersHearingIsBounded, ACoordinatorsHearingIsBounded, ASendIsBounded, AJoinIsBounded, AnOrderIsBounded, AcceptingOnlyMarks, MessagesAreRead, JoinsAreRead, UnitsAreRead, GrantsAreRead};
+ghost use Rattle.plc_base.specs.declared.out_frame.Out.{Out};
+ghost use Rattle.node_rules.specs.Carrying.{Carries, IsCarriedOut};
+ghost use Rattle.node_rules.specs.Plans.{Plan};
+ghost use Rattle.node_rules.specs.States.{State};
+ghost use Rattle.node_rules.specs.Laws.{WritesFailCleanly, NoCutNoFailure, HaltedHasNoAddress, RinglessHasNoAddress, HaltedDoesNothing, AFrameRefusedChangesNothing, ADropChangesNothing, AMetersDropChangesNothing, ACoordinatorsDropChangesNothing, ASendRefusedChangesNothing, AJoinRefusedChangesNothing, AnOrderRefusedChangesNothing, HearingIsBounded, AMetersHearingIsBounded, ACoordinatorsHearingIsBounded, ASendIsBounded, AJoinIsBounded, AnOrderIsBounded, AcceptingOnlyMarks};
 
 /// Where the write of a plan fails, the writes in front of it are stored and those behind it are not; the failed one is stored as the
 /// loss of power says. The node answers the word of a failed write, and nothing is sent, made or kept in memory. A plan whose writes are
@@ -13,6 +17,12 @@ pub fn writes_fail_cleanly<M, A>()
 #[tactic(auto, using(crate::proofs::Writing::no_cut))]
 pub fn no_cut_no_failure<M, A>()
     ensures { NoCutNoFailure M A }
+{}
+
+/// What a call does that carries out a plan is a function of the cut that is to come: where the keeper tells its cut it is `carry_out`, and
+/// over any other keeper in which no put fails it is `carry_out` with no cut.
+pub fn calls_are_functions<M, A>()
+    ensures { (old new : State M) (p : Plan M A) (answer : A) (out : Out) → Carries old p answer out new → IsCarriedOut old p answer out new }
 {}
 
 /// A halted node has no address and no route.
@@ -117,24 +127,4 @@ pub fn an_order_is_bounded()
 #[tactic(auto)]
 pub fn accepting_only_marks()
     ensures { AcceptingOnlyMarks }
-{}
-
-/// The message that is read out of octets is the one that they spell.
-pub fn messages_are_read()
-    ensures { MessagesAreRead }
-{}
-
-/// The joining message that is read out of octets is the one that they spell.
-pub fn joins_are_read()
-    ensures { JoinsAreRead }
-{}
-
-/// The unit that is read out of octets is the one that they spell.
-pub fn units_are_read()
-    ensures { UnitsAreRead }
-{}
-
-/// The grant that is read out of octets is the one that they spell.
-pub fn grants_are_read()
-    ensures { GrantsAreRead }
 {}

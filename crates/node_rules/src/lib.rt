@@ -14,12 +14,12 @@ pub use laws::{
     a_frame_refused_changes_nothing, a_join_is_bounded, a_join_refused_changes_nothing,
     a_meters_drop_changes_nothing, a_meters_hearing_is_bounded, a_send_is_bounded,
     a_send_refused_changes_nothing, accepting_only_marks, an_order_is_bounded,
-    an_order_refused_changes_nothing, grants_are_read, halted_does_nothing, halted_has_no_address,
-    hearing_is_bounded, joins_are_read, messages_are_read, no_cut_no_failure,
-    ringless_has_no_address, units_are_read, writes_fail_cleanly,
+    an_order_refused_changes_nothing, calls_are_functions, halted_does_nothing,
+    halted_has_no_address, hearing_is_bounded, no_cut_no_failure, ringless_has_no_address,
+    writes_fail_cleanly,
 };
 pub use refusal::{
-    CoordinatorRefusal, Dropped, FrameRefusal, Halted, JoinRefusal, LeaveRefusal, PresetFault,
-    RandomFault, SendRefusal,
+    CoordinatorRefusal, Dropped, FrameRefusal, Halted, JoinRefusal, LeaveRefusal, LocalRefusal,
+    PresetFault, RandomFault, SendRefusal,
 };
 pub use shown::{Shown, ShownPeer, ShownPeers, ShownRef, ShownRoute, ShownRoutes};

@@ -130,6 +130,17 @@ pub enum SendRefusal {
     Store,
 }
 
+/// Why a command for the neighbours is not sent. They are tried in this order.
+#[derive(Clone, Copy, Debug, PartialEq, Eq, Error)]
+pub enum LocalRefusal {
+    /// No frame counter is left. Nothing has changed.
+    #[error("the frame counters are spent")]
+    CounterSpent,
+    /// A store write failed. The node is halted, and nothing is sent.
+    #[error("a store write failed")]
+    Store,
+}
+
 /// Why a setting of the workshop is not made.
 #[derive(Clone, Copy, Debug, PartialEq, Eq, Error)]
 pub enum PresetFault {

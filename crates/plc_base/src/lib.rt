@@ -25,6 +25,7 @@ mod standard;
 mod stream_tests;
 mod streams;
 mod tags;
+mod times;
 
 pub use address::{Eui, PAN, Short};
 pub use fields::{
@@ -46,3 +47,4 @@ pub use slot_table::{SlotEntry, SlotTable};
 pub use standard::{StdSink, StdSource};
 pub use streams::{Failed, Sink, Source, write_all};
 pub use tags::{PairTag, PairTags, TagList, TagOctets, TagText};
+pub use times::is_within;

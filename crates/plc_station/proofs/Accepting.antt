@@ -1,7 +1,6 @@
 -- How a frame is accepted, as a plan that is carried out.
-use Rattle.std.proofs.Common.{◌≡◌, ℕ, true, false, List, [], take, Option, Some, None, Result, Ok, Err, refl, sym, ap, subst, ◌∙◌}
+use Rattle.std.proofs.Common.{◌≡◌, ℕ, true, false, List, take, Option, Some, None, Result, Ok, Err, refl, sym, subst}
 use Rattle.plc_base.specs.Keeper.{Stores}
-use Rattle.plc_base.specs.declared.address.Eui.{Eui}
 use Rattle.plc_base.specs.declared.key.Key.{Key}
 use Rattle.plc_base.proofs.WritesLemmas.{wrote_one}
 use Rattle.frame_counters.specs.declared.fault.PeerFault.{PeerFault}
@@ -19,7 +18,8 @@ use Rattle.node_rules.specs.Frames.{Arrived, arrived, arrived_with}
 use Rattle.node_rules.specs.Memory.{StationMemory}
 use Rattle.node_rules.specs.Accepting.{accept, accept_head, admit, admitted, is_for_me, marking, mark_refusal, refuse, with_key, open_sealed}
 use Rattle.node_rules.specs.Plans.{resting}
-use Rattle.plc_station.specs.State.{State, Carries, nothing}
+use Rattle.node_rules.specs.States.{State}
+use Rattle.node_rules.specs.Carrying.{Carries, nothing}
 use Rattle.plc_station.proofs.Carrying.{resting_carried}
 
 pub admit_refused : (s : State StationMemory) (l : StationMemory) (from counter : ℕ) (accepted : Accepted) (fault : PeerFault) (reason : FrameRefusal) → s.memory ≡ Some l

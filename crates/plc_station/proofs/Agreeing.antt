@@ -1,5 +1,5 @@
 -- What agreement owes to the part that put.
-use Rattle.std.proofs.Common.{◌≡◌, ℕ, List, inl, inr, ap, ◌∙◌, arith}
+use Rattle.std.proofs.Common.{inl, inr, ap, ◌∙◌, arith}
 use Rattle.plc_base.specs.Keeper.{Records, SameOutside}
 use Rattle.plc_base.proofs.SlotTables.{stored_elsewhere}
 use Rattle.frame_counters.specs.PeerMarks.{peers}
@@ -11,9 +11,9 @@ use Rattle.routing_set.specs.OwnNumber as own_number
 use Rattle.routing_set.proofs.Beside.{kept_elsewhere as routing_elsewhere, stored_beside}
 use Rattle.node_rules.specs.Memory.{StationMemory}
 use Rattle.node_rules.specs.StoreReading.{tag_in}
-use Rattle.plc_station.specs.Bodies.{Held}
+use Rattle.waiting_bodies.specs.Bodies.{Held}
 use Rattle.plc_station.specs.StationReading.{station_in}
-use Rattle.plc_station.specs.Parts.{AgreesWith}
+use Rattle.node_rules.specs.Agreement.{AgreesWith}
 use Rattle.plc_station.specs.declared.parts.Parts.{Parts}
 
 pub agrees_counted : (l : StationMemory) (x : counter.Counting) (old new : Records) → AgreesWith l old → counter.IsKept x new → SameOutside 2 2 old new → AgreesWith (record l { counter = x }) new

@@ -1,13 +1,13 @@
 -- A plan that is carried out.
-use Rattle.std.proofs.Common.{◌≡◌, ℕ, Bool, true, false, List, [], Option, Some, None, Result, Ok, Err, refl, sym, ap, subst, ◌∙◌}
-use Rattle.std.specs.Prelude.{IfSome, IsSome, if◌then◌else◌}
-use Rattle.plc_base.specs.Keeper.{Store, Write, Stores}
-use Rattle.plc_base.specs.Writes.{Wrote}
+use Rattle.std.proofs.Common.{◌≡◌, Bool, true, false, Option, Some, None, refl, ap, subst}
+use Rattle.std.specs.Prelude.{IfSome, IsSome}
+use Rattle.plc_base.specs.Keeper.{Store}
 use Rattle.plc_base.specs.declared.address.Eui.{Eui}
-use Rattle.plc_base.proofs.WritesLemmas.{wrote_none, wrote_one}
+use Rattle.plc_base.proofs.WritesLemmas.{wrote_none}
 use Rattle.node_rules.specs.Memory.{StationMemory}
-use Rattle.node_rules.specs.Plans.{Plan, resting}
-use Rattle.plc_station.specs.State.{State, Carries, nothing, unless_halted}
+use Rattle.node_rules.specs.Plans.{resting}
+use Rattle.node_rules.specs.States.{State, unless_halted}
+use Rattle.node_rules.specs.Carrying.{Carries, nothing}
 
 -- what holds of a memory, if there is one
 pub if_some : {M : Type 0} (o : Option M) (P : M → Type 0) → ((m : M) → o ≡ Some m → P m) → IfSome o P

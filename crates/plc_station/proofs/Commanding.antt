@@ -1,5 +1,5 @@
 -- What sending a command comes to, by what is tested.
-use Rattle.std.proofs.Common.{◌≡◌, ℕ, Bool, true, false, List, [], length, Option, Some, None, Result, Ok, Err, refl, sym, ap, ◌∙◌}
+use Rattle.std.proofs.Common.{◌≡◌, ℕ, Bool, true, false, List, length, Some, None, Result, Ok, Err, refl}
 use Rattle.std.specs.Prelude.{nat_lt, if◌then◌else◌}
 use Rattle.plc_base.specs.declared.out_frame.Out.{Out}
 use Rattle.node_rules.specs.declared.heard.SentHow.TheVariants.{Sent, Waiting}
@@ -9,7 +9,8 @@ use Rattle.node_rules.specs.Memory.{StationMemory, Command, next_hop}
 use Rattle.node_rules.specs.Drafts.{Draft, Ends, alone, empty_draft, body_goes, waits, seeks, seeks_once, lack, no_room, numbers_spent, is_awaited, counters_left, refused, sealing, checked, goes, with_own_number}
 use Rattle.node_rules.specs.Calls.{sending_ends, command_from, send_command, room_fault, room}
 use Rattle.plc_station.specs.Rooms.{room_answer}
-use Rattle.plc_station.specs.State.{State, Carries}
+use Rattle.node_rules.specs.States.{State}
+use Rattle.node_rules.specs.Carrying.{Carries}
 use Rattle.plc_station.proofs.Ways.{sealed_spent, sealed_fits, never_less}
 
 -- a step in the words of another call

@@ -1,8 +1,8 @@
 -- A doing that is carried to its end.
-use Rattle.std.proofs.Common.{◌≡◌, ℕ, ◌++◌, Bool, true, false, List, [], length, map, Option, Some, None, Result, Ok, Err, refl, sym, ap, subst, ◌∙◌}
+use Rattle.std.proofs.Common.{◌≡◌, ℕ, ◌++◌, Bool, true, false, [], length, map, Option, Some, None, Result, Ok, Err, refl, sym, ap, subst, ◌∙◌}
 use Rattle.std.specs.Prelude.{if◌then◌else◌}
 use Rattle.plc_base.specs.Keeper.{Store, Stores}
-use Rattle.plc_base.specs.Writes.{Wrote, puts_of}
+use Rattle.plc_base.specs.Writes.{Wrote}
 use Rattle.plc_base.specs.declared.out_frame.Out.{Out}
 use Rattle.plc_base.proofs.WritesLemmas.{wrote_one, wrote_append, wrote_append_stop}
 use Rattle.frame_counters.specs.SendCounter.{reserved, reserve_write}
@@ -14,7 +14,8 @@ use Rattle.node_rules.specs.Frames.{spelled}
 use Rattle.node_rules.specs.Memory.{StationMemory}
 use Rattle.node_rules.specs.Plans.{Plan, resting}
 use Rattle.node_rules.specs.Drafts.{Draft, Ends, alone, refused, sealing, sealed_by, sealing_key, letters}
-use Rattle.plc_station.specs.State.{State, Carries, nothing}
+use Rattle.node_rules.specs.States.{State}
+use Rattle.node_rules.specs.Carrying.{Carries, nothing}
 use Rattle.plc_station.proofs.Carrying.{resting_carried}
 
 -- what is sent, and what is left where a put failed

@@ -1,5 +1,5 @@
 -- What forwarding comes to, by what is tested.
-use Rattle.std.proofs.Common.{◌≡◌, ℕ, ◌<◌, Bool, true, false, List, length, Option, Some, None, Result, Ok, Err, refl, sym, ap, subst, ◌∙◌, arith}
+use Rattle.std.proofs.Common.{◌≡◌, ℕ, true, false, List, Some, None, Result, Ok, Err, refl}
 use Rattle.std.specs.Prelude.{◌==◌, nat_lt}
 use Rattle.loadng_messages.specs.declared.message.Message.TheVariants.{Rerr}
 use Rattle.mesh_header.specs.declared.unit.Mesh.{Mesh}
@@ -13,7 +13,7 @@ use Rattle.node_rules.specs.declared.refusal.Dropped.{Dropped}
 use Rattle.node_rules.specs.declared.refusal.Dropped.TheVariants.{BadUnit, Store, NoRoute, HopsSpent, CounterSpent}
 use Rattle.node_rules.specs.Memory.{StationMemory, next_hop}
 use Rattle.node_rules.specs.Plans.{Plan, resting}
-use Rattle.node_rules.specs.Drafts.{Draft, alone, empty_draft, choose, goes, tells, counters_left, refused, sealing, sealed}
+use Rattle.node_rules.specs.Drafts.{alone, empty_draft, choose, goes, tells, counters_left, refused, sealing}
 use Rattle.node_rules.specs.Hearing.{dropped, drop_it, hands_up, gather, hop_less, hear_over_mesh, forward, report_by, is_spent}
 use Rattle.plc_station.proofs.Ways.{sealed_spent, sealed_fits}
 

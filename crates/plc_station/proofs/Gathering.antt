@@ -1,15 +1,16 @@
 -- How a piece is gathered, as a plan that is carried out.
-use Rattle.std.proofs.Common.{◌≡◌, ℕ, Bool, true, false, List, Some, None, Ok, Err, refl, sym, ap, ◌∙◌}
+use Rattle.std.proofs.Common.{◌≡◌, ℕ, Bool, true, false, List, Some, Err, refl}
 use Rattle.fragment_buffers.specs.Reassembly.{Reassembly}
 use Rattle.fragment_buffers.specs.Taking as taking
 use Rattle.fragment_buffers.specs.Answers.{answer_of, octets_of}
 use Rattle.node_rules.specs.declared.refusal.Dropped.TheVariants.{Store}
 use Rattle.node_rules.specs.Memory.{StationMemory}
 use Rattle.node_rules.specs.Plans.{resting}
-use Rattle.node_rules.specs.Hearing.{Hearing, gathered, hands_up}
+use Rattle.node_rules.specs.Hearing.{gathered}
 use Rattle.plc_base.proofs.WritesLemmas.{wrote_none}
 use Rattle.plc_station.specs.Pieces.{came}
-use Rattle.plc_station.specs.State.{State, Carries, nothing, unless_halted}
+use Rattle.node_rules.specs.States.{State, unless_halted}
+use Rattle.node_rules.specs.Carrying.{Carries, nothing}
 
 pub gathered_is : (l : StationMemory) (from : ℕ) (t : taking.Taking) → gathered l from t ≡ resting (record l { reassemblies = t.held }) (came from (answer_of t.outcome) (octets_of t.outcome)) (Err Store)
 unfolding gathered resting

@@ -1,5 +1,5 @@
 -- What hearing a route reply comes to, by what is tested.
-use Rattle.std.proofs.Common.{◌≡◌, ℕ, ◌+◌, Bool, true, false, not, List, [], ◌∷◌, length, Option, Some, None, Result, refl, sym, ap, ◌∙◌}
+use Rattle.std.proofs.Common.{◌≡◌, ℕ, ◌+◌, true, false, not, [], ◌∷◌, length, Some, None, Result, refl, sym, ◌∙◌}
 use Rattle.std.specs.Prelude.{◌==◌, ◌||◌, nat_lt}
 use Rattle.std.proofs.lemmas.List.{length-append}
 use Rattle.loadng_messages.specs.Grammar as messages
@@ -13,9 +13,9 @@ use Rattle.node_rules.specs.declared.refusal.Dropped.{Dropped}
 use Rattle.node_rules.specs.declared.refusal.Dropped.TheVariants.{NotBetter, CostSpent, RoutesFull, CounterSpent, NoRoute}
 use Rattle.node_rules.specs.Memory.{StationMemory, next_hop}
 use Rattle.node_rules.specs.Plans.{Plan}
-use Rattle.node_rules.specs.Drafts.{Outgoing, alone, empty_draft, choose, checked, goes, tells, leave, with_rank, counters_left, refused, sealing}
-use Rattle.node_rules.specs.Hearing.{dropped, rank_fault, learns, passes_on, hear_reply, hear_reply_for, offers}
-use Rattle.plc_station.specs.Leaving.{leaving}
+use Rattle.node_rules.specs.Drafts.{alone, empty_draft, choose, checked, goes, tells, leave, with_rank, counters_left, refused, sealing}
+use Rattle.node_rules.specs.Hearing.{dropped, rank_fault, learns, hear_reply, hear_reply_for, offers}
+use Rattle.fragment_buffers.specs.Waiting.{leaving}
 use Rattle.plc_station.proofs.Requests.{IsTaken}
 use Rattle.plc_station.proofs.Ways.{sealed_spent, sealed_fits}
 

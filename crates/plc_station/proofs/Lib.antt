@@ -1,17 +1,10 @@
-pub mod Sound
-pub mod Tags
 pub mod Carrying
 pub mod Accepting
-pub mod Letters
 pub mod Ending
 pub mod Tagging
 pub mod Ways
 pub mod Forwarding
 pub mod Gathering
-pub mod Units
-pub mod Outcomes
-pub mod Leaves
-pub mod Dropping
 pub mod Agreeing
 pub mod Requests
 pub mod Learning
@@ -19,3 +12,7 @@ pub mod Losing
 pub mod Listening
 pub mod Setting
 pub mod Commanding
+pub mod Sealed
+pub mod Shows
+pub mod Beside
+pub mod Locals

@@ -1,6 +1,6 @@
 -- What hearing a frame comes to, by what it is.
-use Rattle.std.proofs.Common.{◌≡◌, ℕ, ◌+◌, Bool, true, false, List, Option, Some, None, Result, Ok, Err, refl, sym, ap, ◌∙◌}
-use Rattle.std.specs.Prelude.{◌==◌, is_some, if◌then◌else◌}
+use Rattle.std.proofs.Common.{◌≡◌, ℕ, Bool, true, false, List, Option, Some, None, Ok, Err, refl}
+use Rattle.std.specs.Prelude.{◌==◌}
 use Rattle.plc_base.specs.Grant.{Granted}
 use Rattle.plc_base.specs.declared.key.Key.{Key}
 use Rattle.plc_base.specs.declared.address.Eui.{Eui}
@@ -23,7 +23,7 @@ use Rattle.node_rules.specs.declared.refusal.Dropped.TheVariants.{BadUnit, Store
 use Rattle.node_rules.specs.Memory.{StationMemory}
 use Rattle.node_rules.specs.Plans.{resting}
 use Rattle.node_rules.specs.Drafts.{choose, refused}
-use Rattle.node_rules.specs.Hearing.{dropped, hear_message, hear_message_in, hear_command, hear_over_mesh, hear_sealed, hear_plain, hear_unit, hear_unit_in, is_joining, hear_request, hear_reply, hear_error, rank_over}
+use Rattle.node_rules.specs.Hearing.{dropped, hear_message, hear_command, hear_over_mesh, hear_sealed, hear_unit_in, is_joining, hear_request, hear_reply, hear_error, rank_over}
 
 pub message_none : (octets : List ℕ) (e : Fault MessageFaultKind) → message_fault octets ≡ Some e → message_in octets ≡ None
 unfolding message_in

@@ -1,5 +1,5 @@
 -- What hearing a route request comes to, by what is tested.
-use Rattle.std.proofs.Common.{◌≡◌, ℕ, ◌+◌, ◌<◌, inl, inr, Bool, true, false, not, List, [], ◌∷◌, length, refl, sym, ap, ◌∙◌, arith}
+use Rattle.std.proofs.Common.{◌≡◌, ℕ, ◌+◌, ◌<◌, inl, inr, true, false, not, List, [], ◌∷◌, length, refl, sym, arith}
 use Rattle.std.specs.Prelude.{◌==◌, ◌||◌, nat_lt}
 use Rattle.std.proofs.lemmas.Bool.{cases_lt}
 use Rattle.std.proofs.lemmas.Bool.Decides.{nat_tests}
@@ -15,9 +15,9 @@ use Rattle.node_rules.specs.declared.heard.Heard.TheVariants.{Answered, Relayed}
 use Rattle.node_rules.specs.declared.refusal.Dropped.TheVariants.{NotBetter, CostSpent, RoutesFull, SeqSpent, CounterSpent}
 use Rattle.node_rules.specs.Frames.{to_all}
 use Rattle.node_rules.specs.Memory.{StationMemory}
-use Rattle.node_rules.specs.Drafts.{Draft, Outgoing, alone, empty_draft, choose, checked, goes, tells, leave, with_own_number, with_rank, numbers_spent, counters_left, refused, sealing}
+use Rattle.node_rules.specs.Drafts.{Outgoing, alone, empty_draft, choose, checked, goes, tells, leave, with_own_number, with_rank, numbers_spent, counters_left, refused, sealing}
 use Rattle.node_rules.specs.Hearing.{dropped, rank_fault, hear_request, offers, offers_numbered}
-use Rattle.plc_station.specs.Leaving.{leaving}
+use Rattle.fragment_buffers.specs.Waiting.{leaving}
 use Rattle.plc_station.proofs.Ways.{sealed_spent, sealed_fits}
 
 -- the rank that is offered is taken

@@ -1,5 +1,5 @@
 -- What ring calls and presets come to, by what is tested.
-use Rattle.std.proofs.Common.{◌≡◌, ℕ, true, false, Option, Some, None, refl, sym, ap}
+use Rattle.std.proofs.Common.{◌≡◌, ℕ, true, false, Some, None, refl}
 use Rattle.plc_base.specs.declared.key.Key.{Key}
 use Rattle.group_keys.specs.declared.fault.RingFault.TheVariants.{NotHeld}
 use Rattle.group_keys.specs.KeyRing.{key_in_ring, with_active}

@@ -1,11 +1,11 @@
 -- The tag of a datagram, as a put that may not be there.
 use Rattle.std.proofs.Common.{◌≡◌, ℕ, Bool, true, false, List, [], length, refl}
-use Rattle.std.specs.Prelude.{nat_le, if◌then◌else◌}
+use Rattle.std.specs.Prelude.{nat_le}
 use Rattle.plc_base.specs.Writes.{puts_of}
 use Rattle.node_rules.specs.Memory.{StationMemory}
 use Rattle.node_rules.specs.Drafts.{Draft, empty_draft, with_next_tag}
 use Rattle.node_rules.specs.Calls.{tag_taken}
-use Rattle.plc_station.specs.Sealing.{take_write, tag_left}
+use Rattle.fragment_buffers.specs.NextTag.{take_write, tag_left}
 
 -- the doing in which the tag is taken where it has to be
 abbrev pub with_tag : StationMemory → List ℕ → Draft StationMemory

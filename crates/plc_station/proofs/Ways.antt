@@ -1,6 +1,6 @@
 -- What sending comes to, by what is tested.
-use Rattle.std.proofs.Common.{◌≡◌, ℕ, ◌+◌, ◌-◌, ◌<◌, ◌≤◌, Bool, true, false, List, [], length, Option, Some, None, Result, Ok, Err, refl, sym, ap, subst, ◌∙◌, arith}
-use Rattle.std.specs.Prelude.{◌==◌, ◌||◌, nat_lt, if◌then◌else◌}
+use Rattle.std.proofs.Common.{◌≡◌, ℕ, ◌+◌, ◌-◌, ◌<◌, ◌≤◌, true, false, List, length, Some, None, Result, Err, refl, sym, ap, subst, ◌∙◌, arith}
+use Rattle.std.specs.Prelude.{◌==◌, ◌||◌, nat_lt}
 use Rattle.std.proofs.lemmas.Bool.Decides.{nat_tests}
 use Rattle.fragment_buffers.specs.Cutting.{pieces_of}
 use Rattle.node_rules.specs.declared.heard.SentHow.TheVariants.{Sent, Waiting}
@@ -8,15 +8,16 @@ use Rattle.node_rules.specs.declared.refusal.SendRefusal.TheVariants.{NotJoined,
 use Rattle.node_rules.specs.declared.heard.SentHow.{SentHow}
 use Rattle.node_rules.specs.declared.refusal.SendRefusal.{SendRefusal}
 use Rattle.plc_base.specs.declared.out_frame.Out.{Out}
-use Rattle.plc_station.specs.State.{State, Carries, nothing}
+use Rattle.node_rules.specs.States.{State}
+use Rattle.node_rules.specs.Carrying.{Carries, nothing}
 use Rattle.plc_station.proofs.Carrying.{resting_carried}
 use Rattle.node_rules.specs.Memory.{StationMemory, Datagram, next_hop}
 use Rattle.node_rules.specs.Plans.{Plan}
 use Rattle.node_rules.specs.Accepting.{is_own}
-use Rattle.node_rules.specs.Drafts.{Draft, Ends, alone, empty_draft, body_goes, waits, seeks, seeks_once, sets_out, lack, no_room, numbers_spent, is_awaited, counters_left, refused, sealing, sealed, checked, goes, with_own_number}
+use Rattle.node_rules.specs.Drafts.{Draft, Ends, alone, empty_draft, body_goes, waits, seeks, seeks_once, lack, no_room, numbers_spent, is_awaited, counters_left, refused, sealing, sealed, checked, goes, with_own_number}
 use Rattle.node_rules.specs.Calls.{sending_ends, send, send_from, tag_taken}
 use Rattle.node_rules.proofs.Sizes.{length-all_go, length-units_of}
-use Rattle.plc_station.proofs.Tagging.{with_tag, tagged_is}
+use Rattle.plc_station.proofs.Tagging.{tagged_is}
 
 -- # Sealing, by the counters that are left
 

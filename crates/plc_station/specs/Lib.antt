@@ -1,14 +1,6 @@
-pub mod Codes
-pub mod Bodies
-pub mod BodiesInPool
-pub mod State
-pub mod Parts
 pub mod StationReading
 pub mod OpenFaults
 pub mod Sealing
 pub mod Pieces
-pub mod Outcome
-pub mod Leaving
 pub mod Heard
 pub mod Rooms
-pub mod Shown

@@ -1,10 +1,8 @@
 -- The line of a station, of its parts and its bodies.
-use Rattle.std.specs.Prelude.{◌≡◌, [], Option, Some, None, Result, Ok, Err}
-use Rattle.std.specs.FinMap.{get}
-use Rattle.plc_base.specs.Keeper.{Records}
+use Rattle.std.specs.Prelude.{[], Option, Some, None, Result, Ok, Err}
 use Rattle.plc_base.specs.declared.keeper.BadStore.{BadStore}
 use Rattle.node_rules.specs.Memory.{StationMemory}
-use Rattle.plc_station.specs.Bodies.{Held}
+use Rattle.waiting_bodies.specs.Bodies.{Held}
 use Rattle.plc_station.specs.declared.parts.Parts.{Parts}
 
 -- no body

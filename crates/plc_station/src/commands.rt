@@ -7,14 +7,16 @@ ghost use Rattle.node_rules.specs.Memory.{Command};
 ghost use Rattle.node_rules.specs.Drafts as drafts;
 ghost use Rattle.node_rules.specs.Calls as calls;
 ghost use Rattle.node_rules.specs.declared.heard.SentHow.TheVariants as how;
-ghost use Rattle.plc_station.specs.State.{Carries, Agrees, nothing};
+ghost use Rattle.node_rules.specs.Carrying.{Carries, nothing};
+ghost use Rattle.node_rules.specs.Agreement.{Agrees};
 ghost use Rattle.plc_station.specs.Rooms.{room_answer};
 
-use crate::sealing::{own_mesh, seal_request};
+use crate::sealing::seal_request;
 use crate::station::Station;
 use mesh_header::Unit;
 use node_rules::{SendRefusal, SentHow};
 use plc_base::{FrameBuf, Grant, Keeper, Out, Short};
+use waiting_bodies::own_mesh;
 
 // The unit of a command, whose code stands first.
 fn command_unit(grant: &Grant, to: Short, octets: &[u8]) -> Unit

@@ -5,7 +5,8 @@ ghost use Rattle.node_rules.specs.declared.heard.Heard.TheVariants as heard;
 ghost use Rattle.node_rules.specs.Drafts as drafts;
 ghost use Rattle.node_rules.specs.Hearing as hearing;
 ghost use Rattle.routing_set.specs.RoutingSet as routes;
-ghost use Rattle.plc_station.specs.State.{Carries, Agrees, nothing};
+ghost use Rattle.node_rules.specs.Carrying.{Carries, nothing};
+ghost use Rattle.node_rules.specs.Agreement.{Agrees};
 
 use crate::sealing::seal_message;
 use crate::station::Station;

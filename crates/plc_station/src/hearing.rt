@@ -10,11 +10,12 @@ ghost use Rattle.node_rules.specs.Memory.{next_hop};
 ghost use Rattle.node_rules.specs.Drafts as drafts;
 ghost use Rattle.node_rules.specs.Hearing as hearing;
 ghost use Rattle.routing_set.specs.RoutingSet as routing;
-ghost use Rattle.plc_station.specs.Leaving.{leaving};
+ghost use Rattle.fragment_buffers.specs.Waiting.{leaving};
 ghost use Rattle.plc_station.specs.Pieces as pieces;
-ghost use Rattle.plc_station.specs.State.{Carries, Agrees, nothing};
+ghost use Rattle.node_rules.specs.Carrying.{Carries, nothing};
+ghost use Rattle.node_rules.specs.Agreement.{Agrees};
 
-use crate::sealing::{seal, seal_message, sealing_key};
+use crate::sealing::seal_message;
 use crate::station::Station;
 use aes_modes::Aes;
 use fragment_buffers::{BufferFull, Taken};
@@ -23,6 +24,7 @@ use mesh_header::{Mesh, Piece, Unit, read_unit};
 use node_rules::{Dropped, Heard, Way};
 use plc_base::{DatagramBuf, FrameBuf, Grant, Keeper, Out, Short};
 use routing_set::Rank;
+use waiting_bodies::seal;
 
 // The unit of a route error.
 pub(crate) fn error_unit(lost: Short, to: Short) -> Unit
@@ -118,7 +120,7 @@ impl<K: Keeper + Drop> Station<K> {
         let Ok(counter) = self.parts.counter.reserve(&mut self.keeper, 1) else {
             return Err(Dropped::Store);
         };
-        let key = sealing_key(grant);
+        let key = grant.sealing_key();
         seal(grant, &key, &Aes::new(&key), counter, to, unit, note, out);
         self.halted = false;
         Ok(())
@@ -285,7 +287,7 @@ impl<K: Keeper + Drop> Station<K> {
         let Ok(first) = self.parts.counter.reserve(&mut self.keeper, units + 1) else {
             return Err(Dropped::Store);
         };
-        let key = sealing_key(grant);
+        let key = grant.sealing_key();
         self.bodies
             .seal_leaving(origin, grant, &key, &Aes::new(&key), first, by, out);
         let reply = Message::Rrep {
@@ -335,7 +337,7 @@ impl<K: Keeper + Drop> Station<K> {
         let Ok(first) = self.parts.counter.reserve(&mut self.keeper, units + 1) else {
             return Err(Dropped::Store);
         };
-        let key = sealing_key(grant);
+        let key = grant.sealing_key();
         self.bodies
             .seal_leaving(origin, grant, &key, &Aes::new(&key), first, by, out);
         let request = Message::Rreq {

@@ -5,7 +5,8 @@ ghost use Rattle.loadng_messages.specs.Grammar as messages;
 ghost use Rattle.loadng_messages.specs.Reading as reading;
 ghost use Rattle.node_rules.specs.Hearing as hearing;
 ghost use Rattle.plc_station.specs.Heard.{Fits};
-ghost use Rattle.plc_station.specs.State.{Carries, Agrees, nothing};
+ghost use Rattle.node_rules.specs.Carrying.{Carries, nothing};
+ghost use Rattle.node_rules.specs.Agreement.{Agrees};
 
 use crate::hearing::unit_in;
 use crate::station::Station;

@@ -1,13 +1,11 @@
 //! A station: what every node does on the line.
 #![tactic(auto)]
 
-mod bodies;
 mod commands;
 mod errors;
 mod hearing;
 mod hears;
-mod laws;
-mod next_tag;
+mod neighbours;
 mod parts;
 mod passing;
 mod presets;
@@ -18,6 +16,4 @@ mod sending;
 mod showing;
 mod station;
 
-pub use laws::calls_are_functions;
-pub use showing::ShownHead;
 pub use station::{OpenFault, Station};

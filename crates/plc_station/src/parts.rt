@@ -4,10 +4,10 @@ ghost use Rattle.plc_base.specs.SlotTables.{IsGapless};
 ghost use Rattle.frame_counters.specs.PeerMarks.{peers};
 ghost use Rattle.routing_set.specs.RoutingSet.{ranks};
 ghost use Rattle.node_rules.specs.StoreReading.{station_of};
-ghost use Rattle.plc_station.specs.Parts.{AgreesWith};
+ghost use Rattle.node_rules.specs.Agreement.{AgreesWith};
 ghost use Rattle.plc_station.specs.StationReading.{station_in, no_bodies};
 
-use crate::next_tag::NextTag;
+use fragment_buffers::NextTag;
 use frame_counters::{PeerMarks, SendCounter};
 use group_keys::KeyRing;
 use plc_base::{BadStore, Keeper};

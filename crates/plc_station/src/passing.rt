@@ -2,7 +2,7 @@
 ghost use Rattle.std.specs.Prelude.{◌≡◌, Some, Ok, Err, IfSome, IfNone};
 ghost use Rattle.std.specs.Option.{option_map};
 ghost use Rattle.node_rules.specs.Calls as calls;
-ghost use Rattle.plc_station.specs.State.{Agrees};
+ghost use Rattle.node_rules.specs.Agreement.{Agrees};
 
 use crate::station::Station;
 use node_rules::Halted;

@@ -3,7 +3,8 @@ ghost use Rattle.std.specs.Prelude.{◌≡◌, ◌≤◌, true, false, IfSome, I
 ghost use Rattle.node_rules.specs.Drafts as drafts;
 ghost use Rattle.node_rules.specs.Calls as calls;
 ghost use Rattle.routing_set.specs.RoutingSet as routing;
-ghost use Rattle.plc_station.specs.State.{Carries, Agrees, nothing};
+ghost use Rattle.node_rules.specs.Carrying.{Carries, nothing};
+ghost use Rattle.node_rules.specs.Agreement.{Agrees};
 
 use crate::station::Station;
 use node_rules::PresetFault;

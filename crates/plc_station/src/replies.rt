@@ -5,10 +5,11 @@ ghost use Rattle.node_rules.specs.Memory.{next_hop};
 ghost use Rattle.node_rules.specs.Drafts as drafts;
 ghost use Rattle.node_rules.specs.Hearing as hearing;
 ghost use Rattle.routing_set.specs.RoutingSet as routing;
-ghost use Rattle.plc_station.specs.Leaving.{leaving};
-ghost use Rattle.plc_station.specs.State.{Carries, Agrees, nothing};
+ghost use Rattle.fragment_buffers.specs.Waiting.{leaving};
+ghost use Rattle.node_rules.specs.Carrying.{Carries, nothing};
+ghost use Rattle.node_rules.specs.Agreement.{Agrees};
 
-use crate::sealing::{seal_message, sealing_key};
+use crate::sealing::seal_message;
 use crate::station::Station;
 use aes_modes::Aes;
 use loadng_messages::Message;
@@ -51,7 +52,7 @@ impl<K: Keeper + Drop> Station<K> {
         let Ok(first) = self.parts.counter.reserve(&mut self.keeper, units) else {
             return Err(Dropped::Store);
         };
-        let key = sealing_key(grant);
+        let key = grant.sealing_key();
         self.bodies
             .seal_leaving(origin, grant, &key, &Aes::new(&key), first, by, out);
         self.bodies.drop_for(origin);
@@ -95,7 +96,7 @@ impl<K: Keeper + Drop> Station<K> {
         let Ok(first) = self.parts.counter.reserve(&mut self.keeper, units + 1) else {
             return Err(Dropped::Store);
         };
-        let key = sealing_key(grant);
+        let key = grant.sealing_key();
         self.bodies
             .seal_leaving(origin, grant, &key, &Aes::new(&key), first, by, out);
         let reply = Message::Rrep {

@@ -5,7 +5,8 @@ ghost use Rattle.node_rules.specs.Memory.{Datagram, next_hop};
 ghost use Rattle.node_rules.specs.Drafts as drafts;
 ghost use Rattle.node_rules.specs.Calls as calls;
 ghost use Rattle.node_rules.specs.declared.heard.SentHow.TheVariants as how;
-ghost use Rattle.plc_station.specs.State.{Carries, Agrees, nothing};
+ghost use Rattle.node_rules.specs.Carrying.{Carries, nothing};
+ghost use Rattle.node_rules.specs.Agreement.{Agrees};
 
 use crate::sealing::{seal_datagram, seal_request};
 use crate::station::Station;

@@ -1,56 +1,141 @@
-//! What is shown of a station, besides its lists.
-ghost use Rattle.std.specs.Prelude.{◌≡◌, IfSome, None};
-ghost use Rattle.node_rules.specs.Showing.{shown_station, nothing_shown};
-ghost use Rattle.plc_station.specs.Shown.{IsHead};
+//! What is shown of a station.
+ghost use Rattle.std.specs.Prelude.{◌≡◌, ◌<◌, map, None, Some, IfSome, IsSome, length};
+ghost use Rattle.std.specs.Option.{option_map};
+ghost use Rattle.plc_base.specs.Orders.{ordered_by};
+ghost use Rattle.plc_base.specs.SlotTables.{entry_of};
+ghost use Rattle.frame_counters.specs.PeerMarks.{peers};
+ghost use Rattle.routing_set.specs.RoutingSet.{ranks, next_of};
+ghost use Rattle.node_rules.specs.Neighbours.{valid_route};
+ghost use Rattle.node_rules.specs.Showing.{shown_station, nothing_shown, shown_route, shown_peer};
 
 use crate::station::Station;
-use plc_base::{Keeper, Key, Short};
+use frame_counters::PeerMarks;
+use group_keys::KeyRing;
+use node_rules::{Shown, ShownPeer, ShownPeers, ShownRoute, ShownRoutes};
+use plc_base::{Keeper, Short};
+use routing_set::RoutingSet;
 
-/// What is shown of a station, besides its routes, its floors and its marks.
-#[derive(Clone, Copy)]
-pub struct ShownHead {
-    /// Whether it is halted. Then it shows nothing else.
-    pub halted: bool,
-    /// Its address, if it is joined.
-    pub address: Option<Short>,
-    /// The index of the key that seals.
-    pub active: Option<u8>,
-    /// The counter of its next sealed frame.
-    pub next_counter: u32,
-    /// Its last own number.
-    pub last_number: u16,
-    /// Its keys.
-    pub key0: Option<Key>,
-    /// The other one.
-    pub key1: Option<Key>,
+// The next hop of the valid route to an address, as a number.
+fn next_number(routing: &RoutingSet, dest: Short) -> Option<u16>
+    ensures { result ≡ next_of routing.now dest }
+{
+    let next = routing.route(dest)?;
+    Some(next.number())
+}
+
+// The kept rank of an address, and the next hop where the route to it is valid.
+fn route_shown(routing: &RoutingSet, dest: Short) -> ShownRoute
+    requires kept { IsSome (entry_of ranks routing.now.entries dest) }
+    ensures { Some result ≡ option_map shown_route (entry_of ranks routing.now.entries dest) }
+{
+    let Some(rank) = routing.rank(dest) else {
+        unreachable!()
+    };
+    ShownRoute {
+        dest,
+        number: rank.number,
+        cost: rank.cost,
+        next: next_number(routing, dest),
+    }
+}
+
+// Shows the kept ranks, in the order of their addresses.
+fn show_routes(routing: &RoutingSet, out: &mut ShownRoutes)
+    ensures { out.new ≡ map shown_route (ordered_by (λ e. e.address) routing.now.entries) }
+{
+    out.clear();
+    // No two of them have one address.
+    let _entries = routing.entries();
+    let kept = routing.kept();
+    for dest in kept.as_slice() {
+        out.push(route_shown(routing, *dest));
+    }
+}
+
+// The mark of a sender that is held.
+fn peer_shown(marks: &PeerMarks, from: Short) -> ShownPeer
+    requires held { IsSome (entry_of peers marks.now from) }
+    ensures { Some result ≡ option_map shown_peer (entry_of peers marks.now from) }
+{
+    let Some(mark) = marks.mark(from) else {
+        unreachable!()
+    };
+    ShownPeer { from, mark }
+}
+
+// Shows the marks, in the order of their senders.
+fn show_peers(marks: &PeerMarks, out: &mut ShownPeers)
+    ensures { out.new ≡ map shown_peer (ordered_by (λ p. p.address) marks.now) }
+{
+    out.clear();
+    // No two of them have one address.
+    let _entries = marks.entries();
+    let senders = marks.senders();
+    for from in senders.as_slice() {
+        out.push(peer_shown(marks, *from));
+    }
 }
 
 impl<K: Keeper + Drop> Station<K> {
-    /// What is shown of it, besides its lists.
-    pub fn shown_head(&self) -> ShownHead
-        ensures halted { self.now.memory ≡ None → IsHead result nothing_shown }
-        ensures shown { IfSome self.now.memory (λ l. IsHead result (shown_station l)) }
+    // Shows that it is halted, and nothing else.
+    fn show_nothing(&self, out: &mut Shown)
+        ensures { out.new ≡ nothing_shown }
+    {
+        out.halted = true;
+        out.address = None;
+        out.active = None;
+        out.next_counter = 0;
+        out.last_number = 0;
+        out.key0 = None;
+        out.key1 = None;
+        out.routes.clear();
+        out.floors = [0; 16];
+        out.peers.clear();
+    }
+
+    /// Fills in what is shown of it. Of a halted one that is nothing but that it is halted.
+    pub fn shown(&self, out: &mut Shown)
+        ensures halted { self.now.memory ≡ None → out.new ≡ nothing_shown }
+        ensures shown { IfSome self.now.memory (λ l. out.new ≡ shown_station l) }
     {
         if self.halted {
-            return ShownHead {
-                halted: true,
-                address: None,
-                active: None,
-                next_counter: 0,
-                last_number: 0,
-                key0: None,
-                key1: None,
-            };
+            self.show_nothing(out);
+            return;
         }
-        let left = self.parts.counter.left();
-        ShownHead {
-            halted: false,
-            address: self.parts.ring.joined(),
-            active: self.parts.ring.active(),
-            next_counter: u32::MAX - left,
-            last_number: self.parts.own_number.last(),
-            key0: self.parts.ring.key(0),
-            key1: self.parts.ring.key(1),
+        out.halted = false;
+        out.address = self.parts.ring.joined();
+        out.active = self.parts.ring.active();
+        out.next_counter = u32::MAX - self.parts.counter.left();
+        out.last_number = self.parts.own_number.last();
+        out.key0 = self.parts.ring.key(0);
+        out.key1 = self.parts.ring.key(1);
+        show_routes(&self.parts.routing, &mut out.routes);
+        out.floors = self.parts.routing.floors();
+        show_peers(&self.parts.marks, &mut out.peers);
+    }
+
+    /// Its ring. That of a halted one says nothing.
+    pub fn ring(&self) -> &KeyRing
+        ensures { IfSome self.now.memory (λ l. result.now ≡ l.ring) }
+    {
+        &self.parts.ring
+    }
+
+    /// The next hop of the valid route to an address and the cost of the address's rank, None where it has no valid route. One that
+    /// is halted or not joined has none.
+    pub fn valid(&self, dest: Short) -> Option<(Short, u16)>
+        ensures halted { self.now.memory ≡ None → result ≡ None }
+        ensures route { IfSome self.now.memory (λ l. result ≡ valid_route l dest) }
+    {
+        if self.halted {
+            return None;
         }
+        let Some(_) = self.parts.ring.grant() else {
+            return None;
+        };
+        let Some(hop) = self.parts.routing.route(dest) else {
+            return None;
+        };
+        Some((hop, self.parts.routing.held(dest).cost))
     }
 }

@@ -5,21 +5,19 @@ ghost use Rattle.plc_base.specs.SlotTables.{IsGapless};
 ghost use Rattle.frame_counters.specs.PeerMarks.{peers};
 ghost use Rattle.routing_set.specs.RoutingSet.{ranks};
 ghost use Rattle.group_keys.specs.KeyRing as ring;
-ghost use Rattle.group_keys.specs.KeyBook.{eui_number};
 ghost use Rattle.mac_frames.specs.Grammar.{Frame, IsSealed};
 ghost use Rattle.node_rules.specs.Ciphers.{network};
 ghost use Rattle.node_rules.specs.Frames.{arrived, arrived_with};
 ghost use Rattle.node_rules.specs.Memory.{address_of};
 ghost use Rattle.node_rules.specs.Accepting as accepting;
 ghost use Rattle.node_rules.specs.StoreReading.{station_of};
-ghost use Rattle.plc_station.specs.State.{Carries, Agrees, nothing};
+ghost use Rattle.node_rules.specs.Carrying.{Carries, nothing};
+ghost use Rattle.node_rules.specs.Agreement.{Agrees};
 ghost use Rattle.plc_station.specs.StationReading.{if_read, read_answer};
 ghost use Rattle.plc_station.specs.OpenFaults.{IsOpenFault};
 
-use crate::bodies::Bodies;
 use crate::parts::Parts;
 use aes_modes::Aes;
-use byteorder::{BigEndian, ByteOrder};
 use frame_counters::PeerFault;
 use mac_frames::{MacHead, RawFrame, open_frame, read_frame};
 use node_rules::{Accepted, FrameRefusal, Path};
@@ -27,6 +25,7 @@ use plc_base::{BadStore, Eui, FrameBuf, Keeper, PAN, Short};
 use std::alloc::{AllocError, Global};
 use std::marker::Model;
 use thiserror::Error;
+use waiting_bodies::Bodies;
 
 /// Why a station is not opened.
 #[derive(Clone, Copy, Debug, PartialEq, Eq, Error)]
@@ -56,7 +55,7 @@ pub struct Station<K: Keeper + Drop> {
 
 impl<K: Keeper + Drop> Model for Station<K> {
     ghost use Rattle.node_rules.specs.Memory.{StationMemory};
-    ghost use Rattle.plc_station.specs.State.{State, station_state_code, unless_halted};
+    ghost use Rattle.node_rules.specs.States.{State, station_state_code, unless_halted};
 
     ghost Value = { State StationMemory };
 
@@ -65,13 +64,6 @@ impl<K: Keeper + Drop> Model for Station<K> {
     ghost use Rattle.plc_station.specs.StationReading.{station_in};
 
     ghost view = { λ s. record { store = K.store s.keeper; eui = s.eui; memory = unless_halted s.halted (station_in s.parts s.bodies) } };
-}
-
-// The number that an EUI is.
-fn number_of(eui: &Eui) -> u64
-    ensures { result ≡ eui_number eui.now }
-{
-    BigEndian::read_u64(&eui.0)
 }
 
 // What the marks say of a counter.
@@ -154,10 +146,10 @@ impl<K: Keeper + Drop> Station<K> {
                 pan == PAN && (self.is_own(to) || to == 0xFFFF) && !self.is_own(from.number())
             }
             MacHead::Up { pan, to, from, .. } => {
-                pan == PAN && self.is_own(to) && number_of(&self.eui) != number_of(&from)
+                pan == PAN && self.is_own(to) && self.eui.number() != from.number()
             }
             MacHead::Down { pan, to, from, .. } => {
-                pan == PAN && number_of(&self.eui) == number_of(&to) && !self.is_own(from.number())
+                pan == PAN && self.eui.number() == to.number() && !self.is_own(from.number())
             }
         }
     }

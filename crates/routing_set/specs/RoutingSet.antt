@@ -1,5 +1,5 @@
 -- The ranks that a node keeps, the floors of those that it forgot, and its valid routes.
-use Rattle.std.specs.Prelude.{◌≡◌, ◌⊎◌, ◌≢◌, ℕ, ◌+◌, ◌*◌, ◌%◌, ◌<◌, Bool, true, false, ◌&&◌, ◌||◌, ◌==◌, nat_lt, nat_le, if◌then◌else◌, List, [], ◌∷◌, ◌++◌, length, map, set, drop, fold, slice_index, replicate, is_some, Option, Some, None, unwrap_or, Result, Ok, Err, refl}
+use Rattle.std.specs.Prelude.{◌≡◌, ◌⊎◌, ◌≢◌, ℕ, ◌+◌, ◌*◌, ◌%◌, ◌<◌, Bool, true, false, not, ◌&&◌, ◌||◌, ◌==◌, nat_lt, nat_le, if◌then◌else◌, List, [], ◌∷◌, ◌++◌, length, map, set, drop, fold, slice_index, replicate, is_some, Option, Some, None, unwrap_or, Result, Ok, Err, refl}
 use Rattle.std.specs.List.{range_with_len, list_all, flat_map}
 use Rattle.std.specs.Bool.{OnTrue}
 use Rattle.std.specs.Option.{option_map, option_map_or, option_and_then}
@@ -7,6 +7,7 @@ use Rattle.std.specs.Coded.{Coded, code_by, coded×, coded_ℕ, coded_list, code
 use Rattle.std.specs.FinMap.{get}
 use Rattle.byteorder.specs.Endian.{big_number, big_bytes}
 use Rattle.plc_base.specs.Keeper.{Records, Write}
+use Rattle.plc_base.specs.Times.{is_within}
 use Rattle.plc_base.specs.Writes.{puts_of}
 use Rattle.plc_base.specs.SlotTables as slots
 use Rattle.plc_base.specs.declared.keeper.BadStore.{BadStore}
@@ -162,13 +163,9 @@ is_better routing dest rank = beats rank (held routing dest)
 
 -- # Forgetting
 
--- whether so many seconds have passed since a time
-abbrev pub has_passed : ℕ → ℕ → ℕ → Bool
-has_passed seconds since now = nat_le (since + seconds) now
-
 -- whether an entry has a valid route that was offered less than 60 seconds ago
 abbrev pub is_fresh : ℕ → RoutingEntry → Bool
-is_fresh now e = option_map_or (λ route. if has_passed 60 route.offered now then false else true) e.route false
+is_fresh now e = option_map_or (λ route. is_within 60 now route.offered) e.route false
 
 -- which of two numbers with their addresses comes first: the lower one, of equal ones that of the lower address
 abbrev pub comes_first : ℕ → ℕ → ℕ → ℕ → Bool
@@ -287,7 +284,7 @@ goes_by next e = option_map_or (λ route. route.next == next) e.route false
 
 -- whether an entry has a valid route that was offered 21,600 seconds ago or before
 abbrev pub is_old : ℕ → RoutingEntry → Bool
-is_old now e = option_map_or (λ route. has_passed 21600 route.offered now) e.route false
+is_old now e = option_map_or (λ route. not (is_within 21600 now route.offered)) e.route false
 
 -- the routes end of which a test holds; every rank and floor stays
 abbrev pub ended : (RoutingEntry → Bool) → Routing → Routing

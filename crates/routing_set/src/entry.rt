@@ -1,10 +1,10 @@
 //! What is kept of one address.
 ghost use Rattle.std.specs.Prelude.{◌≡◌, Option};
-ghost use Rattle.routing_set.specs.RoutingSet.{is_fresh, goes_before, comes_first, first_of, has_passed, is_old, goes_by};
+ghost use Rattle.routing_set.specs.RoutingSet.{is_fresh, goes_before, comes_first, first_of, is_old, goes_by};
 
 use crate::Rank;
 use byteorder::{BigEndian, ByteOrder};
-use plc_base::{Record, Short, SlotEntry};
+use plc_base::{Record, Short, SlotEntry, is_within};
 
 /// A valid route.
 #[derive(Clone, Copy, Debug, PartialEq, Eq)]
@@ -79,20 +79,13 @@ impl SlotEntry for RoutingEntry {
     }
 }
 
-// Whether so many seconds have passed since a time.
-fn has_passed(seconds: u64, since: u64, now: u64) -> bool
-    ensures { result ≡ has_passed seconds since now }
-{
-    since <= now && seconds <= now - since
-}
-
 impl RoutingEntry {
     // Whether it has a valid route that was offered less than 60 seconds ago.
     pub(crate) fn is_fresh(&self, now: u64) -> bool
         ensures { result ≡ is_fresh now self.now }
     {
         match self.route {
-            Some(route) => !has_passed(FRESH_TIME, route.offered, now),
+            Some(route) => is_within(FRESH_TIME, now, route.offered),
             None => false,
         }
     }
@@ -102,7 +95,7 @@ impl RoutingEntry {
         ensures { result ≡ is_old now self.now }
     {
         match self.route {
-            Some(route) => has_passed(VALID_TIME, route.offered, now),
+            Some(route) => !is_within(VALID_TIME, now, route.offered),
             None => false,
         }
     }

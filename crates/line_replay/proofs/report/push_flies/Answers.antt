@@ -1,5 +1,5 @@
 use Rattle.std.proofs.Common.{◌≡◌, ◌++◌, ◌+◌, ◌-◌, ◌≤◌, length, string_bytes, ◌∙◌, ap, arith}
-use Rattle.line_replay.specs.Texts.{flies_text, fly_text}
+use Rattle.line_replay.specs.Texts.{flies_text, flight_text}
 use Rattle.line_replay.proofs.Flies.{flies_none, flies_more}
 use Rattle.line_replay.proofs.report.push_flies.Goals as goal
 
@@ -10,8 +10,8 @@ pub loop-number-preserved : goal.loop-number-preserved
 loop-number-preserved c =
     let from : c.args.first ≤ c.loop-number.number = c.loop-number.invariant.from in
     record {
-      text = c.in_ok-push_fly.ensures
-          ∙ ap (λ l. l ++ fly_text c.args.world.now c.loop-number.number) c.loop-number.invariant.text
+      text = c.in_ok-push_flight.ensures
+          ∙ ap (λ l. l ++ flight_text c.args.world.now c.loop-number.number) c.loop-number.invariant.text
           ∙ flies_more c.args.world.now c.args.first c.loop-number.number (string_bytes c.args.text.now) from;
       from = omega arith;
       until = omega (arith, from, c.counts-last.ensures.flights, c.from-number-end.ensures, c.loop-number-test.true);

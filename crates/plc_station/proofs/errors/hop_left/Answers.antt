@@ -1,7 +1,8 @@
-use Rattle.std.proofs.Common.{◌≡◌, Bool, true, false, cond, Some, None, refl, sym, ap, ◌∙◌, arith}
+use Rattle.std.proofs.Common.{◌≡◌, Bool, true, false, cond, Some, None, ap, ◌∙◌, arith}
 use Rattle.std.specs.Prelude.{◌==◌}
 use Rattle.std.proofs.lemmas.Bool.Decides.{nat_tests}
-use Rattle.plc_station.proofs.Losing.{none_left, some_left, hop_after}
+use Rattle.routing_set.specs.Laws.{hop_after}
+use Rattle.plc_station.proofs.Losing.{none_left, some_left}
 use Rattle.plc_station.proofs.errors.hop_left.Goals as goal
 
 pub returns-in_default : goal.returns-in_default

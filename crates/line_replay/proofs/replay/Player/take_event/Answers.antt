@@ -1,5 +1,6 @@
 use Rattle.std.proofs.Common.{◌+◌, ◌++◌, arith}
-use Rattle.line_replay.specs.Texts.{happened_text, sent_text}
+use Rattle.line_script.specs.Texts.{happened_text}
+use Rattle.line_replay.specs.Texts.{sent_text}
 use Rattle.line_replay.proofs.Turning.{event_taken, made_so}
 use Rattle.line_replay.proofs.replay.Player.take_event.Goals as goal
 
@@ -17,5 +18,5 @@ returns g c =
     c.counts-taken.ensures.events
     (omega arith)
     c.in-Ok.ensures.step
-    (c.tell_made.ensures.told (happened_text (c.counts-taken.result.events + 1) c.in-Ok.happened ++ sent_text c.self.inside.quiet c.step.new.self c.in-Ok.happened.first_flight)
+    (c.tell_made.ensures.told (happened_text (c.counts-taken.result.events + 1) c.args.event.now c.in-Ok.happened ++ sent_text c.self.inside.quiet c.step.new.self c.in-Ok.happened.first_flight)
     (made_so c.push_entry-made.result _ c.as_str.ensures.value c.clear.ensures.bytes c.push_entry-made.ensures)))

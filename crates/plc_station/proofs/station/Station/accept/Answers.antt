@@ -2,7 +2,7 @@ use Rattle.std.proofs.Common.{Err, Option, sym, subst}
 use Rattle.node_rules.specs.declared.refusal.FrameRefusal.TheVariants.{Malformed, Store}
 use Rattle.node_rules.specs.Accepting as accepting
 use Rattle.node_rules.specs.Frames.{Arrived}
-use Rattle.plc_station.specs.State.{Carries, nothing}
+use Rattle.node_rules.specs.Carrying.{Carries, nothing}
 use Rattle.plc_station.proofs.Carrying.{if_some, at_some, resting_carried}
 use Rattle.plc_station.proofs.Accepting.{not_arrived, arrived_is}
 use Rattle.plc_station.proofs.station.Station.accept.Goals as goal

@@ -1,8 +1,7 @@
-use Rattle.std.proofs.Common.{◌≡◌, ℕ, ◌∷◌, [], ◌++◌, ◌+◌, not, Some, None, Ok, Err, List, length, map, refl, sym, ap, rules, ◌∙◌, arith}
-use Rattle.std.proofs.lemmas.List.{length-append, append_assoc}
+use Rattle.std.proofs.Common.{◌≡◌, ◌∷◌, [], ◌++◌, ◌+◌, Some, length, map, refl, sym, ap, ◌∙◌, arith}
+use Rattle.std.proofs.lemmas.List.{length-append}
 use Rattle.plc_base.proofs.WritesLemmas.{wrote_append, wrote_append_stop, wrote_one}
 use Rattle.plc_base.specs.declared.out_frame.Out.{Out}
-use Rattle.plc_base.specs.declared.out_frame.OutFrame.{OutFrame}
 use Rattle.plc_base.specs.Grant.{Granted}
 use Rattle.loadng_messages.specs.Grammar as messages
 use Rattle.loadng_messages.specs.declared.message.Message.TheVariants.{Rrep}
@@ -12,18 +11,20 @@ use Rattle.node_rules.specs.Frames.{spelled}
 use Rattle.node_rules.specs.Memory.{StationMemory}
 use Rattle.node_rules.specs.Drafts.{empty_draft, goes, leave, with_own_number, with_rank, tells, sealed_by}
 use Rattle.node_rules.specs.Hearing.{dropped, offers_numbered}
-use Rattle.plc_station.specs.Bodies.{Held}
-use Rattle.plc_station.specs.Leaving.{leaving, frames_of}
-use Rattle.plc_station.specs.Parts.{AgreesWith}
+use Rattle.waiting_bodies.specs.Bodies.{Held}
+use Rattle.fragment_buffers.specs.Waiting.{leaving}
+use Rattle.waiting_bodies.specs.Frames.{frames_of}
+use Rattle.node_rules.specs.Agreement.{AgreesWith}
 use Rattle.plc_station.specs.StationReading.{station_in}
-use Rattle.plc_station.specs.Sealing.{only_frames, with_frames}
-use Rattle.plc_station.specs.State.{State}
+use Rattle.plc_station.specs.Sealing.{only_frames}
+use Rattle.node_rules.specs.States.{State}
 use Rattle.plc_station.proofs.Carrying.{on_memory, at_some, of_some, lines_are}
 use Rattle.std.specs.Prelude.{IfSome}
-use Rattle.plc_station.specs.State.{unless_halted}
+use Rattle.node_rules.specs.States.{unless_halted}
 use Rattle.plc_station.proofs.Agreeing.{agrees_counted, agrees_numbered, agrees_ranked, agrees_holding}
 use Rattle.plc_station.proofs.Ending.{ended, stopped, uncounted}
-use Rattle.plc_station.proofs.Leaves.{length-frames, sealed_then}
+use Rattle.waiting_bodies.proofs.Letters.{length-frames}
+use Rattle.plc_station.proofs.Sealed.{sealed_then}
 use Rattle.plc_station.proofs.station.Station.answer.Goals as goal
 
 pub returns-in_default-clause-carries : goal.returns-in_default-clause-carries
@@ -68,7 +69,7 @@ returns-clause-carries g c =
       frames = ((c.requires.empty i).frames ++ frames_of c.args.grant.now c.sealing_key-key.result (c.in-Ok-reserve.ensures.number i) (leaving c.args.grant.now.address c.args.origin c.args.by c.self.inside.bodies.waiting)) ++ map (spelled network) (sealed_by (Some c.args.grant.now) (c.in-Ok-reserve.ensures.number i + length (leaving c.args.grant.now.address c.args.origin c.args.by c.self.inside.bodies.waiting)) ((record { to = c.args.by; unit = Local 1 (messages.spelling (Rrep (c.self.inside.parts.own_number.last + 1) 0 c.args.grant.now.address c.args.origin)); note = 0 }) ∷ []));
       tags = (c.requires.empty i).tags;
     })
-    ∙ ap only_frames (sealed_then c.args.grant.now c.sealing_key-key.result c.self.inside.parts.counter.next (leaving c.args.grant.now.address c.args.origin c.args.by c.self.inside.bodies.waiting) ((record { to = c.args.by; unit = Local 1 (messages.spelling (Rrep (c.self.inside.parts.own_number.last + 1) 0 c.args.grant.now.address c.args.origin)); note = 0 }) ∷ []) c.sealing_key-key.ensures.key)
+    ∙ ap only_frames (sealed_then c.args.grant.now c.sealing_key-key.result c.self.inside.parts.counter.next (leaving c.args.grant.now.address c.args.origin c.args.by c.self.inside.bodies.waiting) ((record { to = c.args.by; unit = Local 1 (messages.spelling (Rrep (c.self.inside.parts.own_number.last + 1) 0 c.args.grant.now.address c.args.origin)); note = 0 }) ∷ []) c.sealing_key-key.ensures)
     ∙ (λ i. only_frames (map (spelled network) (sealed_by ((sym (at_some c.args.self.now.memory (λ l. l.ring ≡ Some c.args.grant.now) (station_in c.self.inside.parts c.self.inside.bodies) (ap (λ (s : State StationMemory). s.memory) (sym c.self.view_is) ∙ running) c.requires.ring)) i) c.self.inside.parts.counter.next ((leaving c.args.grant.now.address c.args.origin c.args.by c.self.inside.bodies.waiting) ++ (record { to = c.args.by; unit = Local 1 (messages.spelling (Rrep (c.self.inside.parts.own_number.last + 1) 0 c.args.grant.now.address c.args.origin)); note = 0 }) ∷ [])))))
     (lines_are _ _ _ _ refl c.in-Ok-reserve.ensures.counter refl c.in-Ok.ensures.routing c.in-Ok-advance.ensures.numbering refl (ap (λ (h : Held). h.reassemblies) c.drop_for.ensures) (ap (λ (h : Held). h.waiting) c.drop_for.ensures))))
 

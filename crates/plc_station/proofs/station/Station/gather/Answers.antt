@@ -1,16 +1,7 @@
-use Rattle.std.proofs.Common.{◌≡◌, Some, Ok, Err, refl, sym, ap, subst, ◌∙◌}
-use Rattle.node_rules.specs.declared.heard.Heard.{Heard}
-use Rattle.node_rules.specs.declared.refusal.Dropped.{Dropped}
-use Rattle.std.specs.Prelude.{Result}
-use Rattle.plc_base.specs.declared.out_frame.Out.{Out}
+use Rattle.std.proofs.Common.{Some, refl, ap, ◌∙◌}
 use Rattle.fragment_buffers.specs.Taking.{taken}
-use Rattle.fragment_buffers.specs.Answers.{answer_of, octets_of}
-use Rattle.node_rules.specs.declared.refusal.Dropped.TheVariants.{Store}
-use Rattle.node_rules.specs.Memory.{StationMemory}
-use Rattle.plc_station.specs.Bodies.{Held}
+use Rattle.waiting_bodies.specs.Bodies.{Held}
 use Rattle.plc_station.specs.StationReading.{station_in}
-use Rattle.plc_station.specs.Pieces.{came}
-use Rattle.plc_station.specs.State.{State}
 use Rattle.plc_station.proofs.Carrying.{on_memory, station_is}
 use Rattle.plc_station.proofs.Gathering.{gathered_is, changed, still}
 use Rattle.plc_station.proofs.station.Station.gather.Goals as goal

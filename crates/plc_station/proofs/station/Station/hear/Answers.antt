@@ -1,12 +1,10 @@
-use Rattle.std.proofs.Common.{◌≡◌, ℕ, true, false, Some, None, Ok, Err, refl, sym, ap, ◌∙◌, arith}
-use Rattle.std.specs.Prelude.{◌==◌}
-use Rattle.std.proofs.lemmas.Bool.Decides.{nat_tests}
+use Rattle.std.proofs.Common.{Err, ap, ◌∙◌}
 use Rattle.mesh_header.specs.Reading.{unit_in}
 use Rattle.node_rules.specs.declared.refusal.Dropped.TheVariants.{BadUnit, Store}
 use Rattle.node_rules.specs.Hearing.{dropped}
 use Rattle.plc_station.specs.StationReading.{station_in}
-use Rattle.plc_station.proofs.Carrying.{if_some, at_some, on_memory}
-use Rattle.plc_station.proofs.Ending.{refusal, rested, carried_by}
+use Rattle.plc_station.proofs.Carrying.{if_some, on_memory}
+use Rattle.plc_station.proofs.Ending.{refusal, rested}
 use Rattle.plc_station.proofs.Listening.{no_unit, unit_unjoined, up_none, up_some, down_none, down_some}
 use Rattle.plc_station.proofs.station.Station.hear.Goals as goal
 

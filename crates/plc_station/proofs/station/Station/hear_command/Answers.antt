@@ -1,11 +1,9 @@
-use Rattle.std.proofs.Common.{◌≡◌, ℕ, true, false, Some, None, Ok, Err, refl, sym, ap, ◌∙◌, arith}
-use Rattle.std.specs.Prelude.{◌==◌}
+use Rattle.std.proofs.Common.{Err, ap, ◌∙◌, arith}
 use Rattle.std.proofs.lemmas.Bool.Decides.{nat_tests}
 use Rattle.loadng_messages.specs.Reading.{message_in}
 use Rattle.node_rules.specs.declared.refusal.Dropped.TheVariants.{BadUnit, Store}
 use Rattle.node_rules.specs.Hearing.{dropped}
-use Rattle.plc_station.specs.StationReading.{station_in}
-use Rattle.plc_station.proofs.Carrying.{if_some, at_some, on_memory}
+use Rattle.plc_station.proofs.Carrying.{if_some, at_some}
 use Rattle.plc_station.proofs.Ending.{refusal, rested, carried_by}
 use Rattle.plc_station.proofs.Listening.{message_bad, message_is, joining_bad, local_is}
 use Rattle.plc_station.proofs.station.Station.hear_command.Goals as goal

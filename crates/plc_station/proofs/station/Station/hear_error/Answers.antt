@@ -1,25 +1,13 @@
-use Rattle.std.proofs.Common.{◌≡◌, ℕ, ◌∷◌, [], ◌++◌, true, false, Some, None, Ok, Err, List, map, refl, sym, ap, ◌∙◌, arith}
-use Rattle.std.specs.Prelude.{IfSome, ◌==◌}
+use Rattle.std.proofs.Common.{ap, arith}
 use Rattle.std.proofs.lemmas.Bool.Decides.{nat_tests}
-use Rattle.plc_base.proofs.WritesLemmas.{wrote_none}
 use Rattle.plc_base.specs.Grant.{Granted}
-use Rattle.loadng_messages.specs.Grammar as messages
-use Rattle.loadng_messages.specs.declared.message.Message.TheVariants.{Rerr}
-use Rattle.mesh_header.specs.declared.unit.Unit.TheVariants.{Local}
-use Rattle.node_rules.specs.declared.heard.Heard.TheVariants.{Broken}
 use Rattle.node_rules.specs.declared.refusal.Dropped.TheVariants.{CounterSpent}
-use Rattle.node_rules.specs.Ciphers.{network}
-use Rattle.node_rules.specs.Frames.{Sent as Frame, spelled}
-use Rattle.node_rules.specs.Memory.{StationMemory, next_hop}
-use Rattle.node_rules.specs.Drafts.{empty_draft, goes, tells, with_routing_by, sealed_by}
-use Rattle.node_rules.specs.Hearing.{dropped, loses}
-use Rattle.plc_station.specs.Parts.{AgreesWith}
+use Rattle.node_rules.specs.Memory.{next_hop}
+use Rattle.node_rules.specs.Drafts.{empty_draft, with_routing_by}
+use Rattle.node_rules.specs.Hearing.{dropped}
 use Rattle.plc_station.specs.StationReading.{station_in}
-use Rattle.plc_station.specs.Sealing.{only_frames}
-use Rattle.plc_station.specs.State.{State, unless_halted}
-use Rattle.plc_station.proofs.Carrying.{on_memory, at_some, of_some, lines_are}
-use Rattle.plc_station.proofs.Agreeing.{agrees_counted, agrees_routed}
-use Rattle.plc_station.proofs.Ending.{ended, uncounted, refusal, carried_by, sealed_none}
+use Rattle.plc_station.proofs.Carrying.{on_memory, at_some}
+use Rattle.plc_station.proofs.Ending.{refusal, carried_by}
 use Rattle.plc_station.proofs.Ways.{too_few, enough}
 use Rattle.plc_station.proofs.Losing.{error_here, error_ends, error_spent, error_on}
 use Rattle.plc_station.proofs.station.Station.hear_error.Goals as goal

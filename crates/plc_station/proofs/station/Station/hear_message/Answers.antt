@@ -1,11 +1,8 @@
-use Rattle.std.proofs.Common.{◌≡◌, ℕ, true, false, Some, None, Ok, Err, refl, sym, ap, ◌∙◌, arith}
-use Rattle.std.specs.Prelude.{◌==◌}
-use Rattle.std.proofs.lemmas.Bool.Decides.{nat_tests}
-use Rattle.node_rules.specs.declared.refusal.Dropped.TheVariants.{BadUnit, Store}
+use Rattle.std.proofs.Common.{sym}
+use Rattle.node_rules.specs.declared.refusal.Dropped.TheVariants.{BadUnit}
 use Rattle.node_rules.specs.Hearing.{dropped}
-use Rattle.plc_station.specs.StationReading.{station_in}
-use Rattle.plc_station.proofs.Carrying.{if_some, at_some, on_memory}
-use Rattle.plc_station.proofs.Ending.{refusal, rested, carried_by}
+use Rattle.plc_station.proofs.Carrying.{if_some}
+use Rattle.plc_station.proofs.Ending.{refusal}
 use Rattle.plc_station.proofs.Listening.{request_to_one, reply_to_all, error_to_all}
 use Rattle.plc_station.proofs.station.Station.hear_message.Goals as goal
 

@@ -1,11 +1,10 @@
-use Rattle.std.proofs.Common.{◌≡◌, ℕ, true, false, Some, Ok, Err, List, refl, sym, ap, ◌∙◌, arith}
+use Rattle.std.proofs.Common.{◌≡◌, ℕ, true, false, Ok, Err, List, ap, ◌∙◌, arith}
 use Rattle.std.specs.Prelude.{◌==◌}
 use Rattle.std.proofs.lemmas.Bool.Decides.{nat_tests}
 use Rattle.plc_base.specs.Grant.{Granted}
 use Rattle.mesh_header.specs.declared.unit.Mesh.{Mesh}
 use Rattle.mesh_header.specs.declared.unit.Unit.TheVariants.{Whole, Part, Carried}
-use Rattle.node_rules.specs.declared.heard.Heard.TheVariants.{Up, Joining}
-use Rattle.node_rules.specs.declared.heard.Way.TheVariants.{Mesh as ByMesh}
+use Rattle.node_rules.specs.declared.heard.Heard.TheVariants.{Up}
 use Rattle.node_rules.specs.declared.refusal.Dropped.TheVariants.{BadUnit, Store}
 use Rattle.node_rules.specs.Hearing.{dropped, forward}
 use Rattle.node_rules.specs.Plans.{resting}

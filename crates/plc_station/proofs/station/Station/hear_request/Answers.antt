@@ -1,15 +1,14 @@
-use Rattle.std.proofs.Common.{◌≡◌, ◌+◌, ℕ, true, false, Some, None, Ok, Err, refl, sym, ap, ◌∙◌, arith}
+use Rattle.std.proofs.Common.{◌+◌, sym, ap, ◌∙◌, arith}
 use Rattle.std.proofs.lemmas.Bool.Decides.{nat_tests}
 use Rattle.plc_base.specs.Grant.{Granted}
 use Rattle.loadng_messages.specs.declared.message.Message.TheVariants.{Rreq, Rrep}
-use Rattle.routing_set.specs.declared.rank.Rank.{Rank}
 use Rattle.node_rules.specs.declared.heard.Heard.TheVariants.{Answered, Relayed}
 use Rattle.node_rules.specs.declared.refusal.Dropped.TheVariants.{NotBetter, CostSpent, RoutesFull, SeqSpent, CounterSpent}
 use Rattle.node_rules.specs.Memory.{StationMemory}
 use Rattle.node_rules.specs.Drafts.{tells}
 use Rattle.node_rules.specs.Hearing.{dropped, offers, offers_numbered}
 use Rattle.plc_station.specs.StationReading.{station_in}
-use Rattle.plc_station.specs.State.{State}
+use Rattle.node_rules.specs.States.{State}
 use Rattle.plc_station.proofs.Carrying.{on_memory, at_some}
 use Rattle.plc_station.proofs.Ending.{refusal, carried_by, answered, failed}
 use Rattle.plc_station.proofs.Ways.{too_few, enough}

@@ -1,23 +1,17 @@
-use Rattle.std.proofs.Common.{◌≡◌, ℕ, ◌∷◌, [], ◌++◌, Some, None, Ok, Err, List, map, refl, sym, ap, ◌∙◌, arith}
+use Rattle.std.proofs.Common.{ap, arith}
 use Rattle.std.proofs.lemmas.Bool.Decides.{nat_tests}
-use Rattle.plc_base.proofs.WritesLemmas.{wrote_none}
 use Rattle.plc_base.specs.Grant.{Granted}
 use Rattle.loadng_messages.specs.declared.message.Message.TheVariants.{Rerr}
-use Rattle.node_rules.specs.declared.heard.Heard.TheVariants.{Relayed, Reported}
-use Rattle.node_rules.specs.declared.refusal.Dropped.TheVariants.{NoRoute, HopsSpent, CounterSpent}
-use Rattle.node_rules.specs.Ciphers.{network}
-use Rattle.node_rules.specs.Frames.{spelled}
-use Rattle.node_rules.specs.Memory.{StationMemory, next_hop}
-use Rattle.node_rules.specs.Drafts.{empty_draft, goes, tells, sealed_by}
+use Rattle.node_rules.specs.declared.heard.Heard.TheVariants.{Reported}
+use Rattle.node_rules.specs.declared.refusal.Dropped.TheVariants.{NoRoute, CounterSpent}
+use Rattle.node_rules.specs.Memory.{next_hop}
+use Rattle.node_rules.specs.Drafts.{empty_draft, tells}
 use Rattle.node_rules.specs.Hearing.{dropped}
 use Rattle.plc_station.specs.StationReading.{station_in}
-use Rattle.plc_station.specs.Sealing.{letter, only_frames}
-use Rattle.plc_station.specs.State.{State}
-use Rattle.plc_station.proofs.Carrying.{if_some, on_memory, at_some, lines_are}
-use Rattle.plc_station.proofs.Ending.{ended, uncounted, refusal, carried_by, answered, failed}
-use Rattle.plc_station.proofs.Letters.{one_sent}
+use Rattle.plc_station.proofs.Carrying.{if_some, on_memory, at_some}
+use Rattle.plc_station.proofs.Ending.{refusal, carried_by, answered, failed}
 use Rattle.plc_station.proofs.Ways.{too_few, enough}
-use Rattle.plc_station.proofs.Forwarding.{own_lost, origin_lost, report_spent, reported, no_way, hops_spent, forward_spent, forwarded}
+use Rattle.plc_station.proofs.Forwarding.{own_lost, origin_lost, report_spent, reported}
 use Rattle.plc_station.proofs.station.Station.report.Goals as goal
 
 pub returns-then-number-clause-carries : goal.returns-then-number-clause-carries

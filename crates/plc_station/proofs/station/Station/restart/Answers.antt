@@ -4,10 +4,10 @@ use Rattle.plc_base.specs.SlotTables.{IsGapless}
 use Rattle.frame_counters.specs.PeerMarks.{peers}
 use Rattle.routing_set.specs.RoutingSet.{ranks}
 use Rattle.node_rules.specs.Memory.{StationMemory}
-use Rattle.plc_station.specs.Bodies.{Held}
+use Rattle.waiting_bodies.specs.Bodies.{Held}
 use Rattle.plc_station.specs.StationReading.{station_in}
-use Rattle.plc_station.specs.Parts.{AgreesWith}
-use Rattle.plc_station.specs.State.{State}
+use Rattle.node_rules.specs.Agreement.{AgreesWith}
+use Rattle.node_rules.specs.States.{State}
 use Rattle.plc_station.proofs.station.Station.restart.Goals as goal
 
 pub returns-clause-agrees : goal.returns-clause-agrees

@@ -1,4 +1,3 @@
-use Rattle.std.proofs.Common.{◌≡◌, Some, None, refl, sym, ap, ◌∙◌}
 use Rattle.node_rules.specs.declared.refusal.SendRefusal.TheVariants.{NotJoined}
 use Rattle.plc_station.specs.StationReading.{station_in}
 use Rattle.plc_station.proofs.Carrying.{on_memory}

@@ -1,8 +1,8 @@
-use Rattle.std.proofs.Common.{◌≡◌, Some, None, refl, sym, ap, ◌∙◌, arith}
+use Rattle.std.proofs.Common.{sym, ap, ◌∙◌, arith}
 use Rattle.node_rules.specs.declared.refusal.SendRefusal.TheVariants.{BadSize, ToSelf, WaitingFull, SeqSpent, CounterSpent}
 use Rattle.std.proofs.lemmas.Bool.Decides.{nat_tests}
 use Rattle.node_rules.specs.Memory.{StationMemory, next_hop}
-use Rattle.plc_station.specs.State.{State}
+use Rattle.node_rules.specs.States.{State}
 use Rattle.plc_station.specs.StationReading.{station_in}
 use Rattle.plc_station.proofs.Carrying.{if_some, on_memory, at_some}
 use Rattle.plc_station.proofs.Ways.{too_few, enough, bad_size, to_self, goes_spent, goes_by, full, quiet, seq_spent, seeks_spent, seeking, refused_as, carried_as}

@@ -1,23 +1,17 @@
-use Rattle.std.proofs.Common.{◌≡◌, ℕ, ◌∷◌, [], ◌++◌, Some, None, Ok, Err, List, map, refl, sym, ap, ◌∙◌, arith}
-use Rattle.std.proofs.lemmas.Bool.Decides.{nat_tests}
+use Rattle.std.proofs.Common.{◌≡◌, ◌∷◌, [], ◌++◌, Some, map, refl, sym, ap, ◌∙◌}
 use Rattle.plc_base.proofs.WritesLemmas.{wrote_none}
-use Rattle.plc_base.specs.Grant.{Granted}
-use Rattle.loadng_messages.specs.declared.message.Message.TheVariants.{Rerr}
-use Rattle.node_rules.specs.declared.heard.Heard.TheVariants.{Relayed, Reported}
-use Rattle.node_rules.specs.declared.refusal.Dropped.TheVariants.{NoRoute, HopsSpent, CounterSpent}
 use Rattle.node_rules.specs.Ciphers.{network}
 use Rattle.node_rules.specs.Frames.{spelled}
-use Rattle.node_rules.specs.Memory.{StationMemory, next_hop}
-use Rattle.node_rules.specs.Drafts.{empty_draft, goes, tells, sealed_by}
+use Rattle.node_rules.specs.Memory.{StationMemory}
+use Rattle.node_rules.specs.Drafts.{empty_draft, goes, sealed_by}
 use Rattle.node_rules.specs.Hearing.{dropped}
 use Rattle.plc_station.specs.StationReading.{station_in}
-use Rattle.plc_station.specs.Sealing.{letter, only_frames}
-use Rattle.plc_station.specs.State.{State}
+use Rattle.plc_station.specs.Sealing.{only_frames}
+use Rattle.waiting_bodies.specs.Frames.{unit_frame}
+use Rattle.node_rules.specs.States.{State}
 use Rattle.plc_station.proofs.Carrying.{on_memory, at_some, lines_are}
-use Rattle.plc_station.proofs.Ending.{ended, uncounted, refusal, carried_by, answered, failed}
-use Rattle.plc_station.proofs.Letters.{one_sent}
-use Rattle.plc_station.proofs.Ways.{too_few, enough}
-use Rattle.plc_station.proofs.Forwarding.{own_lost, origin_lost, report_spent, reported, no_way, hops_spent, forward_spent, forwarded}
+use Rattle.plc_station.proofs.Ending.{ended, uncounted}
+use Rattle.plc_station.proofs.Sealed.{one_sent}
 use Rattle.plc_station.proofs.station.Station.send_unit.Goals as goal
 
 pub returns-in_default-clause-carries : goal.returns-in_default-clause-carries
@@ -31,7 +25,7 @@ returns-clause-carries g c =
     rw (← c.self.view_is)
     (on_memory c.self.inside.halted _ _ (λ running. ended dropped _ _ (goes c.args.to c.args.unit.now c.args.note (empty_draft (station_in c.self.inside.parts c.self.inside.bodies))) (goes c.args.to c.args.unit.now c.args.note (empty_draft (station_in c.self.inside.parts c.self.inside.bodies))) tt _ _ _ refl (wrote_none _) refl c.in-Ok.ensures.store
     (c.seal.ensures
-    ∙ (λ i. record { frames = (c.requires.empty i).frames ++ spelled network (letter c.args.grant.now c.sealing_key-key.result (c.in-Ok.ensures.number i) (record { to = c.args.to; unit = c.args.unit.now; note = c.args.note })) ∷ []; tags = (c.requires.empty i).tags })
-    ∙ ap only_frames (one_sent c.args.grant.now c.sealing_key-key.result c.self.inside.parts.counter.next (record { to = c.args.to; unit = c.args.unit.now; note = c.args.note }) c.sealing_key-key.ensures.key)
+    ∙ (λ i. record { frames = (c.requires.empty i).frames ++ unit_frame c.args.grant.now c.sealing_key-key.result (c.in-Ok.ensures.number i) (record { to = c.args.to; unit = c.args.unit.now; note = c.args.note }) ∷ []; tags = (c.requires.empty i).tags })
+    ∙ ap only_frames (one_sent c.args.grant.now c.sealing_key-key.result c.self.inside.parts.counter.next (record { to = c.args.to; unit = c.args.unit.now; note = c.args.note }) c.sealing_key-key.ensures)
     ∙ (λ i. only_frames (map (spelled network) (sealed_by ((sym (at_some c.args.self.now.memory (λ l. l.ring ≡ Some c.args.grant.now) (station_in c.self.inside.parts c.self.inside.bodies) (ap (λ (s : State StationMemory). s.memory) (sym c.self.view_is) ∙ running) c.requires.ring)) i) c.self.inside.parts.counter.next ((record { to = c.args.to; unit = c.args.unit.now; note = c.args.note }) ∷ [])))))
     (lines_are _ _ _ _ refl c.in-Ok.ensures.counter refl refl refl refl refl refl)))

@@ -1,22 +1,17 @@
-use Rattle.std.proofs.Common.{◌≡◌, ◌∷◌, [], ◌++◌, ◌+◌, Some, Ok, Err, List, length, map, refl, sym, ap, ◌∙◌}
-use Rattle.plc_base.proofs.WritesLemmas.{wrote_one, wrote_then, wrote_stop, wrote_none}
-use Rattle.node_rules.specs.declared.heard.SentHow.TheVariants.{Sent, Waiting}
+use Rattle.std.proofs.Common.{◌∷◌, [], ◌++◌, List, map, refl, sym, ap, ◌∙◌}
+use Rattle.plc_base.proofs.WritesLemmas.{wrote_one}
+use Rattle.node_rules.specs.declared.heard.SentHow.TheVariants.{Waiting}
 use Rattle.node_rules.specs.Ciphers.{network}
 use Rattle.node_rules.specs.Frames.{Sent as Frame, spelled}
-use Rattle.node_rules.specs.Memory.{StationMemory, Body, Datagram}
-use Rattle.node_rules.specs.Drafts.{Draft, empty_draft, sealed_by, body_goes, all_go, units_of, waits, seeks, goes, with_own_number}
+use Rattle.node_rules.specs.Memory.{Datagram}
+use Rattle.node_rules.specs.Drafts.{empty_draft, waits}
 use Rattle.node_rules.specs.Calls.{sending_ends, tag_taken}
-use Rattle.node_rules.proofs.Sizes.{length-all_go, length-units_of}
-use Rattle.plc_station.specs.Bodies.{Held}
+use Rattle.waiting_bodies.specs.Bodies.{Held}
 use Rattle.plc_station.specs.StationReading.{station_in}
 use Rattle.plc_station.specs.Sealing.{only_frames}
-use Rattle.plc_station.specs.State.{State}
-use Rattle.plc_station.proofs.Carrying.{on_memory, at_some, lines_are}
+use Rattle.plc_station.proofs.Carrying.{on_memory, lines_are}
 use Rattle.plc_station.proofs.Ending.{ended, stopped, uncounted, sealed_none}
 use Rattle.plc_station.proofs.Tagging.{with_tag, tagged_is}
-use Rattle.loadng_messages.specs.Grammar as messages
-use Rattle.loadng_messages.specs.declared.message.Message.TheVariants.{Rreq}
-use Rattle.mesh_header.specs.declared.unit.Unit.TheVariants.{Local}
 use Rattle.plc_station.proofs.station.Station.waits.Goals as goal
 
 pub returns-in_default-clause-carries : goal.returns-in_default-clause-carries

@@ -1,0 +1,202 @@
+-- Whose address a sealed flight has, and that no two nodes have one address and no two flights under one key one nonce before an event is forged.
+use Rattle.std.proofs.Common.{◌≡◌, ◌≢◌, ⊎_elim, ℕ, zero, suc, ◌<◌, List, [], ◌∷◌, ◌++◌, length, drop, get_or, Option, Some, None, Ok, refl, sym, ap, ◌∙◌, subst, arith}
+use Rattle.std.specs.Prelude.{All, AllPairs, IfSome, slice_get}
+use Rattle.std.proofs.lemmas.Bool.{cases_eq}
+use Rattle.std.proofs.lemmas.List.Elements.{All-nil, All-cons, All-head, All-tail}
+use Rattle.plc_base.specs.declared.key.Key.{Key}
+use Rattle.mac_frames.specs.Reading.{head_in}
+use Rattle.group_keys.specs.KeyBook as books
+use Rattle.node_rules.specs.Ciphers.{Ciphers}
+use Rattle.node_rules.specs.Memory.{Node, node_address}
+use Rattle.line_rules.specs.Events.{IsEvent, AreEvents}
+use Rattle.line_rules.specs.Worlds.{World, Flight, Issued, node_at, start}
+use Rattle.line_rules.specs.Runs.{Entry, IsRun, events_of, issued}
+use Rattle.line_rules.specs.SafeRuns.{HasAddress}
+use Rattle.line_rules.specs.Nonces.{NonceParts, nonce_in_head, nonce_parts, CounterRises, HasAnotherNonce, HasSender, AreAddressed, AddressesDiffer, AreApart, NoncesDiffer}
+use Rattle.line_rules.specs.Laws.{SameFlight, KeepsFlights, GoesOn}
+use Rattle.line_rules.specs.Steps.{step}
+use Rattle.line_rules.proofs.StepsOn.{steps}
+use Rattle.line_laws.specs.Owed.{KeepsRanges}
+use Rattle.line_laws.specs.Laws.{FlightsAreOctets, EverySenderIsRight, EveryAddressDiffers, EveryNonceDiffers}
+use Rattle.line_laws.proofs.Worlds.{FlightFits, WorldOk}
+use Rattle.line_laws.proofs.Running.{start_ok, taken_good}
+use Rattle.line_laws.proofs.AddressBook.{Grows}
+use Rattle.line_laws.proofs.AddressWorlds.{one_meter, above_nought, meter_address, coordinator_address, addresses_differ}
+use Rattle.line_laws.proofs.IssueWorlds.{Keyed}
+use Rattle.line_laws.proofs.IssueSteps.{step_keyed}
+use Rattle.line_laws.proofs.IssueRuns.{Kept, kept, all_of_one, start_keyed, EntryFlies}
+use Rattle.line_laws.proofs.Tellings.{step_is}
+use Rattle.line_laws.proofs.FlightFolds.{NewSenders, SendersIn, senders}
+use Rattle.line_laws.proofs.BookGrowth.{Goes, GoesBy, goes}
+
+-- # Homes
+
+-- an address is that of the node of a number, by the book
+abbrev IsHome : books.Book → World → ℕ → ℕ → Type 0
+IsHome b w n a = (x : Node) → node_at w n ≡ Some x → (n ≡ 0 → a ≡ 0) × (n ≢ 0 → books.address_of b x.eui ≡ Some a)
+
+-- the sender field of a flight is the address of its node
+abbrev AtHome : books.Book → World → Flight → Type 0
+AtHome b w f = IfSome (nonce_parts f) (λ (p : NonceParts). IsHome b w f.from p.from)
+
+if_parts : (o : Option NonceParts) (P Q : NonceParts → Type 0) → ((p : NonceParts) → P p → Q p) → IfSome o P → IfSome o Q
+if_parts None P Q f h = tt
+if_parts (Some p) P Q f h = f p h
+
+record At {A : Type 0} (xs : List A) (k : ℕ) : Type 0 where
+  one : A
+  is : slice_get xs k ≡ Some one
+
+at_length : {A : Type 0} (xs : List A) (k : ℕ) → k < length xs → At xs k
+at_length [] k lt = absurd (omega arith)
+at_length (x ∷ xs) zero lt = record { one = x; is = refl }
+at_length (x ∷ xs) (suc k) lt = let h = at_length xs k (omega arith) in record { one = h.one; is = h.is }
+
+record SomeNode (w : World) (n a : ℕ) : Type 0 where
+  node : Node
+  there : node_at w n ≡ Some node
+  address : node_address node ≡ Some a
+
+some_node : (w : World) (n a : ℕ) → HasAddress w n a → SomeNode w n a
+some_node w n a t = by_node (node_at w n) refl
+  where
+    by_node : (o : Option Node) → node_at w n ≡ o → SomeNode w n a
+    by_node None e = absurd (rw e at t)
+    by_node (Some x) e = record { node = x; there = e; address = rw e at t }
+
+all_homes : (P Q : Flight → Type 0) → ((f g : Flight) → SameFlight f g → P f → Q g) → (fs gs : List Flight) → KeepsFlights fs gs → All P fs → All Q (drop (length fs) gs) → All Q gs
+all_homes P Q h [] gs keeps all new = new
+all_homes P Q h (f ∷ fs) [] keeps all new = absurd keeps
+all_homes P Q h (f ∷ fs) (g ∷ gs) keeps all new = All-cons Q g gs (h f g keeps.0 (All-head P f fs all)) (all_homes P Q h fs gs keeps.1 (All-tail P f fs all) new)
+
+all_both : {A : Type 0} (P Q : A → Type 0) (xs : List A) → All P xs → All Q xs → All (λ x. P x × Q x) xs
+all_both P Q xs a b k d lt = (a k d lt, b k d lt)
+
+-- # A later world
+
+module _ (w v : World) (given more : List Issued) (k : Keyed w given) (kv : Keyed v more) (okv : WorldOk v)
+    (grows : (0 < length w.nodes) → Grows k.book kv.book) (euis : (0 < length w.nodes) → (n : ℕ) (y : Node) → n < length w.nodes → node_at v n ≡ Some y → (x : Node) × (node_at w n ≡ Some x) × (x.eui ≡ y.eui)) where
+  home_stays : (n a : ℕ) → n < length w.nodes → IsHome k.book w n a → IsHome kv.book v n a
+  home_stays n a lt home y there =
+      let some : 0 < length w.nodes = omega arith in
+      let old = euis some n y lt there in
+      let h = home old.0 old.1 in
+      (h.0, λ ne. grows some y.eui a (subst (λ u. books.address_of k.book u ≡ Some a) old.2 (h.1 ne)))
+
+  old_home : (f g : Flight) → SameFlight f g → (f.from < length w.nodes) × AtHome k.book w f → AtHome kv.book v g
+  old_home f g same h =
+      let moved : IfSome (nonce_parts f) (λ p. IsHome kv.book v f.from p.from) = if_parts (nonce_parts f) (λ p. IsHome k.book w f.from p.from) (λ p. IsHome kv.book v f.from p.from) (λ p. home_stays f.from p.from h.0) h.1 in
+      let parts : nonce_parts g ≡ nonce_parts f = ap (λ octets. nonce_in_head (head_in octets)) same.octets in
+      subst (λ n. IfSome (nonce_parts g) (λ p. IsHome kv.book v n p.from)) (sym same.from) (subst (λ o. IfSome o (λ p. IsHome kv.book v f.from p.from)) (sym parts) moved)
+
+  -- a node's address is its home
+  home_of : (n a : ℕ) → HasAddress v n a → IsHome kv.book v n a
+  home_of n a t x there = (
+    (λ e. coordinator_address v more okv kv x a (ap (slice_get v.nodes) (sym e) ∙ there) (rw there at t)),
+    (λ ne. meter_address v more okv kv n x a ne there (rw there at t)),
+  )
+
+  new_home : (f : Flight) → HasSender v f → AtHome kv.book v f
+  new_home f t = if_parts (nonce_parts f) (λ p. HasAddress v f.from p.from) (λ p. IsHome kv.book v f.from p.from) (λ p. home_of f.from p.from) t
+
+  later_homes : KeepsFlights w.flights v.flights → All (λ (f : Flight). f.from < length w.nodes) w.flights → All (AtHome k.book w) w.flights → NewSenders w v → All (AtHome kv.book v) v.flights
+  later_homes keeps from home new =
+      all_homes (λ f. (f.from < length w.nodes) × AtHome k.book w f) (AtHome kv.book v) old_home w.flights v.flights keeps (all_both (λ (f : Flight). f.from < length w.nodes) (AtHome k.book w) w.flights from home)
+      (λ i d lt. new_home (get_or (drop (length w.flights) v.flights) i d) (new i d lt))
+
+-- # Nonces
+
+module _ (v : World) (given : List Issued) (k : Keyed v given) (ok : WorldOk v) where
+  one_home : (i j a : ℕ) (x y : Node) → node_at v i ≡ Some x → node_at v j ≡ Some y → IsHome k.book v i a → IsHome k.book v j a → i ≡ j
+  one_home i j a x y hx hy home other = ⊎_elim
+      (λ (e : i ≡ 0). ⊎_elim
+      (λ (f : j ≡ 0). e ∙ sym f)
+      (λ (ne : j ≢ 0). absurd (let low = (home x hx).0 e in let high = above_nought k.book y.eui a ((other y hy).1 ne) in omega arith))
+      (cases_eq j 0))
+      (λ (ne : i ≢ 0). ⊎_elim
+      (λ (f : j ≡ 0). absurd (let low = (other y hy).0 f in let high = above_nought k.book x.eui a ((home x hx).1 ne) in omega arith))
+      (λ (nf : j ≢ 0). k.apart i j x y hx hy (one_meter k.book x.eui y.eui a ((home x hx).1 ne) ((other y hy).1 nf)))
+      (cases_eq j 0))
+      (cases_eq i 0)
+
+  another : (f g : Flight) → CounterRises f g → f.from < length v.nodes → g.from < length v.nodes → AtHome k.book v f → AtHome k.book v g → HasAnotherNonce f g
+  another f g rises lf lg hf hg same_key = by_key f.key
+    where
+      by_parts : (o u : Option NonceParts) → (f.from ≡ g.from → IfSome o (λ p. IfSome u (λ q. p.counter < q.counter))) → IfSome o (λ p. IsHome k.book v f.from p.from) → IfSome u (λ q. IsHome k.book v g.from q.from) → IfSome o (λ p. IfSome u (λ q. p ≢ q))
+      by_parts None u r a b = tt
+      by_parts (Some p) None r a b = tt
+      by_parts (Some p) (Some q) r a b = λ same.
+          let x = at_length v.nodes f.from lf in
+          let y = at_length v.nodes g.from lg in
+          let from : q.from ≡ p.from = ap (λ (z : NonceParts). z.from) (sym same) in
+          let one : f.from ≡ g.from = one_home f.from g.from p.from x.one y.one x.is y.is a (subst (IsHome k.book v g.from) from b) in
+          let less : p.counter < q.counter = r one in
+          let counter : p.counter ≡ q.counter = ap (λ (z : NonceParts). z.counter) same in
+          omega arith
+
+      by_key : (key : Option Key) → IfSome key (λ _. IfSome (nonce_parts f) (λ p. IfSome (nonce_parts g) (λ q. p ≢ q)))
+      by_key None = tt
+      by_key (Some key) = by_parts (nonce_parts f) (nonce_parts g) rises hf hg
+
+  nonces_differ : All (AtHome k.book v) v.flights → AllPairs HasAnotherNonce v.flights
+  nonces_differ homes i j d lt inside =
+      another (get_or v.flights i d) (get_or v.flights j d) (ok.rising.pairs i j d lt inside) (ok.rising.homes i d (omega arith)) (ok.rising.homes j d inside) (homes i d (omega arith)) (homes j d inside)
+
+  nodes_apart : AddressesDiffer v
+  nodes_apart i j a hi hj =
+      let x = some_node v i a hi in
+      let y = some_node v j a hj in
+      addresses_differ v given ok k i j x.node y.node a x.there y.there x.address y.address
+
+-- # Runs
+
+module _ (ciphers : Ciphers) (fits : KeepsRanges ciphers) where
+  senders_at : (w : World) → WorldOk w → All FlightFits w.flights → (x : Entry) → IsEvent x.event → step ciphers w x.event ≡ Ok (x.after, x.trace) → NewSenders w x.after
+  senders_at w ok flown x says e = subst (SendersIn ciphers fits w ok flown) e (senders ciphers fits w ok flown x.event (step ciphers w x.event) (step_is ciphers w x.event says))
+
+  senders_from : (w : World) → WorldOk w → All FlightFits w.flights → (entries : List Entry) → AreEvents (events_of entries) → FlightsAreOctets entries → IsRun ciphers w entries → AreAddressed w entries
+  senders_from w ok flown [] says fly run = tt
+  senders_from w ok flown (x ∷ xs) says fly run =
+      let event = All-head IsEvent x.event (events_of xs) says in
+      let g = taken_good ciphers fits w ok flown x event run.2 in (
+        senders_at w ok flown x event run.2,
+        senders_from x.after g.0 (All-head EntryFlies x xs fly) xs (All-tail IsEvent x.event (events_of xs) says) (All-tail EntryFlies x xs fly) run.3,
+      )
+
+  apart_from : (w : World) → WorldOk w → All FlightFits w.flights → (before : List Entry) → Keyed w (issued before) → (entries : List Entry) → AreEvents (events_of entries) → FlightsAreOctets entries → IsRun ciphers w entries → AreApart entries
+  apart_from w ok flown before k [] says fly run = tt
+  apart_from w ok flown before k (x ∷ xs) says fly run = λ honest.
+      let event = All-head IsEvent x.event (events_of xs) says in
+      let g = taken_good ciphers fits w ok flown x event run.2 in
+      let next : Keyed x.after (issued before ++ x.trace.issued) = subst (Kept (issued before)) run.2 (kept w (issued before) _ (step_keyed ciphers fits w ok flown (issued before) k x.event event)) honest in
+      let k' : Keyed x.after (issued (before ++ x ∷ [])) = subst (Keyed x.after) (sym (all_of_one (λ d. d.issued) before x)) next in (
+        nodes_apart x.after (issued (before ++ x ∷ [])) k' g.0,
+        apart_from x.after g.0 (All-head EntryFlies x xs fly) (before ++ x ∷ []) k' xs (All-tail IsEvent x.event (events_of xs) says) (All-tail EntryFlies x xs fly) run.3,
+      )
+
+  nonces_from : (w : World) (ok : WorldOk w) → All FlightFits w.flights → (before : List Entry) (k : Keyed w (issued before)) → All (AtHome k.book w) w.flights → (entries : List Entry) → AreEvents (events_of entries) → FlightsAreOctets entries → IsRun ciphers w entries → NoncesDiffer entries
+  nonces_from w ok flown before k homes [] says fly run = tt
+  nonces_from w ok flown before k homes (x ∷ xs) says fly run = λ honest.
+      let event = All-head IsEvent x.event (events_of xs) says in
+      let g = taken_good ciphers fits w ok flown x event run.2 in
+      let next : Keyed x.after (issued before ++ x.trace.issued) = subst (Kept (issued before)) run.2 (kept w (issued before) _ (step_keyed ciphers fits w ok flown (issued before) k x.event event)) honest in
+      let k' : Keyed x.after (issued (before ++ x ∷ [])) = subst (Keyed x.after) (sym (all_of_one (λ d. d.issued) before x)) next in
+      let on : GoesOn w x.after = steps ciphers w x.after x.event x.trace run.2 in
+      let later : 0 < length w.nodes → Goes ciphers fits w ok flown (issued before) k x.after = subst (GoesBy ciphers fits w ok flown (issued before) k) run.2 (goes ciphers fits w ok flown (issued before) k x.event (step ciphers w x.event) (step_is ciphers w x.event event)) in
+      let book : 0 < length w.nodes → Grows k.book k'.book = λ some.
+      let nodes = on.nodes in
+      let c = at_length x.after.nodes 0 (omega arith) in
+      (later some).grows c.one c.is k'.book (k'.coordinator c.one c.is).book_kept in
+      let all = later_homes w x.after (issued before) (issued (before ++ x ∷ [])) k k' g.0 book (λ some. (later some).euis) on.flights ok.rising.homes homes (senders_at w ok flown x event run.2) in (
+        nonces_differ x.after (issued (before ++ x ∷ [])) k' g.0 all,
+        nonces_from x.after g.0 (All-head EntryFlies x xs fly) (before ++ x ∷ []) k' all xs (All-tail IsEvent x.event (events_of xs) says) (All-tail EntryFlies x xs fly) run.3,
+      )
+
+pub every_sender : EverySenderIsRight
+every_sender ciphers fits entries r fly = senders_from ciphers fits start start_ok (All-nil FlightFits) entries r.events fly r.run
+
+pub every_address : EveryAddressDiffers
+every_address ciphers fits entries r fly = apart_from ciphers fits start start_ok (All-nil FlightFits) [] start_keyed entries r.events fly r.run
+
+pub every_nonce : EveryNonceDiffers
+every_nonce ciphers fits entries r fly = nonces_from ciphers fits start start_ok (All-nil FlightFits) [] start_keyed (All-nil (AtHome start_keyed.book start)) entries r.events fly r.run

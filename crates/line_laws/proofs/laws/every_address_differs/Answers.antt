@@ -1,0 +1,6 @@
+-- The law, by the traversal of runs.
+use Rattle.line_laws.proofs.NonceRuns.{every_address}
+use Rattle.line_laws.proofs.laws.every_address_differs.Goals as goal
+
+pub returns : goal.returns
+returns c = every_address

@@ -1,7 +1,0 @@
-use Rattle.std.proofs.Common.{◌≡◌, drop}
-use Rattle.line_replay.specs.Readings.{number_from}
-use Rattle.line_replay.proofs.reading.number_below.Given as goal
-
--- the digits so far and those to come stand for the number
-abbrev pub invariant-loop-digit : goal.invariant-loop-digit
-invariant-loop-digit l = number_from l.value (drop l.digit-index l.digits) ≡ number_from 0 l.digits

@@ -1,0 +1,11 @@
+-- The law of all lines.
+use Rattle.std.specs.Prelude.{◌≡◌}
+use Rattle.line_rules.specs.declared.event.Event.{Event}
+use Rattle.line_rules.specs.Events.{IsEvent}
+use Rattle.line_script.specs.declared.reading.Reading.TheVariants.{Reads}
+use Rattle.line_script.specs.Readings.{reading}
+use Rattle.line_script.specs.Lines.{line_of}
+
+-- the line of each event that a line can say is read as that event
+abbrev pub LinesAreReadBack : Type 0
+LinesAreReadBack = (event : Event) → IsEvent event → reading (line_of event) ≡ Reads event

@@ -1,0 +1,238 @@
+//! The texts of a report.
+ghost use Rattle.std.specs.Prelude.{◌≡◌, ◌++◌, IfOk, OnOk, string_bytes, Some};
+ghost use Rattle.line_script.specs.Texts.{reason_word, answer_text, forged_text, up_text, grant_text, took_text, done_text, shown_text, details_text, happened_text, fly_text, bad_text, end_text};
+
+use crate::answer::{answer_word, verdict_word};
+use crate::node_report::{push_node, short_word};
+use line_rules::{Admission, Answer, Event, Handed, Happenings};
+use node_rules::ShownRef;
+use std::alloc::{AllocError, Global};
+use std::fmt::Write;
+
+/// Why a line is bad. The reasons are tried in this order.
+#[derive(Clone, Copy, Debug, PartialEq, Eq)]
+pub enum Reason {
+    /// The octet after the last that a script may have stands in it.
+    Input,
+    /// It has more octets than a line may have.
+    Long,
+    /// It has no reading.
+    Form,
+    /// It would be one event more than a run may have.
+    Events,
+    /// It does not fit the setup.
+    Setup,
+    /// A node is not there.
+    Node,
+    /// The flight is not there.
+    Flight,
+}
+
+/// The totals of a run, which its last line names.
+#[derive(Clone, Copy, Debug, PartialEq, Eq)]
+pub struct Totals {
+    /// The events that were taken.
+    pub events: u32,
+    /// The flights.
+    pub flights: u32,
+    /// The sends that were answered ok.
+    pub sends: u32,
+    /// The datagrams that were handed up.
+    pub ups: u32,
+    /// The events that are forged.
+    pub forged: u32,
+}
+
+fn reason_word(reason: Reason) -> &'static str
+    ensures { result.now ≡ reason_word reason }
+{
+    match reason {
+        Reason::Input => "input",
+        Reason::Long => "long",
+        Reason::Form => "form",
+        Reason::Events => "events",
+        Reason::Setup => "setup",
+        Reason::Node => "node",
+        Reason::Flight => "flight",
+    }
+}
+
+#[tactic(auto, unfolding(crate::specs::Texts::answer_text))]
+fn push_answer(text: &mut String, number: u32, answer: Answer) -> Result<(), AllocError>
+    ensures { OnOk result (string_bytes text.new ≡ string_bytes text.old ++ answer_text number answer) }
+{
+    let verdict = verdict_word(answer);
+    let word = answer_word(answer);
+    match write!(text, "{number} {verdict} {word}\n") {
+        Ok(()) => Ok(()),
+        Err(_) => Err(AllocError),
+    }
+}
+
+#[tactic(auto, unfolding(crate::specs::Texts::forged_text))]
+fn push_forged(text: &mut String, number: u32, forged: bool) -> Result<(), AllocError>
+    ensures { OnOk result (string_bytes text.new ≡ string_bytes text.old ++ forged_text number forged) }
+{
+    if !forged {
+        return Ok(());
+    }
+    match write!(text, "forged {number}\n") {
+        Ok(()) => Ok(()),
+        Err(_) => Err(AllocError),
+    }
+}
+
+#[tactic(auto, unfolding(crate::specs::Texts::up_text))]
+fn push_up(text: &mut String, alloc: Global, up: &Option<Handed<'_>>) -> Result<(), AllocError>
+    ensures { OnOk result (string_bytes text.new ≡ string_bytes text.old ++ up_text up.now) }
+{
+    match up {
+        None => Ok(()),
+        Some(up) => {
+            let node = up.node;
+            let note = up.note;
+            let octets = hex::encode(alloc, up.octets.octets())?;
+            match write!(text, "up {node} {note} {octets}\n") {
+                Ok(()) => Ok(()),
+                Err(_) => Err(AllocError),
+            }
+        }
+    }
+}
+
+#[tactic(auto, unfolding(crate::specs::Texts::grant_text))]
+fn push_grant(text: &mut String, alloc: Global, grant: Option<Admission>) -> Result<(), AllocError>
+    ensures { OnOk result (string_bytes text.new ≡ string_bytes text.old ++ grant_text grant) }
+{
+    match grant {
+        None => Ok(()),
+        Some(grant) => {
+            let node = grant.node;
+            let address = short_word(alloc, grant.address.number())?;
+            match write!(text, "grant {node} {address}\n") {
+                Ok(()) => Ok(()),
+                Err(_) => Err(AllocError),
+            }
+        }
+    }
+}
+
+#[tactic(auto, unfolding(crate::specs::Texts::took_text))]
+fn push_took(text: &mut String, took: Option<u16>) -> Result<(), AllocError>
+    ensures { OnOk result (string_bytes text.new ≡ string_bytes text.old ++ took_text took) }
+{
+    match took {
+        None => Ok(()),
+        Some(node) => match write!(text, "took {node}\n") {
+            Ok(()) => Ok(()),
+            Err(_) => Err(AllocError),
+        },
+    }
+}
+
+#[tactic(auto, unfolding(crate::specs::Texts::done_text))]
+fn push_done(text: &mut String, done: Option<u16>) -> Result<(), AllocError>
+    ensures { OnOk result (string_bytes text.new ≡ string_bytes text.old ++ done_text done) }
+{
+    match done {
+        None => Ok(()),
+        Some(node) => match write!(text, "done {node}\n") {
+            Ok(()) => Ok(()),
+            Err(_) => Err(AllocError),
+        },
+    }
+}
+
+#[tactic(auto, unfolding(crate::specs::Texts::shown_text))]
+fn push_shown(
+    text: &mut String,
+    alloc: Global,
+    event: &Event<'_>,
+    shown: &Option<ShownRef<'_>>,
+) -> Result<(), AllocError>
+    ensures { OnOk result (string_bytes text.new ≡ string_bytes text.old ++ shown_text event.now shown.now) }
+{
+    let Event::Show { node } = event else {
+        return Ok(());
+    };
+    match shown {
+        None => Ok(()),
+        Some(shown) => push_node(text, alloc, *node, shown.shown()),
+    }
+}
+
+/// What happened at an event to single nodes: who was allowed, took a grant, is done, and is shown.
+#[tactic(auto, unfolding(crate::specs::Texts::details_text))]
+fn push_details(
+    text: &mut String,
+    alloc: Global,
+    event: &Event<'_>,
+    happened: &Happenings<'_>,
+) -> Result<(), AllocError>
+    ensures { OnOk result (string_bytes text.new ≡ string_bytes text.old ++ details_text event.now happened.now) }
+{
+    push_grant(text, alloc, happened.grant)?;
+    push_took(text, happened.took)?;
+    push_done(text, happened.done)?;
+    push_shown(text, alloc, event, &happened.shown)
+}
+
+/// Appends the lines of an event of this number, without those of its flights. First comes its answer, and then whatever there
+/// is of these: that it is forged, what was handed up, the address of a meter that was allowed, the meter that took its grant,
+/// the meter whose joining is done, and the lines of the node that is shown.
+#[tactic(auto, unfolding(crate::specs::Texts::happened_text))]
+pub fn push_happened(
+    text: &mut String,
+    alloc: Global,
+    number: u32,
+    event: &Event<'_>,
+    happened: &Happenings<'_>,
+) -> Result<(), AllocError>
+    ensures { OnOk result (string_bytes text.new
+        ≡ string_bytes text.old ++ happened_text number event.now happened.now) }
+{
+    push_answer(text, number, happened.answer)?;
+    push_forged(text, number, happened.forged)?;
+    push_up(text, alloc, &happened.up)?;
+    push_details(text, alloc, event, happened)
+}
+
+/// Appends the line of a flight: its number, the node that sent it, and its octets.
+#[tactic(auto, unfolding(crate::specs::Texts::fly_text))]
+pub fn push_fly(
+    text: &mut String,
+    alloc: Global,
+    number: u32,
+    node: u16,
+    octets: &[u8],
+) -> Result<(), AllocError>
+    ensures { OnOk result (string_bytes text.new ≡ string_bytes text.old ++ fly_text number node octets.now) }
+{
+    let octets = hex::encode(alloc, octets)?;
+    match write!(text, "fly {number} {node} {octets}\n") {
+        Ok(()) => Ok(()),
+        Err(_) => Err(AllocError),
+    }
+}
+
+/// The line of a bad line, by its number among all lines.
+#[tactic(auto, unfolding(crate::specs::Texts::bad_text))]
+pub fn bad_text(alloc: Global, number: u32, reason: Reason) -> Result<String, AllocError>
+    ensures { IfOk result (λ text. string_bytes text ≡ bad_text number reason) }
+{
+    let word = reason_word(reason);
+    format!(in alloc; "bad {number} {word}\n")
+}
+
+/// The last line of a report that has no bad line.
+#[tactic(auto, unfolding(crate::specs::Texts::end_text))]
+pub fn end_text(alloc: Global, totals: Totals) -> Result<String, AllocError>
+    ensures { IfOk result (λ text. string_bytes text ≡ end_text totals) }
+{
+    let events = totals.events;
+    let flights = totals.flights;
+    let sends = totals.sends;
+    let ups = totals.ups;
+    let forged = totals.forged;
+    format!(in alloc; "end {events} {flights} {sends} {ups} {forged}\n")
+}

@@ -1,0 +1,95 @@
+//! What a station sends its neighbours by itself.
+ghost use Rattle.std.specs.Prelude.{◌≡◌, ◌≢◌, ◌+◌, ◌<◌, ◌≤◌, Some, IfSome, IsSome, length, unwrap_or};
+ghost use Rattle.mesh_header.specs.declared.unit.Unit.TheVariants as units;
+ghost use Rattle.node_rules.specs.Frames.{to_all};
+ghost use Rattle.node_rules.specs.Drafts as drafts;
+ghost use Rattle.node_rules.specs.Neighbours as local;
+ghost use Rattle.node_rules.specs.Neighbours.{CarriesAfter};
+ghost use Rattle.node_rules.specs.Agreement.{Agrees};
+
+use crate::station::Station;
+use aes_modes::Aes;
+use mesh_header::Unit;
+use node_rules::LocalRefusal;
+use plc_base::{FrameBuf, Grant, Keeper, Out, Short};
+use waiting_bodies::seal;
+
+// The address of a neighbour, or that which all hear.
+fn address_or_all(to: Option<Short>) -> u16
+    ensures address { result ≡ unwrap_or to to_all }
+    ensures target { result ≢ 0xFFFE }
+{
+    match to {
+        Some(to) => to.number(),
+        None => 0xFFFF,
+    }
+}
+
+impl<K: Keeper + Drop> Station<K> {
+    // Seals a command for a neighbour or for all, with a counter of its own.
+    fn local_goes(
+        &mut self,
+        grant: &Grant,
+        code: u8,
+        to: u16,
+        body: &[u8],
+        out: &mut Out,
+    ) -> Result<(), LocalRefusal>
+        requires running { IsSome self.old.memory }
+        requires agrees { Agrees self.old }
+        requires ring { IfSome self.old.memory (λ l. l.ring ≡ Some grant.now) }
+        requires left { IfSome self.old.memory (λ l. l.counter.next + 1 ≤ 4294967295) }
+        requires code { 1 ≤ code }
+        requires last_code { code ≤ 5 }
+        requires fits { length body.now ≤ 379 }
+        requires target { to ≢ 0xFFFE }
+        requires room { length out.old.frames < 24 }
+        ensures carries { IfSome self.old.memory (λ l. CarriesAfter self.old (drafts.sealing drafts.alone local.local_ends
+            (drafts.goes to (units.Local code body.now) 0 (drafts.empty_draft l)) tt) result out.old out.new self.new) }
+        ensures agrees { Agrees self.new }
+    {
+        self.halted = true;
+        let Ok(counter) = self.parts.counter.reserve(&mut self.keeper, 1) else {
+            out.clear();
+            return Err(LocalRefusal::Store);
+        };
+        let key = grant.sealing_key();
+        let body = FrameBuf::from_octets(body);
+        let unit = Unit::Local { code, body };
+        seal(grant, &key, &Aes::new(&key), counter, to, &unit, 0, out);
+        self.halted = false;
+        Ok(())
+    }
+
+    /// Sends a command of code 3 to 5, with a body of 1 to 379 octets, to a neighbour, or to all where `to` is None. Its frame comes
+    /// after those that `out` has.
+    ///
+    /// CounterSpent exactly where no frame counter is left. Store, after which the station is halted and `out` is empty.
+    pub fn send_local(
+        &mut self,
+        code: u8,
+        to: Option<Short>,
+        body: &[u8],
+        out: &mut Out,
+    ) -> Result<(), LocalRefusal>
+        requires running { IsSome self.old.memory }
+        requires joined { IfSome self.old.memory (λ l. IsSome l.ring) }
+        requires agrees { Agrees self.old }
+        requires code { 3 ≤ code }
+        requires last_code { code ≤ 5 }
+        requires some { 1 ≤ length body.now }
+        requires fits { length body.now ≤ 379 }
+        requires room { length out.old.frames < 24 }
+        ensures carries { IfSome self.old.memory (λ l. CarriesAfter self.old (local.send_local l code to body.now) result out.old out.new self.new) }
+        ensures agrees { Agrees self.new }
+    {
+        let Some(grant) = self.parts.ring.grant() else {
+            unreachable!()
+        };
+        let left = self.parts.counter.left();
+        if left < 1 {
+            return Err(LocalRefusal::CounterSpent);
+        }
+        self.local_goes(&grant, code, address_or_all(to), body, out)
+    }
+}

@@ -1,0 +1,4 @@
+pub mod Sound
+pub mod Dropping
+pub mod Letters
+pub mod Leaves

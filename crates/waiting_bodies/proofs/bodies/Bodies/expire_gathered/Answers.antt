@@ -1,0 +1,18 @@
+use Rattle.std.proofs.Common.{ap, ◌∙◌, List}
+use Rattle.fragment_buffers.specs.Taking.{unexpired}
+use Rattle.fragment_buffers.specs.Reassembly.{Reassembly}
+use Rattle.waiting_bodies.specs.Bodies.{Held}
+use Rattle.waiting_bodies.proofs.Sound.{seen_moved, sound_moves}
+use Rattle.waiting_bodies.proofs.bodies.Bodies.expire_gathered.Goals as goal
+
+pub returns : goal.returns
+returns c =
+    seen_moved c.self.inside.pool c.expire.new.pool c.self.inside.reassembly c.expire.new.self c.self.inside.waiting.items c.args.self.now _ c.self.view_is c.self.invariant.sound
+    c.expire.ensures.moves (c.expire.ensures.told ∙ ap (λ (es : List Reassembly). unexpired es c.args.now) (ap (λ (h : Held). h.reassemblies) c.self.view_is))
+
+pub invariant_of-self : goal.invariant_of-self
+invariant_of-self c = record {
+  sound = sound_moves c.self.inside.pool c.expire.new.pool c.self.inside.reassembly c.expire.new.self c.self.inside.waiting.items c.self.invariant.sound c.expire.ensures.keeps
+      c.expire.ensures.bounded c.expire.ensures.moves;
+  count = c.self.invariant.count;
+}

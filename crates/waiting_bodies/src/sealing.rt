@@ -1,0 +1,146 @@
+//! Seals the units of a step.
+ghost use Rattle.std.specs.Prelude.{◌≡◌, ◌≢◌, ◌+◌, ◌<◌, ◌≤◌, ◌++◌, ◌∷◌, [], None, length, map};
+ghost use Rattle.mesh_header.specs.declared.unit.Unit.TheVariants as mesh;
+ghost use Rattle.mesh_header.specs.Grammar.{IsAllowed, spelled_length};
+ghost use Rattle.fragment_buffers.specs.Cutting.{pieces_of, cut};
+ghost use Rattle.fragment_buffers.specs.Loads as loads;
+ghost use Rattle.waiting_bodies.specs.Frames.{unit_frame, frames_of, with_frames};
+
+use aes_modes::Aes;
+use fragment_buffers::{cut_piece, pieces};
+use mac_frames::{MacHead, seal_frame};
+use mesh_header::{Mesh, Unit, write_unit};
+use plc_base::{FrameBuf, Grant, Key, Out, OutFrame, PAN, Short};
+
+/// Seals a unit under the active key of a grant, with a counter, and appends its frame to the others.
+///
+/// `to` is the address of a neighbour, or 0xFFFF for all.
+pub fn seal(
+    grant: &Grant,
+    key: &Key,
+    aes: &Aes,
+    counter: u32,
+    to: u16,
+    unit: &Unit,
+    note: u32,
+    out: &mut Out,
+)
+    requires aes { aes.now ≡ key.now.0 }
+    requires target { to ≢ 0xFFFE }
+    requires allowed { IsAllowed unit.now }
+    requires fits { spelled_length unit.now ≤ 381 }
+    requires room { length out.old.frames < 24 }
+    ensures { out.new ≡ with_frames (out.old.frames ++ unit_frame grant.now key.now counter (record { to = to; unit = unit.now; note = note }) ∷ []) out.old }
+{
+    let mut payload = FrameBuf::new();
+    write_unit(unit, &mut payload);
+    let head = MacHead::Sealed {
+        ack: to != 0xFFFF,
+        seq: (counter % 256) as u8,
+        pan: PAN,
+        to,
+        from: grant.address,
+        counter,
+        index: grant.active,
+    };
+    let mut octets = FrameBuf::new();
+    seal_frame(aes, &head, payload.octets(), &mut octets);
+    out.frames.push(OutFrame {
+        octets,
+        note,
+        key: Some(*key),
+    });
+}
+
+/// The mesh header of what a node sends itself.
+pub fn own_mesh(grant: &Grant, to: Short) -> Mesh
+    ensures { result ≡ loads.own_mesh grant.now.address to }
+{
+    Mesh {
+        hops: 14,
+        origin: grant.address,
+        to,
+    }
+}
+
+// Seals a datagram in pieces, after the other frames.
+fn seal_cut(
+    grant: &Grant,
+    key: &Key,
+    aes: &Aes,
+    first: u32,
+    hop: Short,
+    to: Short,
+    note: u32,
+    tag: u16,
+    datagram: &[u8],
+    out: &mut Out,
+)
+    requires aes { aes.now ≡ key.now.0 }
+    requires long { 376 ≤ length datagram.now }
+    requires fits { length datagram.now ≤ 1280 }
+    requires left { first + pieces_of (length datagram.now) ≤ 4294967295 }
+    requires room { length out.old.frames + pieces_of (length datagram.now) ≤ 24 }
+    ensures { out.new ≡ with_frames (out.old.frames ++ frames_of grant.now key.now first
+        (loads.all_go hop note (map (λ piece. mesh.Part (loads.own_mesh grant.now.address to) piece) (cut datagram.now tag)))) out.old }
+{
+    for k in 0..pieces(datagram.len() as u16) {
+        let piece = cut_piece(datagram, tag, k);
+        let unit = Unit::Part {
+            mesh: own_mesh(grant, to),
+            piece,
+        };
+        seal(
+            grant,
+            key,
+            aes,
+            first + u32::from(k),
+            hop.number(),
+            &unit,
+            note,
+            out,
+        );
+    }
+}
+
+/// Seals the units of a load for a next hop, with counters from `first` on, and appends their frames to the others. The load is a
+/// datagram with its tag, or a command, which has none.
+pub fn seal_load(
+    grant: &Grant,
+    key: &Key,
+    aes: &Aes,
+    first: u32,
+    hop: Short,
+    to: Short,
+    note: u32,
+    tag: Option<u16>,
+    octets: &[u8],
+    out: &mut Out,
+)
+    requires aes { aes.now ≡ key.now.0 }
+    requires some { 1 ≤ length octets.now }
+    requires fits { length octets.now ≤ 1280 }
+    requires command { tag ≡ None → length octets.now ≤ 374 }
+    requires left { first + loads.units_in (loads.load_of tag octets.now) ≤ 4294967295 }
+    requires room { length out.old.frames + loads.units_in (loads.load_of tag octets.now) ≤ 24 }
+    ensures { out.new ≡ with_frames (out.old.frames ++ frames_of grant.now key.now first
+        (loads.all_go hop note (loads.units_of grant.now.address to (loads.load_of tag octets.now)))) out.old }
+{
+    let Some(tag) = tag else {
+        let unit = Unit::Carried {
+            mesh: own_mesh(grant, to),
+            body: FrameBuf::from_octets(&octets[1..]),
+        };
+        seal(grant, key, aes, first, hop.number(), &unit, note, out);
+        return;
+    };
+    if octets.len() > 375 {
+        seal_cut(grant, key, aes, first, hop, to, note, tag, octets, out);
+        return;
+    }
+    let unit = Unit::Whole {
+        mesh: own_mesh(grant, to),
+        octets: FrameBuf::from_octets(octets),
+    };
+    seal(grant, key, aes, first, hop.number(), &unit, note, out);
+}
