@@ -9,7 +9,7 @@ use Rattle.line_driver.specs.Clauses.{Comes, Drives}
 use Rattle.plc_base.specs.Streams.{SourceState, SinkState, SourceRose, SinkRose}
 use Rattle.line_rules.specs.declared.event.Event.{Event}
 use Rattle.line_rules.specs.declared.event.StepFault.TheVariants as faults
-use Rattle.line_world.specs.declared.world.TheConstants.{MAX_EVENTS}
+use Rattle.line_rules.specs.declared.event.TheConstants.{MAX_EVENTS}
 use Rattle.line_world.specs.Worlds.{World, Step, start}
 use Rattle.line_world.specs.Steps.{step}
 use Rattle.line_world.specs.Runs.{Entry, IsRun, CountsRight}

@@ -9,7 +9,7 @@ use Rattle.line_driver.specs.Clauses.{Told, Turned}
 use Rattle.line_driver.proofs.Turned.{taken}
 use Rattle.line_rules.specs.declared.event.Event.{Event}
 use Rattle.line_rules.specs.declared.happenings.Happenings.{Happenings}
-use Rattle.line_world.specs.declared.world.TheConstants.{MAX_EVENTS}
+use Rattle.line_rules.specs.declared.event.TheConstants.{MAX_EVENTS}
 use Rattle.line_world.specs.Worlds.{World}
 use Rattle.line_world.specs.Steps.{step}
 use Rattle.line_script.specs.Texts.{happened_text}

@@ -9,9 +9,9 @@ ghost use Rattle.line_replay.specs.Report.{Playing, is_forged, is_on_the_line, e
 
 use crate::report::{push_sent, refuse, totals};
 use line_driver::{LineKind, LineMachine, StopReason, tell, tell_made};
-use line_rules::{Event, Happenings, StepFault};
+use line_rules::{Event, Happenings, MAX_EVENTS, StepFault};
 use line_script::{LINE_OCTETS, Reading, Reason, end_text, push_happened, read_line};
-use line_world::{MAX_EVENTS, World};
+use line_world::World;
 use plc_base::{FrameBuf, Sink};
 use std::alloc::{AllocError, Global};
 use std::marker::Model;

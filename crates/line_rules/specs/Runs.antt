@@ -1,6 +1,7 @@
 -- Runs of the world, and the history of each.
 use Rattle.std.specs.Prelude.{◌≡◌, ℕ, ◌+◌, ◌-◌, ◌<◌, ◌==◌, nat_lt, false, List, [], ◌∷◌, ◌++◌, map, All, Option, Some, None, Ok, Err, slice_get, if◌then◌else◌}
 use Rattle.line_rules.specs.declared.event.Event.{Event}
+use Rattle.line_rules.specs.declared.event.TheConstants.{MAX_EVENTS}
 use Rattle.node_rules.specs.Ciphers.{Ciphers}
 use Rattle.line_rules.specs.Worlds.{World, Sending, Issued, Pairing, Trace}
 use Rattle.line_rules.specs.declared.happenings.Handed.{Handed}
@@ -22,15 +23,15 @@ abbrev pub entries_of : World → Event → Step → (World → List Entry) → 
 entries_of w event (Ok r) rest = record { number = w.events + 1; event = event; trace = r.1; after = r.0 } ∷ rest r.0
 entries_of w event (Err fault) rest = []
 
--- the run of events from a world on, up to the first that is not taken; it has at most 50,000 events
+-- the run of events from a world on, up to the first that is not taken; it has at most MAX_EVENTS events
 abbrev pub run : Ciphers → World → List Event → List Entry
 run ciphers w [] = []
-run ciphers w (event ∷ events) = if nat_lt w.events 50000 then entries_of w event (step ciphers w event) (λ next. run ciphers next events) else []
+run ciphers w (event ∷ events) = if nat_lt w.events MAX_EVENTS then entries_of w event (step ciphers w event) (λ next. run ciphers next events) else []
 
 -- the entries are a run from a world on
 abbrev pub IsRun : Ciphers → World → List Entry → Type 0
 IsRun ciphers w [] = Unit {0}
-IsRun ciphers w (x ∷ xs) = (w.events < 50000) × (x.number ≡ w.events + 1) × (step ciphers w x.event ≡ Ok (x.after, x.trace)) × IsRun ciphers x.after xs
+IsRun ciphers w (x ∷ xs) = (w.events < MAX_EVENTS) × (x.number ≡ w.events + 1) × (step ciphers w x.event ≡ Ok (x.after, x.trace)) × IsRun ciphers x.after xs
 
 -- # What a history tells
 

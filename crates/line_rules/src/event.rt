@@ -2,6 +2,9 @@
 use plc_base::{Eui, Key, LinkCost, OctetRef, Rand};
 use thiserror::Error;
 
+/// The most events of a run.
+pub const MAX_EVENTS: u32 = 50_000;
+
 /// What a line of a script asks for, with the fields of the line in their order.
 ///
 /// Nodes are numbered from 0, flights from 1.

@@ -8,6 +8,6 @@ mod event;
 mod happenings;
 mod laws;
 
-pub use event::{Answer, Event, StepFault};
+pub use event::{Answer, Event, MAX_EVENTS, StepFault};
 pub use happenings::{Admission, Handed, Happenings};
 pub use laws::steps_go_on;

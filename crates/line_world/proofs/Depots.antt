@@ -119,19 +119,19 @@ module _ (old : book.Book) (meter : Node) (address : ℕ) (grant : Granted) (h :
 -- # The nodes
 
 module _ (w : World) (sent : List Sending) (issues : List Issue) (k : Keeps w sent issues) where
-  module _ (number : ℕ) (center meter : Node) (ring : Granted) (address : ℕ) (still : w.running ≡ false) (away : number ≢ 0) (is_center : slice_get w.nodes 0 ≡ Some center) (is_meter : slice_get w.nodes number ≡ Some meter)
-      (has_ring : center.ring ≡ Some ring) (allows : IsAllowing center.book (allowed center.book meter) meter.eui address) where
+  module _ (number : ℕ) (coordinator meter : Node) (ring : Granted) (address : ℕ) (still : w.running ≡ false) (away : number ≢ 0) (is_coordinator : slice_get w.nodes 0 ≡ Some coordinator) (is_meter : slice_get w.nodes number ≡ Some meter)
+      (has_ring : coordinator.ring ≡ Some ring) (allows : IsAllowing coordinator.book (allowed coordinator.book meter) meter.eui address) where
     abbrev grant : Granted
     grant = grant_of ring address
 
-    abbrev center' : Node
-    center' = record center { book = issued (allowed center.book meter) meter grant }
+    abbrev coordinator' : Node
+    coordinator' = record coordinator { book = issued (allowed coordinator.book meter) meter grant }
 
     abbrev meter' : Node
     meter' = granted meter grant
 
     abbrev first : List Node
-    first = slice_set w.nodes 0 center'
+    first = slice_set w.nodes 0 coordinator'
 
     abbrev nodes : List Node
     nodes = slice_set first number meter'
@@ -139,23 +139,23 @@ module _ (w : World) (sent : List Sending) (issues : List Issue) (k : Keeps w se
     -- which node stands at a place
     data Now (n : ℕ) (y : Node) : Type 0 where
       is_now : n ≡ number → meter' ≡ y → Now n y
-      is_first : n ≡ 0 → center' ≡ y → Now n y
+      is_first : n ≡ 0 → coordinator' ≡ y → Now n y
       is_old : n ≢ number → n ≢ 0 → slice_get w.nodes n ≡ Some y → Now n y
 
     now : (n : ℕ) (y : Node) → slice_get nodes n ≡ Some y → Now n y
     now n y is = elim (get_set first number meter' n y is) [
       | inl here ↦ is_now here.0 here.1
-      | inr other ↦ elim (get_set w.nodes 0 center' n y other.1) [
+      | inr other ↦ elim (get_set w.nodes 0 coordinator' n y other.1) [
         | inl here ↦ is_first here.0 here.1
         | inr old ↦ is_old other.0 old.0 old.1
       ]
     ]
 
-    center_there : slice_get nodes 0 ≡ Some center'
-    center_there = set_there first number meter' 0 center' (λ e. away (sym e)) (set_here w.nodes 0 center center' is_center)
+    coordinator_there : slice_get nodes 0 ≡ Some coordinator'
+    coordinator_there = set_there first number meter' 0 coordinator' (λ e. away (sym e)) (set_here w.nodes 0 coordinator coordinator' is_coordinator)
 
     meter_there : slice_get nodes number ≡ Some meter'
-    meter_there = set_here first number meter meter' (set_there w.nodes 0 center' number meter away is_meter)
+    meter_there = set_here first number meter meter' (set_there w.nodes 0 coordinator' number meter away is_meter)
 
     -- the node that stood there before, with the same EUI
     record Was (n : ℕ) (y : Node) : Type 0 where
@@ -165,16 +165,16 @@ module _ (w : World) (sent : List Sending) (issues : List Issue) (k : Keeps w se
 
     was : (n : ℕ) (y : Node) → Now n y → Was n y
     was n y (is_now at same) = record { node = meter; is = ap (slice_get w.nodes) at ∙ is_meter; eui = ap (λ (z : Node). z.eui) same }
-    was n y (is_first at same) = record { node = center; is = ap (slice_get w.nodes) at ∙ is_center; eui = ap (λ (z : Node). z.eui) same }
+    was n y (is_first at same) = record { node = coordinator; is = ap (slice_get w.nodes) at ∙ is_coordinator; eui = ap (λ (z : Node). z.eui) same }
     was n y (is_old apart far is) = record { node = y; is = is; eui = refl }
 
-    meter_named : (c x : Node) (n p : ℕ) → center' ≡ c → Now n x → 0 < n → address_of x.ring ≡ Some p → book.address_of c.book x.eui ≡ Some p
+    meter_named : (c x : Node) (n p : ℕ) → coordinator' ≡ c → Now n x → 0 < n → address_of x.ring ≡ Some p → book.address_of c.book x.eui ≡ Some p
     meter_named c x n p same (is_now at new) above has =
         let p_is : address ≡ p = same_some (ap (λ (z : Node). address_of z.ring) new ∙ has) in
-        (λ i. book.address_of (sym same i).book (sym new i).eui) ∙ book_has center.book meter address grant allows ∙ ap Some p_is
+        (λ i. book.address_of (sym same i).book (sym new i).eui) ∙ book_has coordinator.book meter address grant allows ∙ ap Some p_is
     meter_named c x n p same (is_first at new) above has = absurd (omega (arith, at, above))
     meter_named c x n p same (is_old apart far is) above has =
-        ap (λ (z : Node). book.address_of z.book x.eui) (sym same) ∙ book_keeps center.book meter address grant allows x.eui p (k.named.meters center x n p is_center is above has)
+        ap (λ (z : Node). book.address_of z.book x.eui) (sym same) ∙ book_keeps coordinator.book meter address grant allows x.eui p (k.named.meters coordinator x n p is_coordinator is above has)
 
     named : IsNamed nodes
     named = record {
@@ -182,24 +182,24 @@ module _ (w : World) (sent : List Sending) (issues : List Issue) (k : Keeps w se
           let a = was m x (now m x is_m) in
           let b = was n y (now n y is_n) in
           k.named.apart m n a.node b.node a.is b.is (ap book.eui_number a.eui ∙ same ∙ ap book.eui_number (sym b.eui));
-      center = λ c is. let same : center' ≡ c = same_some (sym center_there ∙ is) in ap (λ (z : Node). address_of z.ring) (sym same) ∙ k.named.center center is_center;
-      meters = λ c x n p is_c is_n above has. meter_named c x n p (same_some (sym center_there ∙ is_c)) (now n x is_n) above has;
+      coordinator = λ c is. let same : coordinator' ≡ c = same_some (sym coordinator_there ∙ is) in ap (λ (z : Node). address_of z.ring) (sym same) ∙ k.named.coordinator coordinator is_coordinator;
+      meters = λ c x n p is_c is_n above has. meter_named c x n p (same_some (sym coordinator_there ∙ is_c)) (now n x is_n) above has;
     }
 
-    good_center : IsGood center
-    good_center = k.good 0 center is_center
+    good_coordinator : IsGood coordinator
+    good_coordinator = k.good 0 coordinator is_coordinator
 
     good_meter : IsGood meter
     good_meter = k.good number meter is_meter
 
     good : (n : ℕ) (x : Node) → slice_get nodes n ≡ Some x → IsGood x
-    good = each_set (λ n x. IsGood x) first number meter' (each_set (λ n x. IsGood x) w.nodes 0 center' k.good (record {
-      active = good_center.active;
-      next = good_center.next;
-      limit = good_center.limit;
-      within = record { peers = good_center.within.peers; near = good_center.within.near; book = next_short center.book meter address grant allows good_center.within.book };
+    good = each_set (λ n x. IsGood x) first number meter' (each_set (λ n x. IsGood x) w.nodes 0 coordinator' k.good (record {
+      active = good_coordinator.active;
+      next = good_coordinator.next;
+      limit = good_coordinator.limit;
+      within = record { peers = good_coordinator.within.peers; near = good_coordinator.within.near; book = next_short coordinator.book meter address grant allows good_coordinator.within.book };
     })) (record {
-      active = λ g is. omega (arith, good_center.active ring has_ring, ap (λ (r : Granted). r.active) (same_some is));
+      active = λ g is. omega (arith, good_coordinator.active ring has_ring, ap (λ (r : Granted). r.active) (same_some is));
       next = good_meter.next;
       limit = good_meter.limit;
       within = record { peers = good_meter.within.peers; near = good_meter.within.near; book = good_meter.within.book };
@@ -214,34 +214,34 @@ module _ (w : World) (sent : List Sending) (issues : List Issue) (k : Keeps w se
     holds_issued n x above (is_old apart far is) = λ index key low held. issued_before issues more x.eui index key (k.keys n x above is index key low held)
 
     more_is : issues_by (slice_get nodes 0) (slice_get nodes number) ≡ more
-    more_is = (λ i. issues_by (center_there i) (meter_there i)) ∙ ap (issues_of meter.eui) has_ring
+    more_is = (λ i. issues_by (coordinator_there i) (meter_there i)) ∙ ap (issues_of meter.eui) has_ring
 
-    joined_good : Good w sent issues (Depot number) (joined w number center meter grant)
+    joined_good : Good w sent issues (Depot number) (joined w number coordinator meter grant)
     unfolding joined
     joined_good =
-        quietly w (joined w number center meter grant).0 sent issues (Depot number) Joined refl (unheard w (Depot number) refl) tt (record { events = refl; sends = refl; ups = refl; forged = refl; flights = refl })
-        (subst (λ (l : List Issue). Keeps (joined w number center meter grant).0 sent (issues ++ l)) (sym more_is)
-        (keeps_setup w sent issues (issues ++ more) nodes k still named good (omega (arith, k.room, length-set first number meter', length-set w.nodes 0 center'))
+        quietly w (joined w number coordinator meter grant).0 sent issues (Depot number) Joined refl (unheard w (Depot number) refl) tt (record { events = refl; sends = refl; ups = refl; forged = refl; flights = refl })
+        (subst (λ (l : List Issue). Keeps (joined w number coordinator meter grant).0 sent (issues ++ l)) (sym more_is)
+        (keeps_setup w sent issues (issues ++ more) nodes k still named good (omega (arith, k.room, length-set first number meter', length-set w.nodes 0 coordinator'))
         (λ n x above is. holds_issued n x above (now n x is))))
         (λ handed h. holds_setup w sent handed nodes h still
-        (each_set (λ n x. IsCovered x.marks) first number meter' (each_set (λ n x. IsCovered x.marks) w.nodes 0 center' h.covered (h.covered 0 center is_center)) (h.covered number meter is_meter)))
+        (each_set (λ n x. IsCovered x.marks) first number meter' (each_set (λ n x. IsCovered x.marks) w.nodes 0 coordinator' h.covered (h.covered 0 coordinator is_coordinator)) (h.covered number meter is_meter)))
 
-  joining_at_good : (number : ℕ) (center meter : Node) (ring : Granted) (r : Result ℕ BookFault) (q : World × Happenings) → w.running ≡ false → number ≢ 0 → slice_get w.nodes 0 ≡ Some center → slice_get w.nodes number ≡ Some meter
-      → center.ring ≡ Some ring → book.changing_result center.book (book.allow_change center.book meter.eui meter.key) true ≡ r → joining_at w number center meter ring r ≡ taken_as q → Good w sent issues (Depot number) q
-  joining_at_good number center meter ring (Err fault) q still away is_center is_meter has_ring result is = absurd (cc (is))
-  joining_at_good number center meter ring (Ok address) q still away is_center is_meter has_ring result is =
-      subst (Good w sent issues (Depot number)) (ok_same (joined w number center meter (grant_of ring address)) q is)
-      (joined_good number center meter ring address still away is_center is_meter has_ring (allowing center.book meter address result))
+  joining_at_good : (number : ℕ) (coordinator meter : Node) (ring : Granted) (r : Result ℕ BookFault) (q : World × Happenings) → w.running ≡ false → number ≢ 0 → slice_get w.nodes 0 ≡ Some coordinator → slice_get w.nodes number ≡ Some meter
+      → coordinator.ring ≡ Some ring → book.changing_result coordinator.book (book.allow_change coordinator.book meter.eui meter.key) true ≡ r → joining_at w number coordinator meter ring r ≡ taken_as q → Good w sent issues (Depot number) q
+  joining_at_good number coordinator meter ring (Err fault) q still away is_coordinator is_meter has_ring result is = absurd (cc (is))
+  joining_at_good number coordinator meter ring (Ok address) q still away is_coordinator is_meter has_ring result is =
+      subst (Good w sent issues (Depot number)) (ok_same (joined w number coordinator meter (grant_of ring address)) q is)
+      (joined_good number coordinator meter ring address still away is_coordinator is_meter has_ring (allowing coordinator.book meter address result))
 
-  joining_under_good : (number : ℕ) (center meter : Node) (r : Ring) (q : World × Happenings) → w.running ≡ false → number ≢ 0 → slice_get w.nodes 0 ≡ Some center → slice_get w.nodes number ≡ Some meter → center.ring ≡ r
-      → joining_under w number center meter r ≡ taken_as q → Good w sent issues (Depot number) q
-  joining_under_good number center meter None q still away is_center is_meter has_ring is = absurd (cc (is))
-  joining_under_good number center meter (Some ring) q still away is_center is_meter has_ring is =
-      joining_at_good number center meter ring (book.changing_result center.book (book.allow_change center.book meter.eui meter.key) true) q still away is_center is_meter has_ring refl is
+  joining_under_good : (number : ℕ) (coordinator meter : Node) (r : Ring) (q : World × Happenings) → w.running ≡ false → number ≢ 0 → slice_get w.nodes 0 ≡ Some coordinator → slice_get w.nodes number ≡ Some meter → coordinator.ring ≡ r
+      → joining_under w number coordinator meter r ≡ taken_as q → Good w sent issues (Depot number) q
+  joining_under_good number coordinator meter None q still away is_coordinator is_meter has_ring is = absurd (cc (is))
+  joining_under_good number coordinator meter (Some ring) q still away is_coordinator is_meter has_ring is =
+      joining_at_good number coordinator meter ring (book.changing_result coordinator.book (book.allow_change coordinator.book meter.eui meter.key) true) q still away is_coordinator is_meter has_ring refl is
 
   joining_by_good : (number : ℕ) (meter : Node) (c : Option Node) (q : World × Happenings) → w.running ≡ false → number ≢ 0 → node_at w 0 ≡ c → slice_get w.nodes number ≡ Some meter → joining_by w number meter c ≡ taken_as q → Good w sent issues (Depot number) q
   joining_by_good number meter None q still away is_c is_meter is = absurd (cc (is))
-  joining_by_good number meter (Some center) q still away is_c is_meter is = joining_under_good number center meter center.ring q still away is_c is_meter refl is
+  joining_by_good number meter (Some coordinator) q still away is_c is_meter is = joining_under_good number coordinator meter coordinator.ring q still away is_c is_meter refl is
 
   joining_good : (number : ℕ) (x : Option Node) (q : World × Happenings) → w.running ≡ false → node_at w number ≡ x → joining w number x ≡ taken_as q → Good w sent issues (Depot number) q
   joining_good number None q still is_x is = absurd (cc (is))

@@ -10,21 +10,21 @@ use Rattle.line_world.proofs.Meters.{one_meter, address_within}
 -- no two nodes have one number; the coordinator has the address 0, and a meter that which the coordinator's book has for it
 pub record IsNamed (nodes : List Node) : Type 0 where
   pub apart : (m n : ℕ) (x y : Node) → slice_get nodes m ≡ Some x → slice_get nodes n ≡ Some y → book.eui_number x.eui ≡ book.eui_number y.eui → m ≡ n
-  pub center : (c : Node) → slice_get nodes 0 ≡ Some c → address_of c.ring ≡ Some 0
+  pub coordinator : (c : Node) → slice_get nodes 0 ≡ Some c → address_of c.ring ≡ Some 0
   pub meters : (c x : Node) (n p : ℕ) → slice_get nodes 0 ≡ Some c → slice_get nodes n ≡ Some x → 0 < n → address_of x.ring ≡ Some p → book.address_of c.book x.eui ≡ Some p
 
 pub named_none : IsNamed []
-named_none = record { apart = λ m n x y is_m is_n same. absurd (cc (is_m)); center = λ c is. absurd (cc (is)); meters = λ c x n p is_c is_n above address. absurd (cc (is_c)) }
+named_none = record { apart = λ m n x y is_m is_n same. absurd (cc (is_m)); coordinator = λ c is. absurd (cc (is)); meters = λ c x n p is_c is_n above address. absurd (cc (is_c)) }
 
 -- so no two nodes have one address
 pub distinct : (nodes : List Node) (m n : ℕ) (x y : Node) (p : ℕ) → IsNamed nodes → slice_get nodes m ≡ Some x → slice_get nodes n ≡ Some y → address_of x.ring ≡ Some p → address_of y.ring ≡ Some p → m ≡ n
 distinct nodes zero zero x y p h is_m is_n address_m address_n = refl
 distinct nodes zero (suc n) x y p h is_m is_n address_m address_n =
-    let p_is : 0 ≡ p = same_some (sym (h.center x is_m) ∙ address_m) in
+    let p_is : 0 ≡ p = same_some (sym (h.coordinator x is_m) ∙ address_m) in
     let low = address_within x.book y.eui p (h.meters x y (suc n) p is_m is_n (omega arith) address_n) in
     absurd (omega (arith, low.0, p_is))
 distinct nodes (suc m) zero x y p h is_m is_n address_m address_n =
-    let p_is : 0 ≡ p = same_some (sym (h.center y is_n) ∙ address_n) in
+    let p_is : 0 ≡ p = same_some (sym (h.coordinator y is_n) ∙ address_n) in
     let low = address_within y.book x.eui p (h.meters y x (suc m) p is_n is_m (omega arith) address_m) in
     absurd (omega (arith, low.0, p_is))
 distinct nodes (suc m) (suc n) x y p h is_m is_n address_m address_n =
@@ -33,7 +33,7 @@ distinct nodes (suc m) (suc n) x y p h is_m is_n address_m address_n =
 
 -- no address passes the number of meters in the coordinator's book
 pub low_address : (nodes : List Node) (n : ℕ) (x : Node) (p : ℕ) → IsNamed nodes → ((c : Node) → slice_get nodes 0 ≡ Some c → length c.book ≤ 999) → slice_get nodes n ≡ Some x → address_of x.ring ≡ Some p → p ≤ 999
-low_address nodes zero x p h short is address = let p_is : 0 ≡ p = same_some (sym (h.center x is) ∙ address) in omega (arith, p_is)
+low_address nodes zero x p h short is address = let p_is : 0 ≡ p = same_some (sym (h.coordinator x is) ∙ address) in omega (arith, p_is)
 low_address nodes (suc n) x p h short is address =
     let c = first_there nodes (suc n) x is in
     let low = address_within c.first.book x.eui p (h.meters c.first x (suc n) p c.is is (omega arith) address) in
@@ -43,7 +43,7 @@ low_address nodes (suc n) x p h short is address =
 
 -- the first node, with the address 0
 pub named_first : (new : Node) → address_of new.ring ≡ Some 0 → IsNamed (new ∷ [])
-named_first new zero_is = record { apart = apart; center = λ c is. ap (λ (x : Node). address_of x.ring) (sym (same_some is)) ∙ zero_is; meters = meters }
+named_first new zero_is = record { apart = apart; coordinator = λ c is. ap (λ (x : Node). address_of x.ring) (sym (same_some is)) ∙ zero_is; meters = meters }
   where
     apart : (m n : ℕ) (x y : Node) → slice_get (new ∷ []) m ≡ Some x → slice_get (new ∷ []) n ≡ Some y → book.eui_number x.eui ≡ book.eui_number y.eui → m ≡ n
     apart zero zero x y is_m is_n same = refl
@@ -68,7 +68,7 @@ named_push nodes new some h none fresh = record {
       | inr last' ↦ last.0 ∙ sym last'.0
     ]
   ];
-  center = λ c is. elim (get_push nodes new 0 c is) [ inl old ↦ h.center c old | inr last ↦ absurd (omega (arith, last.0, some)) ];
+  coordinator = λ c is. elim (get_push nodes new 0 c is) [ inl old ↦ h.coordinator c old | inr last ↦ absurd (omega (arith, last.0, some)) ];
   meters = λ c x n p is_c is_n above address. elim (get_push nodes new n x is_n) [
     | inl old ↦ elim (get_push nodes new 0 c is_c) [ inl first ↦ h.meters c x n p first old above address | inr last ↦ absurd (omega (arith, last.0, some)) ]
     | inr last ↦ let e : None ≡ Some p = sym none ∙ ap (λ (z : Node). address_of z.ring) last.1 ∙ address in absurd (cc (e))
@@ -135,7 +135,7 @@ named_kept nodes nodes' k h = record {
       let was = k.back m x is_m in
       let old = k.back n y is_n in
       h.apart m n was.node old.node was.is old.is (ap book.eui_number (sym was.stays.eui) ∙ same ∙ ap book.eui_number old.stays.eui);
-  center = λ c is. let was = k.back 0 c is in ap address_of was.stays.ring ∙ h.center was.node was.is;
+  coordinator = λ c is. let was = k.back 0 c is in ap address_of was.stays.ring ∙ h.coordinator was.node was.is;
   meters = λ c x n p is_c is_n above address.
       let was = k.back 0 c is_c in
       let old = k.back n x is_n in

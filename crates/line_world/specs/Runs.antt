@@ -13,6 +13,7 @@ use Rattle.line_rules.specs.declared.event.Event.{Event}
 use Rattle.line_rules.specs.declared.event.Event.TheVariants.{Depot, Send, Deliver, Inject, Restart}
 use Rattle.line_rules.specs.declared.happenings.Handed.{Handed}
 use Rattle.line_rules.specs.declared.happenings.Happenings.{Happenings}
+use Rattle.line_rules.specs.declared.event.TheConstants.{MAX_EVENTS}
 use Rattle.line_world.specs.declared.opening.Opened.{Opened}
 use Rattle.line_world.specs.declared.world.Flight.{Flight}
 use Rattle.line_world.specs.Nodes.{Node, address_of}
@@ -38,12 +39,12 @@ entries_of w event (Err fault) rest = []
 -- the run of events from a world on, up to the first that is not taken; it has at most 50,000 events
 abbrev pub run : World → List Event → List Entry
 run w [] = []
-run w (event ∷ events) = if nat_lt w.events 50000 then entries_of w event (step w event) (λ next. run next events) else []
+run w (event ∷ events) = if nat_lt w.events MAX_EVENTS then entries_of w event (step w event) (λ next. run next events) else []
 
 -- the entries are a run from a world on
 abbrev pub IsRun : World → List Entry → Type 0
 IsRun w [] = Unit {0}
-IsRun w (x ∷ xs) = (w.events < 50000) × (x.number ≡ w.events + 1) × (step w x.event ≡ Ok (x.after, x.happened)) × IsRun x.after xs
+IsRun w (x ∷ xs) = (w.events < MAX_EVENTS) × (x.number ≡ w.events + 1) × (step w x.event ≡ Ok (x.after, x.happened)) × IsRun x.after xs
 
 -- ---- what a history says of datagrams
 
@@ -103,8 +104,8 @@ issues_of eui (Some granted) = issue_at eui 0 granted.key0 ++ issue_at eui 1 gra
 
 abbrev pub issues_by : Option Node → Option Node → List Issue
 issues_by None meter = []
-issues_by (Some center) None = []
-issues_by (Some center) (Some meter) = issues_of meter.eui center.ring
+issues_by (Some coordinator) None = []
+issues_by (Some coordinator) (Some meter) = issues_of meter.eui coordinator.ring
 
 -- what an entry issued: a depot issues to its meter each key that the coordinator, node 0, holds
 abbrev pub issues_at : Event → World → List Issue

@@ -53,26 +53,26 @@ abbrev pub grant_of : Granted → ℕ → Granted
 grant_of ring address = record ring { address = address }
 
 unfoldable pub joined : World → ℕ → Node → Node → Granted → World × Happenings
-joined w number center meter grant = (
+joined w number coordinator meter grant = (
   record (set_up w) {
-    nodes = slice_set (slice_set w.nodes 0 (record center { book = issued (allowed center.book meter) meter grant })) number (granted meter grant);
+    nodes = slice_set (slice_set w.nodes 0 (record coordinator { book = issued (allowed coordinator.book meter) meter grant })) number (granted meter grant);
   },
   happened w Joined,
 )
 
 -- The address is what the book answers; it has room for every meter of a line.
 abbrev pub joining_at : World → ℕ → Node → Node → Granted → Result ℕ BookFault → Step
-joining_at w number center meter ring (Ok address) = Ok (joined w number center meter (grant_of ring address))
-joining_at w number center meter ring (Err fault) = Err faults.Setup
+joining_at w number coordinator meter ring (Ok address) = Ok (joined w number coordinator meter (grant_of ring address))
+joining_at w number coordinator meter ring (Err fault) = Err faults.Setup
 
 abbrev pub joining_under : World → ℕ → Node → Node → Ring → Step
-joining_under w number center meter None = Err faults.Setup
-joining_under w number center meter (Some ring) = joining_at w number center meter ring (changing_result center.book (allow_change center.book meter.eui meter.key) true)
+joining_under w number coordinator meter None = Err faults.Setup
+joining_under w number coordinator meter (Some ring) = joining_at w number coordinator meter ring (changing_result coordinator.book (allow_change coordinator.book meter.eui meter.key) true)
 
 -- The coordinator is node 0; it always has a ring.
 abbrev pub joining_by : World → ℕ → Node → Option Node → Step
 joining_by w number meter None = Err faults.Setup
-joining_by w number meter (Some center) = joining_under w number center meter center.ring
+joining_by w number meter (Some coordinator) = joining_under w number coordinator meter coordinator.ring
 
 abbrev pub joining : World → ℕ → Option Node → Step
 joining w number None = Err faults.Node

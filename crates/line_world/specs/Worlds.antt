@@ -3,6 +3,7 @@ use Rattle.std.specs.Prelude.{ℕ, ◌+◌, ◌≤◌, Bool, true, false, not, �
 use Rattle.line_rules.specs.declared.event.Answer.{Answer}
 use Rattle.line_rules.specs.declared.happenings.Happenings.{Happenings}
 use Rattle.line_rules.specs.declared.event.StepFault.{StepFault}
+use Rattle.line_rules.specs.declared.event.TheConstants.{MAX_EVENTS}
 use Rattle.line_world.specs.declared.world.Flight.{Flight}
 use Rattle.line_world.specs.Nodes.{Node}
 use Rattle.line_world.specs.Flights.{flight_in}
@@ -61,7 +62,7 @@ takes_setup w = has_begun w && not w.running
 
 -- no table passes its size, and no count the number of events
 pub record IsSound (w : World) : Type 0 where
-  pub events : w.events ≤ 50000
+  pub events : w.events ≤ MAX_EVENTS
   pub sends : w.sends ≤ w.events
   pub ups : w.ups ≤ w.events
   pub forged : w.forged ≤ w.events

@@ -1,6 +1,7 @@
 //! Numbers in chains, so that those of one chain are found without the others.
 ghost use Rattle.std.specs.Prelude.{◌≡◌, ◌<◌, ◌≤◌, ◌⊎◌, ◌-◌, ◌++◌, ◌∷◌, [], ℕ, IfOk, OnOk, OnErr, length, take, slice_index};
 ghost use Rattle.line_world.specs.Chains.{IsLast};
+ghost use Rattle.line_rules.specs.declared.event.TheConstants.{MAX_EVENTS};
 
 use std::alloc::{AllocError, Global};
 use std::marker::Model;
@@ -93,7 +94,7 @@ impl Chains {
     /// Puts the next number in a chain. It fails only for want of memory, and then nothing changes.
     pub fn push(&mut self, alloc: Global, chain: usize) -> Result<(), AllocError>
         requires chain { chain < CHAINS }
-        requires room { length self.old < 50000 }
+        requires room { length self.old < MAX_EVENTS }
         ensures ok { OnOk result (self.new ≡ self.old ++ chain ∷ []) }
         ensures err { OnErr result (self.new ≡ self.old) }
     {

@@ -3,6 +3,7 @@ ghost use Rattle.std.specs.Prelude.{◌≡◌, ◌+◌, ◌<◌, ◌≤◌, ◌-
 ghost use Rattle.std.specs.Option.{option_map};
 ghost use Rattle.line_world.specs.Buckets.{bucket_of, flight_of};
 ghost use Rattle.line_world.specs.Flights.{is_same, is_under};
+ghost use Rattle.line_rules.specs.declared.event.TheConstants.{MAX_EVENTS};
 
 use crate::Flight;
 use crate::chains::{CHAINS, Chains};
@@ -217,7 +218,7 @@ impl Flights {
     /// Adds a flight. It fails only for want of memory, and then nothing changes.
     pub fn push(&mut self, flight: &Flight<'_>) -> Result<(), AllocError>
         requires fits { length flight.now.octets ≤ 400 }
-        requires room { length self.old < 50000 }
+        requires room { length self.old < MAX_EVENTS }
         ensures ok { OnOk result (self.new ≡ self.old ++ flight.now ∷ []) }
         ensures err { OnErr result (self.new ≡ self.old) }
     {

@@ -3,6 +3,7 @@ ghost use Rattle.std.specs.Prelude.{◌≡◌, false, ◌<◌, ◌≤◌, ◌-�
 ghost use Rattle.frame_counters.specs.PeerMarks.{room_for};
 ghost use Rattle.line_world.specs.Hearing.{carried};
 ghost use Rattle.line_world.specs.Units.{whole_in};
+ghost use Rattle.line_rules.specs.declared.event.TheConstants.{MAX_EVENTS};
 
 use crate::opening::{ALL, Opened};
 use crate::world::World;
@@ -68,7 +69,7 @@ impl World {
 
     /// Takes in the counter of a frame that a node opened, and counts it where it is forged.
     fn accept(&mut self, number: u32, opened: &Opened<'_>, forged: bool)
-        requires events { self.old.events < 50000 }
+        requires events { self.old.events < MAX_EVENTS }
         requires node { number < length self.old.nodes }
         requires room { IfSome (node_at self.old number) (λ node. room_for node.marks opened.now.from opened.now.counter ≡ Ok tt) }
         ensures { IfSome (node_at self.old number) (λ node. self.new ≡ accepted self.old number node opened.now forged) }
@@ -119,7 +120,7 @@ impl World {
 
     /// What a node does with a frame that it opened.
     fn take<'a>(&mut self, number: u32, octets: &[u8], opened: &Opened<'a>) -> Happenings<'a>
-        requires events { self.old.events < 50000 }
+        requires events { self.old.events < MAX_EVENTS }
         requires node { number < length self.old.nodes }
         requires fits { length octets.now ≤ 400 }
         requires payload { length opened.now.payload ≤ 400 }
@@ -135,7 +136,7 @@ impl World {
     /// Brings octets to a node.
     #[tactic(auto, unfolding(crate::specs::Hearing::came))]
     fn come<'a>(&mut self, number: u32, octets: &[u8], space: &'a mut FrameBuf) -> Happenings<'a>
-        requires events { self.old.events < 50000 }
+        requires events { self.old.events < MAX_EVENTS }
         requires node { number < length self.old.nodes }
         ensures { IfSome (node_at self.old number) (λ node. (self.new, result) ≡ came self.old number node octets.now) }
     {
@@ -153,7 +154,7 @@ impl World {
         number: u32,
         space: &'a mut FrameBuf,
     ) -> Result<Happenings<'a>, StepFault>
-        requires { self.old.events < 50000 }
+        requires { self.old.events < MAX_EVENTS }
         ensures step { Gives self.old result self.new (delivering self.old flight number) }
         ensures memory { HasMemory false result }
     {
@@ -177,7 +178,7 @@ impl World {
         octets: &[u8],
         space: &'a mut FrameBuf,
     ) -> Result<Happenings<'a>, StepFault>
-        requires { self.old.events < 50000 }
+        requires { self.old.events < MAX_EVENTS }
         ensures step { Gives self.old result self.new (injecting self.old number octets.now) }
         ensures memory { HasMemory false result }
     {

@@ -20,4 +20,4 @@ pub use laws::{
 };
 pub use node::Neighbour;
 pub use opening::Opened;
-pub use world::{Counts, Flight, MAX_EVENTS, MAX_NODES, World};
+pub use world::{Counts, Flight, MAX_NODES, World};

@@ -1,6 +1,7 @@
 //! A datagram that goes out, a flight that is lost, a node that starts anew.
 ghost use Rattle.std.specs.Prelude.{◌≡◌, false, ◌<◌, ◌≤◌, length, IfSome, IsTrue, Ok};
 ghost use Rattle.line_world.specs.Sending.{frame_of, sealing_key, unit_of, goes_whole};
+ghost use Rattle.line_rules.specs.declared.event.TheConstants.{MAX_EVENTS};
 
 use crate::Flight;
 use crate::world::World;
@@ -85,7 +86,7 @@ impl World {
         to: Short,
         datagram: &[u8],
     ) -> Result<Happenings<'static>, StepFault>
-        requires events { self.old.events < 50000 }
+        requires events { self.old.events < MAX_EVENTS }
         requires node { from < length self.old.nodes }
         requires left { IfSome (node_at self.old from) (λ node. node.counter.next < 4294967295) }
         requires some { 0 < length datagram.now }
@@ -131,7 +132,7 @@ impl World {
         to: u32,
         datagram: &[u8],
     ) -> Result<Happenings<'static>, StepFault>
-        requires { self.old.events < 50000 }
+        requires { self.old.events < MAX_EVENTS }
         ensures { Gives self.old result self.new (sending self.old from to datagram.now) }
     {
         if !self.has_begun() {
@@ -167,7 +168,7 @@ impl World {
     /// Takes a flight away.
     #[tactic(auto, unfolding(crate::specs::Sending::losing, crate::specs::Sending::lost))]
     pub(crate) fn lose(&mut self, flight: u32) -> Result<Happenings<'static>, StepFault>
-        requires { self.old.events < 50000 }
+        requires { self.old.events < MAX_EVENTS }
         ensures step { Gives self.old result self.new (losing self.old flight) }
         ensures memory { HasMemory false result }
     {
@@ -183,7 +184,7 @@ impl World {
     /// Starts a node anew from its store.
     #[tactic(auto, unfolding(crate::specs::Sending::restarting, crate::specs::Sending::renewed))]
     pub(crate) fn restart(&mut self, number: u32) -> Result<Happenings<'static>, StepFault>
-        requires { self.old.events < 50000 }
+        requires { self.old.events < MAX_EVENTS }
         ensures step { Gives self.old result self.new (restarting self.old number) }
         ensures memory { HasMemory false result }
     {

@@ -2,6 +2,7 @@
 ghost use Rattle.std.specs.Prelude.{◌≡◌, false, ◌<◌, ◌≤◌, ◌+◌, length, true, Ok, IfSome};
 ghost use Rattle.std.specs.Option.{option_copied};
 ghost use Rattle.group_keys.specs.KeyBook.{has_room, place_for};
+ghost use Rattle.line_rules.specs.declared.event.TheConstants.{MAX_EVENTS};
 
 use crate::node::Node;
 use crate::world::{MAX_NODES, World};
@@ -42,7 +43,7 @@ impl World {
 
     /// Counts an event that changed nothing else.
     pub(crate) fn answered(&mut self, answer: Answer) -> Happenings<'static>
-        requires { self.old.events < 50000 }
+        requires { self.old.events < MAX_EVENTS }
         ensures world { self.new ≡ ran self.old }
         ensures happened { result ≡ happened self.old answer }
     {
@@ -80,7 +81,7 @@ impl World {
 
     #[tactic(auto, unfolding(crate::specs::Setup::made))]
     fn make(&mut self, node: Node) -> Result<Happenings<'static>, StepFault>
-        requires events { self.old.events < 50000 }
+        requires events { self.old.events < MAX_EVENTS }
         requires room { length self.old.nodes < MAX_NODES }
         ensures { Gives self.old result self.new (Ok (made self.old node)) }
     {
@@ -97,7 +98,7 @@ impl World {
         eui: Eui,
         key: Key,
     ) -> Result<Happenings<'static>, StepFault>
-        requires { self.old.events < 50000 }
+        requires { self.old.events < MAX_EVENTS }
         ensures { Gives self.old result self.new (coordinated self.old eui key) }
     {
         if self.has_begun() {
@@ -116,7 +117,7 @@ impl World {
 
     #[tactic(auto, unfolding(crate::specs::Setup::metered))]
     pub(crate) fn meter(&mut self, eui: Eui, psk: Key) -> Result<Happenings<'static>, StepFault>
-        requires { self.old.events < 50000 }
+        requires { self.old.events < MAX_EVENTS }
         ensures { Gives self.old result self.new (metered self.old eui psk) }
     {
         if !self.takes_setup() || self.nodes.len() >= MAX_NODES || self.is_known(eui) {
@@ -131,16 +132,16 @@ impl World {
     /// The coordinator allows a meter and issues the keys of its ring to it. Answers the meter's grant.
     fn enrol(&mut self, eui: Eui, psk: Key, ring: &Grant) -> Grant
         requires coordinator { 0 < length self.old.nodes }
-        requires room { IfSome (node_at self.old 0) (λ center. has_room center.book eui ≡ true) }
-        ensures grant { IfSome (node_at self.old 0) (λ center. result ≡ grant_of ring.now (place_for center.book eui + 1)) }
-        ensures world { IfSome (node_at self.old 0) (λ center. self.new ≡ enrolled self.old center eui psk (grant_of ring.now (place_for center.book eui + 1))) }
+        requires room { IfSome (node_at self.old 0) (λ coordinator. has_room coordinator.book eui ≡ true) }
+        ensures grant { IfSome (node_at self.old 0) (λ coordinator. result ≡ grant_of ring.now (place_for coordinator.book eui + 1)) }
+        ensures world { IfSome (node_at self.old 0) (λ coordinator. self.new ≡ enrolled self.old coordinator eui psk (grant_of ring.now (place_for coordinator.book eui + 1))) }
     {
         self.nodes[0].enrol(eui, &psk, ring)
     }
 
     /// A meter installs its grant.
     fn install(&mut self, number: u32, grant: &Grant) -> Happenings<'static>
-        requires events { self.old.events < 50000 }
+        requires events { self.old.events < MAX_EVENTS }
         requires node { number < length self.old.nodes }
         ensures { IfSome (node_at self.old number) (λ meter. (self.new, result) ≡ installed self.old number meter grant.now) }
     {
@@ -151,7 +152,7 @@ impl World {
 
     #[tactic(auto, unfolding(crate::specs::Setup::depoted), using(crate::proofs::Stores::full_result))]
     pub(crate) fn depot(&mut self, number: u32) -> Result<Happenings<'static>, StepFault>
-        requires { self.old.events < 50000 }
+        requires { self.old.events < MAX_EVENTS }
         ensures step { Gives self.old result self.new (depoted self.old number) }
         ensures memory { HasMemory false result }
     {
@@ -164,14 +165,14 @@ impl World {
         if number == 0 || meter.grant().is_some() {
             return Err(StepFault::Setup);
         }
-        let Some(center) = self.node(0) else {
+        let Some(coordinator) = self.node(0) else {
             return Err(StepFault::Setup);
         };
-        let Some(ring) = center.grant() else {
+        let Some(ring) = coordinator.grant() else {
             return Err(StepFault::Setup);
         };
         let (eui, psk) = (meter.eui(), meter.key());
-        if !center.has_room(eui) {
+        if !coordinator.has_room(eui) {
             return Err(StepFault::Setup);
         }
         let grant = self.enrol(eui, psk, &ring);
@@ -185,7 +186,7 @@ impl World {
         b: u32,
         cost: LinkCost,
     ) -> Result<Happenings<'static>, StepFault>
-        requires { self.old.events < 50000 }
+        requires { self.old.events < MAX_EVENTS }
         ensures step { Gives self.old result self.new (neared self.old a b cost) }
         ensures memory { HasMemory false result }
     {
@@ -219,7 +220,7 @@ impl World {
         number: u32,
         value: u32,
     ) -> Result<Happenings<'static>, StepFault>
-        requires { self.old.events < 50000 }
+        requires { self.old.events < MAX_EVENTS }
         ensures step { Gives self.old result self.new (counting self.old number value) }
         ensures memory { HasMemory false result }
     {

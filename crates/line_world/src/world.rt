@@ -1,5 +1,6 @@
 //! The world: its nodes and flights, and the step that an event makes.
 ghost use Rattle.std.specs.Prelude.{◌≡◌, ◌<◌, ◌≤◌, length};
+ghost use Rattle.line_rules.specs.declared.event.TheConstants.{MAX_EVENTS};
 
 use crate::flights::Flights;
 use crate::node::Node;
@@ -7,9 +8,6 @@ use line_rules::{Event, Happenings, StepFault};
 use plc_base::{FrameBuf, Key, OctetRef};
 use std::alloc::Global;
 use std::marker::Model;
-
-/// At most so many events are taken.
-pub const MAX_EVENTS: u32 = 50_000;
 
 /// A line has at most so many nodes.
 pub const MAX_NODES: usize = 1000;

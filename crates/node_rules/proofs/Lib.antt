@@ -11,3 +11,4 @@ pub mod CoordinatorShapes
 pub mod Refusals
 pub mod Bounds
 pub mod Outcomes
+pub mod Rooms

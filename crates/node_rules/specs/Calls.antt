@@ -66,11 +66,15 @@ send_from l own to datagram note now =
 abbrev pub send : StationMemory → ℕ → List ℕ → (note now : ℕ) → Sending
 send l to datagram note now = option_map_or (λ own. send_from l own to datagram note now) (address_of l) (refused sending_ends l NotJoined)
 
+-- a command goes on its way to an address
+abbrev pub commands : ℕ → ℕ → List ℕ → ℕ → Draft StationMemory → Draft StationMemory
+commands own to octets now d = sets_out own to 0 (Command octets) now d
+
 -- a command sets out from the own address
 abbrev pub command_from : StationMemory → ℕ → ℕ → List ℕ → ℕ → Sending
 command_from l own to octets now =
     checked sending_ends l (option_map lacking (lack l to (length octets)))
-    (sealed alone sending_ends l (sets_out own to 0 (Command octets) now (empty_draft l)) (how l to))
+    (sealed alone sending_ends l (commands own to octets now (empty_draft l)) (how l to))
 
 -- a command is sent, whose code stands first; the own address is treated as any other
 abbrev pub send_command : StationMemory → ℕ → List ℕ → ℕ → Sending
@@ -122,26 +126,37 @@ ring_ends d = sealing alone ringing_ends d tt
 abbrev pub install : StationMemory → Granted → Ringing
 install l granted = ring_ends (with_ring (Some granted) (empty_draft l))
 
+-- the ring has another key at an index
+abbrev pub with_key_at : StationMemory → ℕ → Key → Draft StationMemory → Draft StationMemory
+with_key_at l index key d = with_ring (ring.with_key l.ring index key) d
+
 -- a key comes to an index
 abbrev pub put_key : StationMemory → ℕ → Key → Ringing
-put_key l index key = ring_ends (with_ring (ring.with_key l.ring index key) (empty_draft l))
+put_key l index key = ring_ends (with_key_at l index key (empty_draft l))
+
+-- whether the ring has a key at an index
+abbrev pub has_key : StationMemory → ℕ → Bool
+has_key l index = is_some (ring.key_in_ring l.ring index)
+
+-- the ring seals with the key at an index
+abbrev pub with_active : StationMemory → ℕ → Draft StationMemory → Draft StationMemory
+with_active l index d = with_ring (ring.with_active l.ring index) d
 
 -- a key seals from now on
 abbrev pub activate : StationMemory → ℕ → Ringing
-activate l index =
-    choose (is_some (ring.key_in_ring l.ring index)) (ring_ends (with_ring (ring.with_active l.ring index) (empty_draft l))) (refused ringing_ends l ring_faults.NotHeld)
+activate l index = choose (has_key l index) (ring_ends (with_active l index (empty_draft l))) (refused ringing_ends l ring_faults.NotHeld)
 
 -- the routes, what is gathered and what waits end; ranks, marks and numbers stay
 abbrev pub idled : StationMemory → StationMemory
 idled l = record l { routing = routing.at_rest l.routing; reassemblies = []; waiting = [] }
 
--- the ring is dropped
-abbrev pub leaving : StationMemory → Draft StationMemory
-leaving l = with_ring None (empty_draft (idled l))
+-- the ring is dropped, and with it what hangs on the address
+abbrev pub without_ring : Draft StationMemory → Draft StationMemory
+without_ring d = with_ring None (record d { memory = idled d.memory })
 
--- the ring goes, and with it what hangs on the address
+-- the station leaves the network
 abbrev pub leave : StationMemory → Ringing
-leave l = ring_ends (leaving l)
+leave l = ring_ends (without_ring (empty_draft l))
 
 -- # Settings of the workshop
 

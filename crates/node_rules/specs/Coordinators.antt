@@ -286,13 +286,12 @@ depot m eui psk =
 abbrev pub rekey : Memory → ℕ → Key → Ordering (Unit {0})
 rekey m index key =
     choose (option_map_or (λ (g : Granted). g.active == index) m.station.ring false) (refused orders m refusal.IndexActive)
-    (sealing in_memory orders (on_station (with_ring (ring.with_key m.station.ring index key)) (empty_draft m)) tt)
+    (sealing in_memory orders (on_station (calls.with_key_at m.station index key) (empty_draft m)) tt)
 
 -- another key of the ring seals from now on
 abbrev pub activate_self : Memory → ℕ → Ordering (Unit {0})
 activate_self m index =
-    choose (is_some (ring.key_in_ring m.station.ring index))
-    (sealing in_memory orders (on_station (with_ring (ring.with_active m.station.ring index)) (empty_draft m)) tt)
+    choose (calls.has_key m.station index) (sealing in_memory orders (on_station (calls.with_active m.station index) (empty_draft m)) tt)
     (refused orders m refusal.NotHeld)
 
 -- a session with a meter is opened over the mesh

@@ -11,6 +11,8 @@ use Rattle.plc_base.specs.declared.key.Key.{Key}
 use Rattle.node_rules.specs.declared.heard.Accepted.{Accepted}
 use Rattle.node_rules.specs.declared.refusal.Dropped.TheVariants as drops
 use Rattle.node_rules.specs.declared.refusal.FrameRefusal.TheVariants as frames
+use Rattle.node_rules.specs.declared.heard.SentHow.{SentHow}
+use Rattle.node_rules.specs.declared.refusal.SendRefusal.{SendRefusal}
 use Rattle.node_rules.specs.declared.refusal.SendRefusal.TheVariants as sends
 use Rattle.node_rules.specs.declared.refusal.JoinRefusal.TheVariants as joins
 use Rattle.node_rules.specs.declared.refusal.LeaveRefusal.TheVariants as leaves
@@ -148,6 +150,19 @@ AnOrderRefusedChangesNothing =
     × RefusesCleanly orders.Store m (coordinator_rules.challenge own m eui now)
     × RefusesCleanly orders.Store m (coordinator_rules.activate m eui index now)
     × RefusesCleanly orders.Store m (coordinator_rules.kick m eui)
+
+-- # Room for a command
+
+-- what a command is answered with, by what stands in its way
+abbrev pub command_answer : StationMemory → ℕ → Option SendRefusal → Result SentHow SendRefusal
+command_answer l to None = Ok (calls.how l to)
+command_answer l to (Some reason) = Err reason
+
+-- a command is refused for what `room` tells, and but for a failed write for nothing else
+abbrev pub TheRoomTellsTheRefusal : Type 0
+TheRoomTellsTheRefusal =
+    (l : StationMemory) (to : ℕ) (octets : List ℕ) (now : ℕ)
+    → (calls.send_command l to octets now).answer ≡ command_answer l to (calls.room l to (length octets))
 
 -- # How much is sent
 

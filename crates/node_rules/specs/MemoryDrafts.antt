@@ -15,9 +15,10 @@ use Rattle.node_rules.specs.declared.refusal.Dropped.TheVariants as drops
 use Rattle.node_rules.specs.declared.refusal.RandomFault.{RandomFault}
 use Rattle.node_rules.specs.declared.refusal.RandomFault.TheVariants.{RandomsFull}
 use Rattle.node_rules.specs.Frames.{Up, Down}
-use Rattle.node_rules.specs.Memory.{StationMemory, Memory, Command, address_of}
+use Rattle.node_rules.specs.Memory.{StationMemory, Memory, address_of}
 use Rattle.node_rules.specs.Plans.{Plan}
-use Rattle.node_rules.specs.Drafts.{Draft, StationPlace, Ends, empty_draft, refused, sealing, choose, sets_out, lack}
+use Rattle.node_rules.specs.Drafts.{Draft, StationPlace, Ends, empty_draft, refused, sealing, choose, lack}
+use Rattle.node_rules.specs.Calls as calls
 use Rattle.node_rules.specs.Hearing.{dropped_for}
 use Rattle.node_rules.specs.Joining.{command_of}
 
@@ -60,7 +61,7 @@ goes_down own message d = record d { plain = d.plain ++ Down own message ∷ [] 
 -- a joining message sets out in a command, from the address of the ring that is left
 unfoldable pub is_commanded : ℕ → JoinMessage → ℕ → Draft Memory → Draft Memory
 is_commanded to message now d =
-    option_map_or (λ own. on_station (sets_out own to 0 (Command (command_of message)) now) d) (address_of d.memory.station) d
+    option_map_or (λ own. on_station (calls.commands own to (command_of message) now) d) (address_of d.memory.station) d
 
 -- what such a command lacks
 abbrev pub command_lack : Memory → ℕ → JoinMessage → Option Dropped

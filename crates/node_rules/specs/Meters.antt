@@ -197,7 +197,7 @@ declined m agent =
 
 -- the ring is dropped; the routes, what is gathered, what waits and the session end
 abbrev pub leaves : Memory → Draft Memory
-leaves m = with_memory_by (with_session None) (on_station (λ d. with_ring None (record d { memory = calls.idled d.memory })) (empty_draft m))
+leaves m = with_memory_by (with_session None) (on_station calls.without_ring (empty_draft m))
 
 -- the meter leaves
 abbrev pub kicked : Memory → Hearing
@@ -206,8 +206,7 @@ kicked m = ends m (leaves m) heard.Left
 -- another key seals from now on
 abbrev pub activated : Memory → ℕ → Hearing
 activated m index =
-    choose (is_some (ring.key_in_ring m.station.ring index))
-    (ends m (on_station (with_ring (ring.with_active m.station.ring index)) (empty_draft m)) heard.Activated)
+    choose (calls.has_key m.station index) (ends m (on_station (calls.with_active m.station index) (empty_draft m)) heard.Activated)
     (drop_it m NotHeld)
 
 -- # A joining message

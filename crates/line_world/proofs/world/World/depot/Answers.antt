@@ -15,13 +15,13 @@ returns-clause-step c =
     let w = c.args.self.now in
     let number = c.args.number in
     let meter = c.in-Some.meter.now in
-    let center = c.in-Some-node.center.now in
+    let coordinator = c.in-Some-node.coordinator.now in
     let ring = c.in-Some-grant.ring in
     let setup : takes_setup w ≡ true = search rules in
     let new : (number == 0 || is_some meter.ring) ≡ false = search (rules, nat_tests) in
-    let room : has_room center.book c.eui-eui.result ≡ true = search rules in
+    let room : has_room coordinator.book c.eui-eui.result ≡ true = search rules in
     let is_grant = subst (λ (e : Eui). IfSome (node_at w 0) (λ x. c.enrol-grant.result ≡ grant_of ring (place_for x.book e + 1))) c.eui-eui.ensures c.enrol-grant.ensures.grant in
     let is_mid = subst (λ (k : Key). IfSome (node_at w 0) (λ x. c.enrol-grant.new.self ≡ enrolled w x meter.eui k (grant_of ring (place_for x.book meter.eui + 1)))) c.key-psk.ensures
     (subst (λ (e : Eui). IfSome (node_at w 0) (λ x. c.enrol-grant.new.self ≡ enrolled w x e c.key-psk.result (grant_of ring (place_for x.book e + 1)))) c.eui-eui.ensures c.enrol-grant.ensures.world) in
-    depot_done w c.enrol-grant.new.self c.install.new.self number center meter ring c.enrol-grant.result c.install.result setup (sym c.in-Some.ensures) c.if-number-eq0.false new
-    (sym c.in-Some-node.ensures) (sym c.in-Some-grant.ensures) (subst (λ (e : Eui). has_room center.book e ≡ true) c.eui-eui.ensures room) is_grant is_mid c.install.ensures
+    depot_done w c.enrol-grant.new.self c.install.new.self number coordinator meter ring c.enrol-grant.result c.install.result setup (sym c.in-Some.ensures) c.if-number-eq0.false new
+    (sym c.in-Some-node.ensures) (sym c.in-Some-grant.ensures) (subst (λ (e : Eui). has_room coordinator.book e ≡ true) c.eui-eui.ensures room) is_grant is_mid c.install.ensures

@@ -5,7 +5,7 @@ use Rattle.group_keys.specs.KeyRing.{ring_write}
 use Rattle.node_rules.specs.Ciphers.{network}
 use Rattle.node_rules.specs.Frames.{Sent as Frame, spelled}
 use Rattle.node_rules.specs.Drafts.{empty_draft, with_ring}
-use Rattle.node_rules.specs.Calls.{ringing_ends, leaving}
+use Rattle.node_rules.specs.Calls.{ringing_ends, without_ring}
 use Rattle.waiting_bodies.specs.Bodies.{Held}
 use Rattle.node_rules.specs.Agreement.{AgreesWith}
 use Rattle.plc_station.specs.StationReading.{station_in}
@@ -19,7 +19,7 @@ use Rattle.plc_station.proofs.station.Station.leave.Goals as goal
 pub returns-in_default-clause-carries : goal.returns-in_default-clause-carries
 unfolding with_ring empty_draft
 returns-in_default-clause-carries g c =
-    rw (← c.self.view_is) (on_memory c.self.inside.halted _ _ (λ running. stopped ringing_ends _ _ (leaving (station_in c.self.inside.parts c.self.inside.bodies)) (leaving (station_in c.self.inside.parts c.self.inside.bodies)) tt _ refl (wrote_one _ _ (ring_write None) _ c.in_default.ensures.store) refl refl))
+    rw (← c.self.view_is) (on_memory c.self.inside.halted _ _ (λ running. stopped ringing_ends _ _ (without_ring (empty_draft (station_in c.self.inside.parts c.self.inside.bodies))) (without_ring (empty_draft (station_in c.self.inside.parts c.self.inside.bodies))) tt _ refl (wrote_one _ _ (ring_write None) _ c.in_default.ensures.store) refl refl))
 
 pub reserve-requires-clause-kept : goal.reserve-requires-clause-kept
 reserve-requires-clause-kept g c =
@@ -30,12 +30,12 @@ reserve-requires-clause-kept g c =
 pub returns-in_default-reserve-clause-carries : goal.returns-in_default-reserve-clause-carries
 unfolding with_ring empty_draft
 returns-in_default-reserve-clause-carries g c =
-    rw (← c.self.view_is) (on_memory c.self.inside.halted _ _ (λ running. uncounted ringing_ends _ _ (leaving (station_in c.self.inside.parts c.self.inside.bodies)) (leaving (station_in c.self.inside.parts c.self.inside.bodies)) tt _ _ _ refl (wrote_one _ _ (ring_write None) _ c.in-Ok.ensures.store) refl c.in_default-reserve.ensures.store refl refl))
+    rw (← c.self.view_is) (on_memory c.self.inside.halted _ _ (λ running. uncounted ringing_ends _ _ (without_ring (empty_draft (station_in c.self.inside.parts c.self.inside.bodies))) (without_ring (empty_draft (station_in c.self.inside.parts c.self.inside.bodies))) tt _ _ _ refl (wrote_one _ _ (ring_write None) _ c.in-Ok.ensures.store) refl c.in_default-reserve.ensures.store refl refl))
 
 pub returns-clause-carries : goal.returns-clause-carries
 unfolding with_ring empty_draft
 returns-clause-carries g c =
-    rw (← c.self.view_is) (on_memory c.self.inside.halted _ _ (λ running. ended ringing_ends _ _ (leaving (station_in c.self.inside.parts c.self.inside.bodies)) (leaving (station_in c.self.inside.parts c.self.inside.bodies)) tt _ _ _ refl (wrote_one _ _ (ring_write None) _ c.in-Ok.ensures.store) refl c.in-Ok-reserve.ensures.store
+    rw (← c.self.view_is) (on_memory c.self.inside.halted _ _ (λ running. ended ringing_ends _ _ (without_ring (empty_draft (station_in c.self.inside.parts c.self.inside.bodies))) (without_ring (empty_draft (station_in c.self.inside.parts c.self.inside.bodies))) tt _ _ _ refl (wrote_one _ _ (ring_write None) _ c.in-Ok.ensures.store) refl c.in-Ok-reserve.ensures.store
     (ap (λ (fs : List Frame). only_frames (map (spelled network) fs)) (sym (sealed_none None c.self.inside.parts.counter.next)))
     (lines_are _ _ _ _ c.in-Ok.ensures.ring c.in-Ok-reserve.ensures.counter refl c.invalidate_all.ensures.routing refl refl (ap (λ (h : Held). h.reassemblies) c.clear.ensures) (ap (λ (h : Held). h.waiting) c.clear.ensures))))
 
