@@ -1,4 +1,6 @@
 pub mod Writing
+pub mod Composing
+pub mod Unread
 pub mod Halting
 pub mod Sizes
 pub mod Words

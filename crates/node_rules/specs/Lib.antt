@@ -18,4 +18,5 @@ pub mod States
 pub mod Agreement
 pub mod Carrying
 pub mod Neighbours
+pub mod Composing
 pub mod Laws

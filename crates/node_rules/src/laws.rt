@@ -1,7 +1,19 @@
 //! Laws of the rules: each carried by a function that does nothing.
+ghost use Rattle.std.specs.Prelude.{ℕ, ◌≡◌, true, List, is_some, Ok, Err};
+ghost use Rattle.plc_base.specs.Keeper.{Write};
+ghost use Rattle.plc_base.specs.Writes.{Wrote};
+ghost use Rattle.plc_base.specs.declared.tags.PairTag.{PairTag};
+ghost use Rattle.node_rules.specs.declared.heard.Accepted.{Accepted};
+ghost use Rattle.node_rules.specs.declared.heard.Way.{Way};
+ghost use Rattle.node_rules.specs.declared.heard.Heard.TheVariants as heard;
+ghost use Rattle.node_rules.specs.declared.refusal.Dropped.TheVariants as drops;
+ghost use Rattle.node_rules.specs.Frames.{Sent};
+ghost use Rattle.node_rules.specs.Memory.{StationMemory};
+ghost use Rattle.node_rules.specs.Hearing.{hear};
+ghost use Rattle.node_rules.specs.Composing.{behind, adding, out_with, seen, ComesSo};
 ghost use Rattle.plc_base.specs.declared.out_frame.Out.{Out};
 ghost use Rattle.node_rules.specs.Carrying.{Carries, IsCarriedOut};
-ghost use Rattle.node_rules.specs.Plans.{Plan};
+ghost use Rattle.node_rules.specs.Plans.{Plan, resting, within};
 ghost use Rattle.node_rules.specs.States.{State};
 ghost use Rattle.node_rules.specs.Laws.{WritesFailCleanly, NoCutNoFailure, HaltedHasNoAddress, RinglessHasNoAddress, HaltedDoesNothing, AFrameRefusedChangesNothing, ADropChangesNothing, AMetersDropChangesNothing, ACoordinatorsDropChangesNothing, ASendRefusedChangesNothing, AJoinRefusedChangesNothing, AnOrderRefusedChangesNothing, TheRoomTellsTheRefusal, HearingIsBounded, AMetersHearingIsBounded, ACoordinatorsHearingIsBounded, ASendIsBounded, AJoinIsBounded, AnOrderIsBounded, AcceptingOnlyMarks};
 
@@ -133,4 +145,31 @@ pub fn an_order_is_bounded()
 #[tactic(auto)]
 pub fn accepting_only_marks()
     ensures { AcceptingOnlyMarks }
+{}
+
+/// A plan that is carried out over a part of what a node holds is carried out over the whole of it.
+pub fn parts_are_carried_out<M, N, A, B>()
+    ensures { (whole : M → N) (reads : A → B) (old : State N) (before new : State M) (p : Plan M A) (answer : A) (out : Out)
+        → old.store ≡ before.store → old.eui ≡ before.eui → Carries before p answer out new
+        → Carries old (within whole reads p) (reads answer) out (seen whole new) }
+{}
+
+/// Puts that were done, and then a plan that was carried out, are one plan that was carried out.
+pub fn plans_follow_puts<M, A>()
+    ensures { (s t u : State M) (ws : List Write) (p : Plan M A) (answer : A) (out : Out)
+        → Wrote s.store ws true t.store → s.eui ≡ t.eui → Carries t p answer out u → Carries s (behind ws p) answer out u }
+{}
+
+/// A plan that was carried out, whose frames and tags come after others, is the plan with these others.
+pub fn plans_give_out_more<M, A>()
+    ensures { (frames : List Sent) (made opened : List PairTag) (s t : State M) (p : Plan M A) (answer : A) (out more : Out)
+        → Carries s p answer out t → more ≡ out_with frames made opened (is_some t.memory) out
+        → Carries s (adding frames made opened p) answer more t }
+{}
+
+/// A joining command that a station hands on has changed nothing of it, and one that came over the mesh came to a station that is joined.
+pub fn commands_are_handed_on()
+    ensures { (l : StationMemory) (got : Accepted) (cost note now : ℕ) (way : Way) (body : List ℕ)
+        → (hear l got cost note now).answer ≡ Ok (heard.Joining way body)
+        → ComesSo l way × (hear l got cost note now ≡ resting l (Ok (heard.Joining way body)) (Err drops.Store)) }
 {}

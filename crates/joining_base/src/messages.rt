@@ -1,0 +1,93 @@
+//! Joining messages on their way: in a plain frame, or as the body of a command.
+ghost use Rattle.std.specs.Prelude.{◌≡◌, ◌<◌, ◌≤◌, ◌++◌, ◌∷◌, [], IfSome, length};
+ghost use Rattle.joining_messages.specs.Messages.{IsMessage};
+ghost use Rattle.joining_messages.specs.Reading.{join_in};
+ghost use Rattle.mac_frames.specs.Grammar.{IsPlain};
+ghost use Rattle.mac_frames.specs.Grammar as heads;
+ghost use Rattle.node_rules.specs.Ciphers.{network};
+ghost use Rattle.node_rules.specs.Frames.{spelled};
+ghost use Rattle.node_rules.specs.Frames as frames;
+ghost use Rattle.node_rules.specs.Joining.{command_of};
+
+use joining_messages::{JoinMessage, read_join, write_join};
+use mac_frames::{MacHead, plain_frame};
+use plc_base::{Eui, FrameBuf, Out, OutFrame, PAN, Short};
+
+/// The message that octets are, None where they are none.
+pub fn read_message(octets: &[u8]) -> Option<JoinMessage>
+    ensures message { result ≡ join_in octets.now }
+    ensures valid { IfSome result (λ message. IsMessage message) }
+{
+    match read_join(octets) {
+        Ok(message) => Some(message),
+        Err(_) => None,
+    }
+}
+
+/// Writes the octets of the command that carries a message, its code 02 first, in place of what `out` held.
+pub fn write_command(message: &JoinMessage, out: &mut FrameBuf)
+    requires { IsMessage message.now }
+    ensures command { out.new ≡ command_of message.now }
+    ensures fits { length out.new ≤ 138 }
+{
+    out.clear();
+    out.push(2);
+    write_join(message, out);
+}
+
+// Appends a plain frame with this head, whose payload is a joining command.
+fn push_plain(head: &MacHead, message: &JoinMessage, out: &mut Out)
+    requires message { IsMessage message.now }
+    requires plain { IsPlain head.now }
+    requires head { heads.IsAllowed head.now }
+    requires room { length out.old.frames < 24 }
+    ensures { out.new ≡ record out.old { frames = out.old.frames ++ frames.plain_frame head.now message.now ∷ [] } }
+{
+    let mut payload = FrameBuf::new();
+    payload.push(0x40);
+    payload.push(2);
+    write_join(message, &mut payload);
+    let mut octets = FrameBuf::new();
+    plain_frame(head, payload.octets(), &mut octets);
+    out.frames.push(OutFrame {
+        octets,
+        note: 0,
+        key: None,
+    });
+}
+
+/// Appends the plain frame that carries a message of a node up to an agent.
+#[tactic(auto, unfolding(node_rules::specs::Frames::spelled))]
+pub fn push_up(message: &JoinMessage, agent: Short, from: Eui, out: &mut Out)
+    requires message { IsMessage message.now }
+    requires room { length out.old.frames < 24 }
+    ensures { out.new ≡ record out.old { frames = out.old.frames ++ spelled network (frames.Up agent from message.now) ∷ [] } }
+{
+    let head = MacHead::Up {
+        ack: true,
+        version: 1,
+        seq: 0,
+        pan: PAN,
+        to: agent.number(),
+        from,
+    };
+    push_plain(&head, message, out);
+}
+
+/// Appends the plain frame that carries a message down to the node that it is about. `from` is the sender's address.
+#[tactic(auto, unfolding(node_rules::specs::Frames::spelled))]
+pub fn push_down(message: &JoinMessage, from: Short, out: &mut Out)
+    requires message { IsMessage message.now }
+    requires room { length out.old.frames < 24 }
+    ensures { out.new ≡ record out.old { frames = out.old.frames ++ spelled network (frames.Down from message.now) ∷ [] } }
+{
+    let head = MacHead::Down {
+        ack: true,
+        version: 1,
+        seq: 0,
+        pan: PAN,
+        to: message.eui,
+        from,
+    };
+    push_plain(&head, message, out);
+}

@@ -1,0 +1,5 @@
+use Rattle.node_rules.proofs.Composing.{carries_behind}
+use Rattle.node_rules.proofs.laws.plans_follow_puts.Goals as goal
+
+pub returns : goal.returns
+returns g c = λ s t u ws p answer out. carries_behind s t u ws p answer out
