@@ -270,15 +270,16 @@ fn a_full_table_forgets_under_a_floor(rt: HostRuntime) -> Result<(), Fail> {
 // Which of the addresses of a crowded node goes next, where the routes by these next hops have ended.
 const ORDERS: [(&[u16], u16); 3] = [(&[], 1), (&[40, 23], 23), (&[64, 50, 63], 50)];
 
-fn order_row(rt: &impl Abort, alloc: Global, ended: &[u16], want: u16) -> Result<(), Fail> {
-    let mut keeper = MemKeeper::new(alloc)?;
-    let mut routes = crowded(&mut keeper)?;
+fn order_row(rt: &impl Abort, keeper: &mut MemKeeper, ended: &[u16], want: u16) -> Result<(), Fail>
+    requires empty { keeper.old.records ≡ map.empty }
+{
+    let mut routes = crowded(keeper)?;
     for next in ended {
         routes.invalidate_next(Short::new(*next).ok_or("no address")?);
     }
     let other = Short::new(65).ok_or("no address")?;
     assert_eq!(rt;
-        routes.offer(&mut keeper, other, 9, 1, other, 60),
+        routes.offer(keeper, other, 9, 1, other, 60),
         Ok(Offered::Better)
     );
     let gone = Short::new(want).ok_or("no address")?;
@@ -289,7 +290,8 @@ fn order_row(rt: &impl Abort, alloc: Global, ended: &[u16], want: u16) -> Result
 #[test]
 fn a_rank_with_no_route_goes_first(rt: HostRuntime) -> Result<(), Fail> {
     for (ended, want) in ORDERS {
-        order_row(&rt, rt.alloc(), ended, want)?;
+        let mut keeper = MemKeeper::new(rt.alloc())?;
+        order_row(&rt, &mut keeper, ended, want)?;
     }
     Ok(())
 }
