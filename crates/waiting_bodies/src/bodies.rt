@@ -369,7 +369,8 @@ impl Bodies {
         requires { index < length self.now.waiting }
         ensures { result ≡ is_within 30 now (body_at self.now.waiting index).since }
     {
-        is_within(30, now, self.waiting[index].since)
+        let waiting = &self.waiting[index];
+        is_within(30, now, waiting.since)
     }
 
     // Ends the waiting of the bodies that came 30 seconds ago or before.
