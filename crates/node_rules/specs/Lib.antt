@@ -19,3 +19,4 @@ pub mod Agreement
 pub mod Carrying
 pub mod Neighbours
 pub mod Laws
+pub mod Replies
