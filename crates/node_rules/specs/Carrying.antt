@@ -19,13 +19,14 @@ given p done =
     if done then record { frames = map (spelled network) p.frames; tags = record { made = p.made; opened = p.opened } }
     else record { frames = []; tags = record { made = []; opened = p.opened } }
 
--- The plan was carried out: all of it, or its puts in order up to one that failed. Then the node is halted and nothing is sent.
+-- The plan was carried out: all of it, or its puts in order up to one that failed. Then the node is halted and nothing is sent. The
+-- reply that the last frame was answered with is no part of it.
 pub record Carries {M A : Type 0} (old : State M) (p : Plan M A) (answer : A) (out : Out) (new : State M) : Type 0 where
   pub done : Bool
   pub wrote : Wrote old.store p.puts done new.store
   pub answer_is : answer ≡ (if done then p.answer else p.failed)
   pub out_is : out ≡ given p done
-  pub new_is : new ≡ record { store = new.store; eui = old.eui; memory = if done then Some p.memory else None }
+  pub new_is : new ≡ record new { eui = old.eui; memory = if done then Some p.memory else None }
 
 -- # As a function of the cut that is to come
 

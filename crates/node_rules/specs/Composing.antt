@@ -39,7 +39,8 @@ out_with frames made opened done out =
 
 -- a state whose memory is part of another one
 abbrev pub seen : {M N : Type 0} → (M → N) → State M → State N
-seen whole s = record { store = s.store; eui = s.eui; memory = option_map whole s.memory }
+seen whole s =
+    record { store = s.store; eui = s.eui; memory = option_map whole s.memory; replied = s.replied }
 
 -- # Drafts
 

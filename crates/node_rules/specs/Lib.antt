@@ -20,3 +20,4 @@ pub mod Carrying
 pub mod Neighbours
 pub mod Composing
 pub mod Laws
+pub mod Replies

@@ -3,23 +3,32 @@ use Rattle.std.specs.Prelude.{ℕ, Bool, if◌then◌else◌, List, Option, Some
 use Rattle.std.specs.Coded.{Coded, code_by, coded×, coded_ℕ, coded_list, coded_option}
 use Rattle.plc_base.specs.Keeper.{Store, store_code}
 use Rattle.plc_base.specs.declared.address.Eui.{Eui}
+use Rattle.node_rules.specs.declared.heard.Reply.{Reply}
 use Rattle.node_rules.specs.Memory.{StationMemory}
 use Rattle.node_rules.specs.MemoryCodes.{station_code}
 
--- What the keeper holds, the own identity, and what is in memory unless the node is halted.
+-- What the keeper holds, the own identity, what is in memory unless the node is halted, and the route reply that the last frame was
+-- answered with. No rule reads that reply.
 pub record State (M : Type 0) : Type 0 where
   pub store : Store
   pub eui : Eui
   pub memory : Option M
+  pub replied : Option Reply
 
 abbrev pub eui_code : Coded Eui
 eui_code = code_by (List ℕ) (coded_list coded_ℕ) (λ e. e.0) (λ xs. record { 0 = xs }) (λ _. refl)
 
+abbrev pub reply_code : Coded Reply
+reply_code =
+    code_by (ℕ × (ℕ × ℕ)) (coded× coded_ℕ (coded× coded_ℕ coded_ℕ)) (λ r. (r.to, (r.number, r.origin)))
+    (λ p. record { to = p.0; number = p.1.0; origin = p.1.1 }) (λ _. refl)
+
 abbrev pub state_code : {M : Type 0} → Coded M → Coded (State M)
 state_code {M = M} memory_code =
-    code_by (Store × (Eui × Option M)) (coded× store_code (coded× eui_code (coded_option memory_code)))
-    (λ s. (s.store, (s.eui, s.memory)))
-    (λ p. record { store = p.0; eui = p.1.0; memory = p.1.1 }) (λ _. refl)
+    code_by (Store × (Eui × (Option M × Option Reply)))
+    (coded× store_code (coded× eui_code (coded× (coded_option memory_code) (coded_option reply_code))))
+    (λ s. (s.store, (s.eui, (s.memory, s.replied))))
+    (λ p. record { store = p.0; eui = p.1.0; memory = p.1.1.0; replied = p.1.1.1 }) (λ _. refl)
 
 abbrev pub station_state_code : Coded (State StationMemory)
 station_state_code = state_code station_code

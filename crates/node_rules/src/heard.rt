@@ -46,6 +46,17 @@ pub enum Way {
     Mesh(Short),
 }
 
+/// A route reply that a station sent.
+#[derive(Clone, Copy, Debug, PartialEq, Eq)]
+pub struct Reply {
+    /// The neighbour that it went to.
+    pub to: Short,
+    /// Its number.
+    pub number: u16,
+    /// The node that the reply leads to.
+    pub origin: Short,
+}
+
 /// What a station made of a frame that it accepted.
 #[derive(Debug, Drop)]
 pub enum Heard {

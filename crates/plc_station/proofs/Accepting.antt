@@ -29,7 +29,7 @@ admit_refused s l from counter accepted fault reason m room is =
     (subst (λ (e : FrameRefusal). Carries s (refuse l (mark_refusal fault)) (Err e) nothing s) (sym is) (resting_carried s l (Err (mark_refusal fault)) (Err Store) m))
 
 pub admit_failed : (s t : State StationMemory) (l : StationMemory) (from counter : ℕ) (accepted : Accepted) (u : Unit {0}) → Ok u ≡ room_for l.marks from counter
-    → Stores s.store (keep_write l.marks from counter) false t.store → t ≡ record { store = t.store; eui = s.eui; memory = None } → Carries s (admit l from counter accepted) (Err Store) nothing t
+    → Stores s.store (keep_write l.marks from counter) false t.store → t ≡ record { store = t.store; eui = s.eui; memory = None; replied = t.replied } → Carries s (admit l from counter accepted) (Err Store) nothing t
 unfolding marking
 admit_failed s t l from counter accepted u room stores new =
     subst (λ (r : Result (Unit {0}) PeerFault). Carries s (admitted l from counter accepted r) (Err Store) nothing t) room (record {
@@ -41,7 +41,7 @@ admit_failed s t l from counter accepted u room stores new =
     })
 
 pub admit_done : (s t : State StationMemory) (l : StationMemory) (from counter : ℕ) (accepted : Accepted) (u : Unit {0}) → Ok u ≡ room_for l.marks from counter
-    → Stores s.store (keep_write l.marks from counter) true t.store → t ≡ record { store = t.store; eui = s.eui; memory = Some (record l { marks = kept_after l.marks from counter }) }
+    → Stores s.store (keep_write l.marks from counter) true t.store → t ≡ record { store = t.store; eui = s.eui; memory = Some (record l { marks = kept_after l.marks from counter }); replied = t.replied }
     → Carries s (admit l from counter accepted) (Ok accepted) nothing t
 unfolding marking
 admit_done s t l from counter accepted u room stores new =

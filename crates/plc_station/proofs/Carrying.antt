@@ -4,6 +4,7 @@ use Rattle.std.specs.Prelude.{IfSome, IsSome}
 use Rattle.plc_base.specs.Keeper.{Store}
 use Rattle.plc_base.specs.declared.address.Eui.{Eui}
 use Rattle.plc_base.proofs.WritesLemmas.{wrote_none}
+use Rattle.node_rules.specs.declared.heard.Reply.{Reply}
 use Rattle.node_rules.specs.Memory.{StationMemory}
 use Rattle.node_rules.specs.Plans.{resting}
 use Rattle.node_rules.specs.States.{State, unless_halted}
@@ -30,17 +31,18 @@ resting_carried {M} s m answer failed e = record {
   wrote = wrote_none s.store;
   answer_is = refl;
   out_is = refl;
-  new_is = ap (λ (o : Option M). record { store = s.store; eui = s.eui; memory = o }) e;
+  new_is = ap (λ (o : Option M). record { store = s.store; eui = s.eui; memory = o; replied = s.replied }) e;
 }
 
 -- lines with the same parts are the same
-pub lines_are : (store : Store) (eui : Eui) (l m : StationMemory) → l.ring ≡ m.ring → l.counter ≡ m.counter → l.marks ≡ m.marks → l.routing ≡ m.routing → l.own_number ≡ m.own_number
+pub lines_are : {replied : Option Reply} (store : Store) (eui : Eui) (l m : StationMemory) → l.ring ≡ m.ring → l.counter ≡ m.counter → l.marks ≡ m.marks → l.routing ≡ m.routing → l.own_number ≡ m.own_number
     → l.next_tag ≡ m.next_tag → l.reassemblies ≡ m.reassemblies → l.waiting ≡ m.waiting
-    → ◌≡◌ {A = State StationMemory} (record { store = store; eui = eui; memory = Some l }) (record { store = store; eui = eui; memory = Some m })
-lines_are store eui l m a b c d e f g h = λ i. record {
+    → ◌≡◌ {A = State StationMemory} (record { store = store; eui = eui; memory = Some l; replied = replied }) (record { store = store; eui = eui; memory = Some m; replied = replied })
+lines_are {replied} store eui l m a b c d e f g h = λ i. record {
   store = store;
   eui = eui;
   memory = Some (record { ring = a i; counter = b i; marks = c i; routing = d i; own_number = e i; next_tag = f i; reassemblies = g i; waiting = h i });
+  replied = replied;
 }
 
 pub station_is : (l m : StationMemory) → l.ring ≡ m.ring → l.counter ≡ m.counter → l.marks ≡ m.marks → l.routing ≡ m.routing → l.own_number ≡ m.own_number

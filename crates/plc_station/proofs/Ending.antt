@@ -28,19 +28,19 @@ unsent d = record { frames = []; tags = record { made = []; opened = d.opened } 
 -- all puts were done
 pub ended : {H E : Type 0} (ends : Ends E) (s t : State StationMemory) (d e : Draft StationMemory) (answer : H) (m : Store) (out : Out) (count : ℕ) → d ≡ e → Wrote s.store d.puts true m
     → count ≡ length d.units → Stores m (reserve_write d.memory.counter count) true t.store → out ≡ sent d
-    → t ≡ record { store = t.store; eui = s.eui; memory = Some (record d.memory { counter = reserved d.memory.counter count }) }
+    → t ≡ record { store = t.store; eui = s.eui; memory = Some (record d.memory { counter = reserved d.memory.counter count }); replied = t.replied }
     → Carries s (sealing alone ends e answer) (Ok answer) out t
 ended {H} {E} ends s t d e answer m out count same wrote few stores is new = subst (λ (x : Draft StationMemory). Carries s (sealing alone ends x answer) (Ok answer) out t) same (record {
   done = true;
   wrote = wrote_append s.store m t.store d.puts _ true wrote (wrote_one m t.store _ true (subst (λ n. Stores m (reserve_write d.memory.counter n) true t.store) few stores));
   answer_is = refl;
   out_is = is;
-  new_is = new ∙ ap (λ n. record { store = t.store; eui = s.eui; memory = Some (record d.memory { counter = reserved d.memory.counter n }) }) few;
+  new_is = new ∙ ap (λ n. record { store = t.store; eui = s.eui; memory = Some (record d.memory { counter = reserved d.memory.counter n }); replied = t.replied }) few;
 })
 
 -- one of the first puts failed
 pub stopped : {H E : Type 0} (ends : Ends E) (s t : State StationMemory) (d e : Draft StationMemory) (answer : H) (out : Out) → d ≡ e → Wrote s.store d.puts false t.store → out ≡ unsent d
-    → t ≡ record { store = t.store; eui = s.eui; memory = None } → Carries s (sealing alone ends e answer) (Err ends.store) out t
+    → t ≡ record { store = t.store; eui = s.eui; memory = None; replied = t.replied } → Carries s (sealing alone ends e answer) (Err ends.store) out t
 stopped {H} {E} ends s t d e answer out same wrote is new = subst (λ (x : Draft StationMemory). Carries s (sealing alone ends x answer) (Err ends.store) out t) same (record {
   done = false;
   wrote = wrote_append_stop s.store t.store d.puts _ wrote;
@@ -52,7 +52,7 @@ stopped {H} {E} ends s t d e answer out same wrote is new = subst (λ (x : Draft
 -- the put of the counter failed
 pub uncounted : {H E : Type 0} (ends : Ends E) (s t : State StationMemory) (d e : Draft StationMemory) (answer : H) (m : Store) (out : Out) (count : ℕ) → d ≡ e → Wrote s.store d.puts true m
     → count ≡ length d.units → Stores m (reserve_write d.memory.counter count) false t.store → out ≡ unsent d
-    → t ≡ record { store = t.store; eui = s.eui; memory = None } → Carries s (sealing alone ends e answer) (Err ends.store) out t
+    → t ≡ record { store = t.store; eui = s.eui; memory = None; replied = t.replied } → Carries s (sealing alone ends e answer) (Err ends.store) out t
 uncounted {H} {E} ends s t d e answer m out count same wrote few stores is new = subst (λ (x : Draft StationMemory). Carries s (sealing alone ends x answer) (Err ends.store) out t) same (record {
   done = false;
   wrote = wrote_append s.store m t.store d.puts _ false wrote (wrote_one m t.store _ false (subst (λ n. Stores m (reserve_write d.memory.counter n) false t.store) few stores));

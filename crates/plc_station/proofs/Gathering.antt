@@ -29,7 +29,7 @@ changed {M} s t m answer failed store eui memory = record {
   wrote = rw store (wrote_none s.store);
   answer_is = refl;
   out_is = refl;
-  new_is = λ i. record { store = t.store; eui = eui i; memory = memory i };
+  new_is = λ i. record { store = t.store; eui = eui i; memory = memory i; replied = t.replied };
 }
 
 -- a station that was running runs on

@@ -16,3 +16,4 @@ pub mod Sealed
 pub mod Shows
 pub mod Beside
 pub mod Locals
+pub mod Replying

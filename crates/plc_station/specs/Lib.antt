@@ -4,3 +4,4 @@ pub mod Sealing
 pub mod Pieces
 pub mod Heard
 pub mod Rooms
+pub mod Hears

@@ -52,6 +52,7 @@ impl<K: Keeper + Drop> Station<K> {
         ensures carries { IfSome self.old.memory (λ l. Carries self.old (drafts.sealing drafts.alone calls.sending_ends
             (drafts.body_goes grant.now.address hop to 0 (Command octets.now) (drafts.empty_draft l)) how.Sent) result out.new self.new) }
         ensures agrees { Agrees self.new }
+        ensures replied { self.new.replied ≡ self.old.replied }
     {
         let unit = command_unit(grant, to, octets);
         match self.send_unit(grant, hop.number(), &unit, 0, out) {
@@ -77,6 +78,7 @@ impl<K: Keeper + Drop> Station<K> {
         ensures carries { IfSome self.old.memory (λ l. Carries self.old (drafts.sealing drafts.alone calls.sending_ends
             (drafts.waits to 0 (Command octets.now) now (drafts.empty_draft l)) how.Waiting) result out.now self.new) }
         ensures agrees { Agrees self.new }
+        ensures replied { self.new.replied ≡ self.old.replied }
     {
         let _left = self.parts.counter.left();
         self.halted = true;
@@ -109,6 +111,7 @@ impl<K: Keeper + Drop> Station<K> {
         ensures carries { IfSome self.old.memory (λ l. Carries self.old (drafts.sealing drafts.alone calls.sending_ends
             (drafts.waits to 0 (Command octets.now) now (drafts.seeks grant.now.address to (drafts.empty_draft l))) how.Waiting) result out.new self.new) }
         ensures agrees { Agrees self.new }
+        ensures replied { self.new.replied ≡ self.old.replied }
     {
         self.halted = true;
         let Ok(number) = self.parts.own_number.advance(&mut self.keeper) else {
@@ -140,6 +143,7 @@ impl<K: Keeper + Drop> Station<K> {
         requires empty { out.old ≡ nothing }
         ensures carries { IfSome self.old.memory (λ l. Carries self.old (calls.command_from l grant.now.address to octets.now now) result out.new self.new) }
         ensures agrees { Agrees self.new }
+        ensures replied { self.new.replied ≡ self.old.replied }
     {
         let left = self.parts.counter.left();
         if let Some(hop) = self.parts.routing.route(to) {
@@ -179,6 +183,7 @@ impl<K: Keeper + Drop> Station<K> {
         ensures halted { IfNone self.old.memory ((result ≡ Err SendRefusal.Halted) × (out.new ≡ nothing) × (self.new ≡ self.old)) }
         ensures carries { IfSome self.old.memory (λ l. Carries self.old (calls.send_command l to body.now now) result out.new self.new) }
         ensures agrees { Agrees self.new }
+        ensures replied { self.new.replied ≡ self.old.replied }
     {
         out.clear();
         if self.halted {

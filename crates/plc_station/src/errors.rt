@@ -40,6 +40,7 @@ impl<K: Keeper + Drop> Station<K> {
         requires empty { out.now ≡ nothing }
         ensures carries { IfSome self.old.memory (λ l. Carries self.old (drafts.sealing drafts.alone hearing.dropped (hearing.loses lost by l) heard.Broken) result out.now self.new) }
         ensures agrees { Agrees self.new }
+        ensures replied { self.new.replied ≡ self.old.replied }
     {
         self.halted = true;
         let Ok(_) = self.parts.counter.reserve(&mut self.keeper, 0) else {
@@ -68,6 +69,7 @@ impl<K: Keeper + Drop> Station<K> {
         ensures carries { IfSome self.old.memory (λ l. Carries self.old (drafts.sealing drafts.alone hearing.dropped
             (drafts.tells hop (message.Rerr lost to) (hearing.loses lost by l)) heard.Broken) result out.new self.new) }
         ensures agrees { Agrees self.new }
+        ensures replied { self.new.replied ≡ self.old.replied }
     {
         self.halted = true;
         let Ok(counter) = self.parts.counter.reserve(&mut self.keeper, 1) else {
@@ -95,6 +97,7 @@ impl<K: Keeper + Drop> Station<K> {
         requires empty { out.old ≡ nothing }
         ensures carries { IfSome self.old.memory (λ l. Carries self.old (hearing.hear_error l grant.now.address by lost to) result out.new self.new) }
         ensures agrees { Agrees self.new }
+        ensures replied { self.new.replied ≡ self.old.replied }
     {
         let left = self.parts.counter.left();
         if to.number() == grant.address.number() {

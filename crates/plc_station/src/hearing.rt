@@ -1,5 +1,5 @@
 //! What a station makes of units over the mesh.
-ghost use Rattle.std.specs.Prelude.{◌≡◌, ◌≢◌, ◌==◌, ◌||◌, not, ◌+◌, ◌<◌, ◌≤◌, true, false, Some, Ok, Err, IfSome, IsSome, length};
+ghost use Rattle.std.specs.Prelude.{◌≡◌, ◌≢◌, ◌==◌, ◌||◌, not, ◌+◌, ◌<◌, ◌≤◌, true, false, Some, None, Ok, Err, IfSome, IsSome, length};
 ghost use Rattle.mesh_header.specs.Grammar.{IsAllowed, header_length, spelled_length};
 ghost use Rattle.mesh_header.specs.Reading as reading;
 ghost use Rattle.mesh_header.specs.declared.unit.Unit.TheVariants as local;
@@ -13,6 +13,7 @@ ghost use Rattle.routing_set.specs.RoutingSet as routing;
 ghost use Rattle.fragment_buffers.specs.Waiting.{leaving};
 ghost use Rattle.plc_station.specs.Pieces as pieces;
 ghost use Rattle.node_rules.specs.Carrying.{Carries, nothing};
+ghost use Rattle.plc_station.specs.Hears.{Hears, reply_sent_by};
 ghost use Rattle.node_rules.specs.Agreement.{Agrees};
 
 use crate::sealing::seal_message;
@@ -21,7 +22,7 @@ use aes_modes::Aes;
 use fragment_buffers::{BufferFull, Taken};
 use loadng_messages::{Message, write_message};
 use mesh_header::{Mesh, Piece, Unit, read_unit};
-use node_rules::{Dropped, Heard, Way};
+use node_rules::{Dropped, Heard, Reply, Way};
 use plc_base::{DatagramBuf, FrameBuf, Grant, Keeper, Out, Short};
 use routing_set::Rank;
 use waiting_bodies::seal;
@@ -90,6 +91,7 @@ impl<K: Keeper + Drop> Station<K> {
         requires empty { out.now ≡ nothing }
         ensures carries { IfSome self.old.memory (λ l. Carries self.old (hearing.gather l from piece.now note now) result out.now self.new) }
         ensures agrees { Agrees self.new }
+        ensures replied { self.new.replied ≡ self.old.replied }
     {
         let mut octets = DatagramBuf::new();
         let taken = self.bodies.gather(from, piece, note, now, &mut octets);
@@ -115,6 +117,7 @@ impl<K: Keeper + Drop> Station<K> {
         requires empty { out.old ≡ nothing }
         ensures carries { IfSome self.old.memory (λ l. Carries self.old (drafts.sealing drafts.alone hearing.dropped (drafts.goes to unit.now note (drafts.empty_draft l)) tt) result out.new self.new) }
         ensures agrees { Agrees self.new }
+        ensures replied { self.new.replied ≡ self.old.replied }
     {
         self.halted = true;
         let Ok(counter) = self.parts.counter.reserve(&mut self.keeper, 1) else {
@@ -135,6 +138,7 @@ impl<K: Keeper + Drop> Station<K> {
         ensures carries { IfSome self.old.memory (λ l. Carries self.old (drafts.choose (mesh.now.origin == grant.now.address)
             (hearing.drop_it l hearing_drops.NoRoute) (hearing.report_by l mesh.now (next_hop l mesh.now.origin))) result out.new self.new) }
         ensures agrees { Agrees self.new }
+        ensures replied { self.new.replied ≡ self.old.replied }
     {
         if mesh.origin.number() == grant.address.number() {
             return Err(Dropped::NoRoute);
@@ -170,6 +174,7 @@ impl<K: Keeper + Drop> Station<K> {
         requires empty { out.old ≡ nothing }
         ensures carries { IfSome self.old.memory (λ l. Carries self.old (hearing.forward l grant.now.address mesh.now unit.now note) result out.new self.new) }
         ensures agrees { Agrees self.new }
+        ensures replied { self.new.replied ≡ self.old.replied }
     {
         let left = self.parts.counter.left();
         let Some(hop) = self.parts.routing.route(mesh.to) else {
@@ -204,6 +209,7 @@ impl<K: Keeper + Drop> Station<K> {
         requires empty { out.old ≡ nothing }
         ensures carries { IfSome self.old.memory (λ l. Carries self.old (hearing.hear_over_mesh l grant.now.address unit note now) result out.new self.new) }
         ensures agrees { Agrees self.new }
+        ensures replied { self.new.replied ≡ self.old.replied }
     {
         match unit {
             Unit::Whole { mesh, octets } => {
@@ -268,9 +274,13 @@ impl<K: Keeper + Drop> Station<K> {
         requires number { IfSome self.old.memory (λ l. l.own_number.last < 65535) }
         requires left { IfSome self.old.memory (λ l. l.counter.next + (length (leaving grant.now.address origin by l.waiting) + 1) ≤ 4294967295) }
         requires empty { out.old ≡ nothing }
+        requires fresh { self.old.replied ≡ None }
         ensures carries { IfSome self.old.memory (λ l. Carries self.old (drafts.sealing drafts.alone hearing.dropped
             (drafts.tells by (message.Rrep (l.own_number.last + 1) 0 grant.now.address origin) (hearing.offers_numbered grant.now.address origin rank by now l)) tt) result out.new self.new) }
         ensures agrees { Agrees self.new }
+        ensures replied { IfSome self.old.memory (λ l. self.new.replied ≡ reply_sent_by
+            (drafts.tells by (message.Rrep (l.own_number.last + 1) 0 grant.now.address origin)
+            (hearing.offers_numbered grant.now.address origin rank by now l)) self.new.memory) }
     {
         self.halted = true;
         let Ok(()) = self
@@ -298,6 +308,11 @@ impl<K: Keeper + Drop> Station<K> {
         };
         seal_message(grant, first + units, by.number(), &reply, out);
         self.bodies.drop_for(origin);
+        self.replied = Some(Reply {
+            to: by,
+            number,
+            origin: grant.address,
+        });
         self.halted = false;
         Ok(())
     }
@@ -324,6 +339,7 @@ impl<K: Keeper + Drop> Station<K> {
         ensures carries { IfSome self.old.memory (λ l. Carries self.old (drafts.sealing drafts.alone hearing.dropped
             (drafts.tells 0xFFFF (message.Rreq rank.number rank.cost origin dest) (hearing.offers grant.now.address origin rank by now l)) tt) result out.new self.new) }
         ensures agrees { Agrees self.new }
+        ensures replied { self.new.replied ≡ self.old.replied }
     {
         self.halted = true;
         let Ok(()) = self
@@ -376,7 +392,8 @@ impl<K: Keeper + Drop> Station<K> {
         requires ring { IfSome self.old.memory (λ l. l.ring ≡ Some grant.now) }
         requires valid { 1 ≤ number }
         requires empty { out.old ≡ nothing }
-        ensures carries { IfSome self.old.memory (λ l. Carries self.old (hearing.hear_request l grant.now.address by origin dest (record { number = number; cost = cost }) now) result out.new self.new) }
+        requires fresh { self.old.replied ≡ None }
+        ensures hears { IfSome self.old.memory (λ l. Hears self.old (hearing.hear_request l grant.now.address by origin dest (record { number = number; cost = cost }) now) result out.new self.new) }
         ensures agrees { Agrees self.new }
     {
         if self.is_no_better(grant.address, origin, number, cost) {

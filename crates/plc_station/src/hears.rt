@@ -6,6 +6,8 @@ ghost use Rattle.loadng_messages.specs.Reading as reading;
 ghost use Rattle.node_rules.specs.Hearing as hearing;
 ghost use Rattle.plc_station.specs.Heard.{Fits};
 ghost use Rattle.node_rules.specs.Carrying.{Carries, nothing};
+ghost use Rattle.node_rules.specs.Replies.{reply_sent};
+ghost use Rattle.plc_station.specs.Hears.{Hears};
 ghost use Rattle.node_rules.specs.Agreement.{Agrees};
 
 use crate::hearing::unit_in;
@@ -60,7 +62,8 @@ impl<K: Keeper + Drop> Station<K> {
         requires ring { IfSome self.old.memory (λ l. l.ring ≡ Some grant.now) }
         requires allowed { messages.IsAllowed message }
         requires empty { out.old ≡ nothing }
-        ensures carries { IfSome self.old.memory (λ l. Carries self.old (hearing.hear_message l grant.now.address by all link now message) result out.new self.new) }
+        requires fresh { self.old.replied ≡ None }
+        ensures hears { IfSome self.old.memory (λ l. Hears self.old (hearing.hear_message l grant.now.address by all link now message) result out.new self.new) }
         ensures agrees { Agrees self.new }
     {
         match message {
@@ -113,7 +116,8 @@ impl<K: Keeper + Drop> Station<K> {
         requires agrees { Agrees self.old }
         requires ring { IfSome self.old.memory (λ l. l.ring ≡ Some grant.now) }
         requires empty { out.old ≡ nothing }
-        ensures carries { IfSome self.old.memory (λ l. Carries self.old (hearing.hear_command l grant.now.address by all code body link now) result out.new self.new) }
+        requires fresh { self.old.replied ≡ None }
+        ensures hears { IfSome self.old.memory (λ l. Hears self.old (hearing.hear_command l grant.now.address by all code body link now) result out.new self.new) }
         ensures agrees { Agrees self.new }
     {
         if code == 1 {
@@ -151,7 +155,8 @@ impl<K: Keeper + Drop> Station<K> {
         requires allowed { IsAllowed unit }
         requires fits { spelled_length unit ≤ 381 }
         requires empty { out.old ≡ nothing }
-        ensures carries { IfSome self.old.memory (λ l. Carries self.old (hearing.hear_sealed l grant.now.address by all unit link note now) result out.new self.new) }
+        requires fresh { self.old.replied ≡ None }
+        ensures hears { IfSome self.old.memory (λ l. Hears self.old (hearing.hear_sealed l grant.now.address by all unit link note now) result out.new self.new) }
         ensures agrees { Agrees self.new }
     {
         match unit {
@@ -182,11 +187,8 @@ impl<K: Keeper + Drop> Station<K> {
         }
     }
 
-    /// Hears a frame that was accepted, over a link of this cost, under a number of the caller's, at a time in seconds: a datagram
-    /// or a joining command for this node is handed up, and what goes on or is answered is in `out`, sealed.
-    ///
-    /// Refused for the first reason that its rule names.
-    pub fn hear(
+    // Hears a frame that was accepted, with nothing sent yet.
+    fn hear_frame(
         &mut self,
         got: &Accepted,
         cost: LinkCost,
@@ -197,10 +199,11 @@ impl<K: Keeper + Drop> Station<K> {
         requires running { IsSome self.old.memory }
         requires agrees { Agrees self.old }
         requires fits { Fits got.now }
-        ensures carries { IfSome self.old.memory (λ l. Carries self.old (hearing.hear l got.now cost note now) result out.new self.new) }
+        requires empty { out.old ≡ nothing }
+        requires fresh { self.old.replied ≡ None }
+        ensures hears { IfSome self.old.memory (λ l. Hears self.old (hearing.hear l got.now cost note now) result out.new self.new) }
         ensures agrees { Agrees self.new }
     {
-        out.clear();
         let Some(unit) = unit_in(got.payload.octets()) else {
             return Err(Dropped::BadUnit);
         };
@@ -230,5 +233,30 @@ impl<K: Keeper + Drop> Station<K> {
                 })
             }
         }
+    }
+
+    /// Hears a frame that was accepted, over a link of this cost, under a number of the caller's, at a time in seconds: a datagram
+    /// or a joining command for this node is handed up, and what goes on or is answered is in `out`, sealed.
+    ///
+    /// Refused for the first reason that its rule names. The route reply that it sends is the last one from then on, and where it
+    /// sends none there is none.
+    pub fn hear(
+        &mut self,
+        got: &Accepted,
+        cost: LinkCost,
+        note: u32,
+        now: u64,
+        out: &mut Out,
+    ) -> Result<Heard, Dropped>
+        requires running { IsSome self.old.memory }
+        requires agrees { Agrees self.old }
+        requires fits { Fits got.now }
+        ensures carries { IfSome self.old.memory (λ l. Carries self.old (hearing.hear l got.now cost note now) result out.new self.new) }
+        ensures agrees { Agrees self.new }
+        ensures replied { IfSome self.old.memory (λ l. self.new.replied ≡ reply_sent (hearing.hear l got.now cost note now) self.new.memory) }
+    {
+        out.clear();
+        self.replied = None;
+        self.hear_frame(got, cost, note, now, out)
     }
 }

@@ -47,6 +47,7 @@ impl<K: Keeper + Drop> Station<K> {
         ensures carries { IfSome self.old.memory (λ l. CarriesAfter self.old (drafts.sealing drafts.alone local.local_ends
             (drafts.goes to (units.Local code body.now) 0 (drafts.empty_draft l)) tt) result out.old out.new self.new) }
         ensures agrees { Agrees self.new }
+        ensures replied { self.new.replied ≡ self.old.replied }
     {
         self.halted = true;
         let Ok(counter) = self.parts.counter.reserve(&mut self.keeper, 1) else {
@@ -82,6 +83,7 @@ impl<K: Keeper + Drop> Station<K> {
         requires room { length out.old.frames < 24 }
         ensures carries { IfSome self.old.memory (λ l. CarriesAfter self.old (local.send_local l code to body.now) result out.old out.new self.new) }
         ensures agrees { Agrees self.new }
+        ensures replied { self.new.replied ≡ self.old.replied }
     {
         let Some(grant) = self.parts.ring.grant() else {
             unreachable!()

@@ -18,6 +18,7 @@ impl<K: Keeper + Drop> Station<K> {
         requires agrees { Agrees self.old }
         ensures carries { IfSome self.old.memory (λ l. Carries self.old (calls.preset_counter l value) result nothing self.new) }
         ensures agrees { Agrees self.new }
+        ensures replied { self.new.replied ≡ self.old.replied }
     {
         self.halted = true;
         let Ok(()) = self.parts.counter.set_limit(&mut self.keeper, value) else {
@@ -34,6 +35,7 @@ impl<K: Keeper + Drop> Station<K> {
         requires value { 1 ≤ value }
         ensures carries { IfSome self.old.memory (λ l. Carries self.old (calls.preset_number l value) result nothing self.new) }
         ensures agrees { Agrees self.new }
+        ensures replied { self.new.replied ≡ self.old.replied }
     {
         self.halted = true;
         let Ok(()) = self.parts.own_number.set_limit(&mut self.keeper, value) else {
@@ -52,6 +54,7 @@ impl<K: Keeper + Drop> Station<K> {
         ensures carries { IfSome self.old.memory (λ l. Carries self.old
             (drafts.sealing drafts.alone calls.presetting_ends (drafts.with_rank to (calls.near_rank cost) to now (drafts.empty_draft l)) tt) result nothing self.new) }
         ensures agrees { Agrees self.new }
+        ensures replied { self.new.replied ≡ self.old.replied }
     {
         let _left = self.parts.counter.left();
         let rank = Rank { number: 1, cost };
@@ -73,6 +76,7 @@ impl<K: Keeper + Drop> Station<K> {
         requires agrees { Agrees self.old }
         ensures carries { IfSome self.old.memory (λ l. Carries self.old (calls.preset_near l to cost now) result nothing self.new) }
         ensures agrees { Agrees self.new }
+        ensures replied { self.new.replied ≡ self.old.replied }
     {
         let cost = u16::from(cost.number());
         if !self.parts.routing.is_better(to, 1, u32::from(cost)) {

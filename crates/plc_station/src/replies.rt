@@ -1,5 +1,5 @@
 //! What a station makes of route replies and route errors.
-ghost use Rattle.std.specs.Prelude.{◌≡◌, ◌+◌, ◌<◌, ◌≤◌, true, false, IfSome, IsSome, Some, length};
+ghost use Rattle.std.specs.Prelude.{◌≡◌, ◌+◌, ◌<◌, ◌≤◌, true, false, IfSome, IsSome, Some, None, length};
 ghost use Rattle.loadng_messages.specs.declared.message.Message.TheVariants as message;
 ghost use Rattle.node_rules.specs.Memory.{next_hop};
 ghost use Rattle.node_rules.specs.Drafts as drafts;
@@ -7,13 +7,14 @@ ghost use Rattle.node_rules.specs.Hearing as hearing;
 ghost use Rattle.routing_set.specs.RoutingSet as routing;
 ghost use Rattle.fragment_buffers.specs.Waiting.{leaving};
 ghost use Rattle.node_rules.specs.Carrying.{Carries, nothing};
+ghost use Rattle.plc_station.specs.Hears.{Hears, reply_sent_by};
 ghost use Rattle.node_rules.specs.Agreement.{Agrees};
 
 use crate::sealing::seal_message;
 use crate::station::Station;
 use aes_modes::Aes;
 use loadng_messages::Message;
-use node_rules::{Dropped, Heard};
+use node_rules::{Dropped, Heard, Reply};
 use plc_base::{Grant, Keeper, Out, Short};
 use routing_set::Rank;
 
@@ -39,6 +40,7 @@ impl<K: Keeper + Drop> Station<K> {
         ensures carries { IfSome self.old.memory (λ l. Carries self.old (drafts.sealing drafts.alone hearing.dropped
             (hearing.offers grant.now.address origin rank by now l) tt) result out.new self.new) }
         ensures agrees { Agrees self.new }
+        ensures replied { self.new.replied ≡ self.old.replied }
     {
         self.halted = true;
         let Ok(()) = self
@@ -80,9 +82,13 @@ impl<K: Keeper + Drop> Station<K> {
         requires valid { 1 ≤ rank.number }
         requires left { IfSome self.old.memory (λ l. l.counter.next + (length (leaving grant.now.address origin by l.waiting) + 1) ≤ 4294967295) }
         requires empty { out.old ≡ nothing }
+        requires fresh { self.old.replied ≡ None }
         ensures carries { IfSome self.old.memory (λ l. Carries self.old (drafts.sealing drafts.alone hearing.dropped
             (drafts.tells hop (message.Rrep rank.number rank.cost origin to) (hearing.offers grant.now.address origin rank by now l)) tt) result out.new self.new) }
         ensures agrees { Agrees self.new }
+        ensures replied { IfSome self.old.memory (λ l. self.new.replied ≡ reply_sent_by
+            (drafts.tells hop (message.Rrep rank.number rank.cost origin to)
+            (hearing.offers grant.now.address origin rank by now l)) self.new.memory) }
     {
         self.halted = true;
         let Ok(()) = self
@@ -107,6 +113,11 @@ impl<K: Keeper + Drop> Station<K> {
         };
         seal_message(grant, first + units, hop.number(), &reply, out);
         self.bodies.drop_for(origin);
+        self.replied = Some(Reply {
+            to: hop,
+            number: rank.number,
+            origin,
+        });
         self.halted = false;
         Ok(())
     }
@@ -131,6 +142,7 @@ impl<K: Keeper + Drop> Station<K> {
             (drafts.checked hearing.dropped l (hearing.rank_fault l grant.now.address origin (record { number = number; cost = cost }) now)
             (hearing.learns l grant.now.address by origin (record { number = number; cost = cost }) now)) result out.new self.new) }
         ensures agrees { Agrees self.new }
+        ensures replied { self.new.replied ≡ self.old.replied }
     {
         if self.is_no_better(grant.address, origin, number, cost) {
             return Err(Dropped::NotBetter);
@@ -170,7 +182,8 @@ impl<K: Keeper + Drop> Station<K> {
         requires ring { IfSome self.old.memory (λ l. l.ring ≡ Some grant.now) }
         requires valid { 1 ≤ number }
         requires empty { out.old ≡ nothing }
-        ensures carries { IfSome self.old.memory (λ l. Carries self.old
+        requires fresh { self.old.replied ≡ None }
+        ensures hears { IfSome self.old.memory (λ l. Hears self.old
             (hearing.hear_reply_for l grant.now.address by origin to (record { number = number; cost = cost }) now (Some hop)) result out.new self.new) }
         ensures agrees { Agrees self.new }
     {
@@ -211,7 +224,8 @@ impl<K: Keeper + Drop> Station<K> {
         requires ring { IfSome self.old.memory (λ l. l.ring ≡ Some grant.now) }
         requires valid { 1 ≤ number }
         requires empty { out.old ≡ nothing }
-        ensures carries { IfSome self.old.memory (λ l. Carries self.old (hearing.hear_reply l grant.now.address by origin to (record { number = number; cost = cost }) now) result out.new self.new) }
+        requires fresh { self.old.replied ≡ None }
+        ensures hears { IfSome self.old.memory (λ l. Hears self.old (hearing.hear_reply l grant.now.address by origin to (record { number = number; cost = cost }) now) result out.new self.new) }
         ensures agrees { Agrees self.new }
     {
         if to.number() == grant.address.number() {

@@ -17,6 +17,7 @@ impl<K: Keeper + Drop> Station<K> {
         requires agrees { Agrees self.old }
         ensures carries { IfSome self.old.memory (λ l. Carries self.old (calls.install l grant.now) result nothing self.new) }
         ensures agrees { Agrees self.new }
+        ensures replied { self.new.replied ≡ self.old.replied }
     {
         let _left = self.parts.counter.left();
         self.halted = true;
@@ -38,6 +39,7 @@ impl<K: Keeper + Drop> Station<K> {
         requires joined { IfSome self.old.memory (λ l. IsSome l.ring) }
         ensures carries { IfSome self.old.memory (λ l. Carries self.old (calls.put_key l index key.now) result nothing self.new) }
         ensures agrees { Agrees self.new }
+        ensures replied { self.new.replied ≡ self.old.replied }
     {
         let _left = self.parts.counter.left();
         self.halted = true;
@@ -59,6 +61,7 @@ impl<K: Keeper + Drop> Station<K> {
         requires held { IfSome self.old.memory (λ l. is_some (ring.key_in_ring l.ring index) ≡ true) }
         ensures carries { IfSome self.old.memory (λ l. Carries self.old (calls.ring_ends (drafts.with_ring (ring.with_active l.ring index) (drafts.empty_draft l))) result nothing self.new) }
         ensures agrees { Agrees self.new }
+        ensures replied { self.new.replied ≡ self.old.replied }
     {
         let _left = self.parts.counter.left();
         self.halted = true;
@@ -79,6 +82,7 @@ impl<K: Keeper + Drop> Station<K> {
         requires index { index ≤ 1 }
         ensures carries { IfSome self.old.memory (λ l. Carries self.old (calls.activate l index) result nothing self.new) }
         ensures agrees { Agrees self.new }
+        ensures replied { self.new.replied ≡ self.old.replied }
     {
         let Some(_) = self.parts.ring.key(index) else {
             return Err(RingFault::NotHeld);
@@ -92,6 +96,7 @@ impl<K: Keeper + Drop> Station<K> {
         requires agrees { Agrees self.old }
         ensures carries { IfSome self.old.memory (λ l. Carries self.old (calls.leave l) result nothing self.new) }
         ensures agrees { Agrees self.new }
+        ensures replied { self.new.replied ≡ self.old.replied }
     {
         let _left = self.parts.counter.left();
         self.halted = true;

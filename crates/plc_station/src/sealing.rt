@@ -56,7 +56,8 @@ pub(crate) fn seal_message(grant: &Grant, counter: u32, to: u16, message: &Messa
     requires target { to ≢ 0xFFFE }
     requires allowed { messages.IsAllowed message.now }
     requires room { length out.old.frames < 24 }
-    ensures { out.new ≡ record out.old {
+    ensures message { messages.IsMessage message.now }
+    ensures sent { out.new ≡ record out.old {
       frames = out.old.frames ++ map (spelled network) (drafts.sealed_by (Some grant.now) counter
           (record { to = to; unit = mesh.Local 1 (messages.spelling message.now); note = 0 } ∷ []));
     } }

@@ -42,6 +42,7 @@ impl<K: Keeper + Drop> Station<K> {
         ensures carries { IfSome self.old.memory (λ l. Carries self.old (drafts.sealing drafts.alone calls.sending_ends
             (drafts.body_goes grant.now.address hop to note (Datagram datagram.now l.next_tag) (calls.tag_taken datagram.now (drafts.empty_draft l))) how.Sent) result out.new self.new) }
         ensures agrees { Agrees self.new }
+        ensures replied { self.new.replied ≡ self.old.replied }
     {
         self.halted = true;
         let Ok(tag) = self.parts.next_tag.take(&mut self.keeper, datagram.len()) else {
@@ -79,6 +80,7 @@ impl<K: Keeper + Drop> Station<K> {
         ensures carries { IfSome self.old.memory (λ l. Carries self.old (drafts.sealing drafts.alone calls.sending_ends
             (drafts.waits to note (Datagram datagram.now l.next_tag) now (calls.tag_taken datagram.now (drafts.empty_draft l))) how.Waiting) result out.new self.new) }
         ensures agrees { Agrees self.new }
+        ensures replied { self.new.replied ≡ self.old.replied }
     {
         self.halted = true;
         let Ok(tag) = self.parts.next_tag.take(&mut self.keeper, datagram.len()) else {
@@ -114,6 +116,7 @@ impl<K: Keeper + Drop> Station<K> {
         ensures carries { IfSome self.old.memory (λ l. Carries self.old (drafts.sealing drafts.alone calls.sending_ends
             (drafts.waits to note (Datagram datagram.now l.next_tag) now (drafts.seeks grant.now.address to (calls.tag_taken datagram.now (drafts.empty_draft l)))) how.Waiting) result out.new self.new) }
         ensures agrees { Agrees self.new }
+        ensures replied { self.new.replied ≡ self.old.replied }
     {
         self.halted = true;
         let Ok(tag) = self.parts.next_tag.take(&mut self.keeper, datagram.len()) else {
@@ -147,6 +150,7 @@ impl<K: Keeper + Drop> Station<K> {
         requires empty { out.old ≡ nothing }
         ensures carries { IfSome self.old.memory (λ l. Carries self.old (calls.send_from l grant.now.address to datagram.now note now) result out.new self.new) }
         ensures agrees { Agrees self.new }
+        ensures replied { self.new.replied ≡ self.old.replied }
     {
         if has_bad_size(datagram) {
             return Err(SendRefusal::BadSize);
@@ -192,6 +196,7 @@ impl<K: Keeper + Drop> Station<K> {
         ensures halted { IfNone self.old.memory ((result ≡ Err SendRefusal.Halted) × (out.new ≡ nothing) × (self.new ≡ self.old)) }
         ensures carries { IfSome self.old.memory (λ l. Carries self.old (calls.send l to datagram.now note now) result out.new self.new) }
         ensures agrees { Agrees self.new }
+        ensures replied { self.new.replied ≡ self.old.replied }
     {
         out.clear();
         if self.halted {

@@ -1,6 +1,7 @@
 //! The station.
 ghost use Rattle.std.specs.Prelude.{◌≡◌, ◌≤◌, ◌++◌, Some, None, Ok, Err, IfSome, IsSome, IfNone, IfOk, IfErr, OnOk, MatchResult, length};
 ghost use Rattle.std.specs.Bool.{MatchBool};
+ghost use Rattle.std.specs.Option.{option_map};
 ghost use Rattle.plc_base.specs.SlotTables.{IsGapless};
 ghost use Rattle.frame_counters.specs.PeerMarks.{peers};
 ghost use Rattle.routing_set.specs.RoutingSet.{ranks};
@@ -15,12 +16,13 @@ ghost use Rattle.node_rules.specs.Carrying.{Carries, nothing};
 ghost use Rattle.node_rules.specs.Agreement.{Agrees};
 ghost use Rattle.plc_station.specs.StationReading.{if_read, read_answer};
 ghost use Rattle.plc_station.specs.OpenFaults.{IsOpenFault};
+ghost use Rattle.plc_station.specs.Heard.{Fits};
 
 use crate::parts::Parts;
 use aes_modes::Aes;
 use frame_counters::PeerFault;
 use mac_frames::{MacHead, RawFrame, open_frame, read_frame};
-use node_rules::{Accepted, FrameRefusal, Path};
+use node_rules::{Accepted, FrameRefusal, Path, Reply};
 use plc_base::{BadStore, Eui, FrameBuf, Keeper, PAN, Short};
 use std::alloc::{AllocError, Global};
 use std::marker::Model;
@@ -43,7 +45,8 @@ pub enum OpenFault {
 
 /// A node on the line, over its keeper. It is halted while it stores, so that a write which fails leaves it halted.
 ///
-/// A contract sees what the keeper holds, the own EUI and, unless it is halted, what it holds on the line.
+/// A contract sees what the keeper holds, the own EUI, unless it is halted what it holds on the line, and the route reply that the
+/// last frame was answered with.
 #[derive(Drop)]
 pub struct Station<K: Keeper + Drop> {
     pub(crate) keeper: K,
@@ -51,6 +54,7 @@ pub struct Station<K: Keeper + Drop> {
     pub(crate) parts: Parts,
     pub(crate) bodies: Bodies,
     pub(crate) halted: bool,
+    pub(crate) replied: Option<Reply>,
 }
 
 impl<K: Keeper + Drop> Model for Station<K> {
@@ -63,7 +67,12 @@ impl<K: Keeper + Drop> Model for Station<K> {
 
     ghost use Rattle.plc_station.specs.StationReading.{station_in};
 
-    ghost view = { λ s. record { store = K.store s.keeper; eui = s.eui; memory = unless_halted s.halted (station_in s.parts s.bodies) } };
+    ghost view = { λ s. record {
+      store = K.store s.keeper;
+      eui = s.eui;
+      memory = unless_halted s.halted (station_in s.parts s.bodies);
+      replied = s.replied;
+    } };
 }
 
 // What the marks say of a counter.
@@ -85,7 +94,12 @@ impl<K: Keeper + Drop> Station<K> {
     ///
     /// Memory, where there is none for it; BadStore, where a record has no reading. The keeper comes back with it.
     pub fn open(alloc: Global, keeper: K, eui: Eui) -> Result<Station<K>, (OpenFault, K)>
-        ensures opened { IfOk result (λ s. s ≡ record { store = K.store keeper; eui = eui; memory = if_read (station_of (K.store keeper).records) }) }
+        ensures opened { IfOk result (λ s. s ≡ record {
+          store = K.store keeper;
+          eui = eui;
+          memory = if_read (station_of (K.store keeper).records);
+          replied = None;
+        }) }
         ensures running { IfOk result (λ s. IsSome s.memory) }
         ensures agrees { IsGapless peers (K.store keeper).records → IsGapless ranks (K.store keeper).records → IfOk result (λ s. Agrees s) }
         ensures refused { IfErr result (λ e. (e.1 ≡ keeper) × IsOpenFault (station_of (K.store keeper).records) e.0) }
@@ -101,6 +115,7 @@ impl<K: Keeper + Drop> Station<K> {
                 parts,
                 bodies,
                 halted: false,
+                replied: None,
             }),
         }
     }
@@ -125,6 +140,15 @@ impl<K: Keeper + Drop> Station<K> {
         ensures { self.new ≡ record self.old { memory = None } }
     {
         self.halted = true;
+    }
+
+    /// The neighbour, the number and the origin of the route reply that the last `hear` sent. None where that one sent none, and
+    /// where there was no `hear` since the station was opened or restarted.
+    pub fn last_reply(&self) -> Option<(Short, u16, Short)>
+        ensures reply { result ≡ option_map (λ r. (r.to, r.number, r.origin)) self.now.replied }
+    {
+        let reply = self.replied?;
+        Some((reply.to, reply.number, reply.origin))
     }
 
     // Whether an address is the own one.
@@ -165,6 +189,8 @@ impl<K: Keeper + Drop> Station<K> {
         requires agrees { Agrees self.old }
         ensures carries { IfSome self.old.memory (λ l. Carries self.old (accepting.admit l from counter accepted) result nothing self.new) }
         ensures agrees { Agrees self.new }
+        ensures replied { self.new.replied ≡ self.old.replied }
+        ensures same { IfOk result (λ got. got ≡ accepted) }
     {
         if let Err(fault) = self.parts.marks.room(from, counter) {
             return Err(mark_refusal(fault));
@@ -195,6 +221,8 @@ impl<K: Keeper + Drop> Station<K> {
             (accepting.with_key l (arrived_with network raw.now.head raw.now.header.now raw.now.body.now) to from counter (ring.key_in_ring l.ring index))
             result nothing self.new) }
         ensures agrees { Agrees self.new }
+        ensures replied { self.new.replied ≡ self.old.replied }
+        ensures fits { IfOk result (λ got. Fits got) }
     {
         let Some(key) = self.parts.ring.key(index) else {
             return Err(FrameRefusal::NoKey);
@@ -219,6 +247,8 @@ impl<K: Keeper + Drop> Station<K> {
         ensures carries { IfSome self.old.memory (λ l. Carries self.old
             (accepting.accept l self.old.eui (Some (arrived_with network raw.now.head raw.now.header.now raw.now.body.now))) result nothing self.new) }
         ensures agrees { Agrees self.new }
+        ensures replied { self.new.replied ≡ self.old.replied }
+        ensures fits { IfOk result (λ got. Fits got) }
     {
         if !self.is_for_me(&raw.head) {
             return Err(FrameRefusal::NotForMe);
@@ -250,6 +280,8 @@ impl<K: Keeper + Drop> Station<K> {
         ensures halted { IfNone self.old.memory ((result ≡ Err FrameRefusal.Halted) × (self.new ≡ self.old)) }
         ensures carries { IfSome self.old.memory (λ l. Carries self.old (accepting.accept l self.old.eui (arrived network octets.now)) result nothing self.new) }
         ensures agrees { Agrees self.new }
+        ensures replied { self.new.replied ≡ self.old.replied }
+        ensures fits { IfOk result (λ got. Fits got) }
     {
         if self.halted {
             return Err(FrameRefusal::Halted);
@@ -260,13 +292,16 @@ impl<K: Keeper + Drop> Station<K> {
         }
     }
 
-    /// Forgets everything but the store, and ends a halt. After BadStore it is halted.
+    /// Forgets everything but the store, and ends a halt. After BadStore it is halted. A station that ran and agreed with its keeper
+    /// agrees with it again.
     pub fn restart(&mut self) -> Result<(), BadStore>
         ensures answer { result ≡ read_answer (station_of self.old.store.records) }
-        ensures state { self.new ≡ record self.old { memory = if_read (station_of self.old.store.records) } }
+        ensures state { self.new ≡ record self.old { memory = if_read (station_of self.old.store.records); replied = None } }
         ensures agrees { IsGapless peers self.old.store.records → IsGapless ranks self.old.store.records → Agrees self.new }
+        ensures again { IsSome self.old.memory → Agrees self.old → Agrees self.new }
     {
         self.halted = true;
+        self.replied = None;
         self.bodies.clear();
         self.parts = Parts::open(&self.keeper)?;
         self.halted = false;

@@ -6,8 +6,8 @@ use Rattle.waiting_bodies.specs.Frames.{unit_frame, with_frames}
 use Rattle.plc_station.proofs.Sealed.{one_sent}
 use Rattle.plc_station.proofs.sealing.seal_message.Goals as goal
 
-pub returns : goal.returns
-returns c =
+pub returns-clause-sent : goal.returns-clause-sent
+returns-clause-sent c =
     c.seal.ensures
     ∙ ap (λ (body : List _). with_frames (c.args.out.now.frames ++ unit_frame c.args.grant.now c.sealing_key-key.result c.args.counter (record { to = c.args.to; unit = Local 1 body; note = 0 }) ∷ []) c.args.out.now) (c.write_message.ensures.spelled ∙ ap (λ (os : List _). os ++ messages.spelling c.args.message.now) c.new-body.ensures)
     ∙ ap (λ (frames : List OutFrame). with_frames (c.args.out.now.frames ++ frames) c.args.out.now) (one_sent c.args.grant.now c.sealing_key-key.result c.args.counter (record { to = c.args.to; unit = Local 1 (messages.spelling c.args.message.now); note = 0 }) c.sealing_key-key.ensures)

@@ -21,6 +21,7 @@ use Rattle.std.specs.Prelude.{IfSome}
 use Rattle.node_rules.specs.States.{unless_halted}
 use Rattle.plc_station.proofs.Agreeing.{agrees_counted, agrees_ranked, agrees_holding}
 use Rattle.plc_station.proofs.Ending.{ended, stopped, uncounted}
+use Rattle.plc_station.proofs.Replying.{passed_told}
 use Rattle.waiting_bodies.proofs.Letters.{length-frames}
 use Rattle.plc_station.proofs.Sealed.{sealed_then}
 use Rattle.plc_station.proofs.station.Station.pass_on.Goals as goal
@@ -53,7 +54,7 @@ unfolding goes leave with_own_number with_rank empty_draft leaving
 returns-clause-carries g c =
     let count : c.units_for-units.result + 1 ≡ length (tells c.args.hop (Rrep c.args.rank.number c.args.rank.cost c.args.origin c.args.to) (offers c.args.grant.now.address c.args.origin c.args.rank c.args.by c.args.now (station_in c.self.inside.parts c.self.inside.bodies))).units = omega (arith, c.units_for-units.ensures.units c.args.grant.now.address c.args.by, length-append (leaving c.args.grant.now.address c.args.origin c.args.by c.self.inside.bodies.waiting) ((record { to = c.args.hop; unit = Local 1 (messages.spelling (Rrep c.args.rank.number c.args.rank.cost c.args.origin c.args.to)); note = 0 }) ∷ [])) in
     rw (← c.self.view_is) (on_memory c.self.inside.halted _ _ (λ running. ended dropped _ _ (tells c.args.hop (Rrep c.args.rank.number c.args.rank.cost c.args.origin c.args.to) (offers c.args.grant.now.address c.args.origin c.args.rank c.args.by c.args.now (station_in c.self.inside.parts c.self.inside.bodies))) (tells c.args.hop (Rrep c.args.rank.number c.args.rank.cost c.args.origin c.args.to) (offers c.args.grant.now.address c.args.origin c.args.rank c.args.by c.args.now (station_in c.self.inside.parts c.self.inside.bodies))) tt _ _ _ refl c.in-Ok.ensures.store count c.in-Ok-reserve.ensures.store
-    (c.seal_message.ensures
+    (c.seal_message.ensures.sent
     ∙ (λ i. record {
       frames = (c.seal_leaving.ensures i).frames ++ map (spelled network) (sealed_by (Some c.args.grant.now) (c.in-Ok-reserve.first + c.units_for-units.ensures.units c.args.grant.now.address c.args.by i) (record { to = c.number.ensures.value i; unit = Local 1 (messages.spelling (Rrep c.args.rank.number c.args.rank.cost c.args.origin c.args.to)); note = 0 } ∷ []));
       tags = (c.seal_leaving.ensures i).tags;
@@ -73,3 +74,14 @@ returns-clause-agrees g c =
     agrees_holding _ c.self.inside.bodies c.drop_for.new.self _
     (agrees_counted _ _ _ _ (agrees_ranked (station_in c.self.inside.parts c.self.inside.bodies) _ _ _ (of_some _ _ _ running before) c.in-Ok.ensures.kept c.in-Ok.ensures.elsewhere)
     c.in-Ok-reserve.ensures.kept c.in-Ok-reserve.ensures.elsewhere)
+
+pub returns-in_default-clause-replied : goal.returns-in_default-clause-replied
+returns-in_default-clause-replied g c = rw (← c.self.view_is) (on_memory c.self.inside.halted _ _ (λ running. rw (← c.self.view_is) at c.requires.fresh))
+
+pub returns-in_default-reserve-clause-replied : goal.returns-in_default-reserve-clause-replied
+returns-in_default-reserve-clause-replied g c = rw (← c.self.view_is) (on_memory c.self.inside.halted _ _ (λ running. rw (← c.self.view_is) at c.requires.fresh))
+
+pub returns-clause-replied : goal.returns-clause-replied
+returns-clause-replied g c =
+    rw (← c.self.view_is) (on_memory c.self.inside.halted _ _ (λ running. sym (passed_told (station_in c.self.inside.parts c.self.inside.bodies) c.args.grant.now c.sealing_key-key.result c.args.grant.now.address c.args.by c.args.hop c.args.origin c.args.to c.args.rank c.args.now
+    (at_some c.args.self.now.memory (λ l. l.ring ≡ Some c.args.grant.now) (station_in c.self.inside.parts c.self.inside.bodies) (ap (λ (s : State StationMemory). s.memory) (sym c.self.view_is) ∙ running) c.requires.ring) c.sealing_key-key.ensures c.seal_message.ensures.message)))

@@ -8,6 +8,7 @@ use Rattle.waiting_bodies.specs.Bodies.{Held}
 use Rattle.plc_station.specs.StationReading.{station_in}
 use Rattle.node_rules.specs.Agreement.{AgreesWith}
 use Rattle.node_rules.specs.States.{State}
+use Rattle.plc_station.proofs.Agreeing.{gapless_kept}
 use Rattle.plc_station.proofs.station.Station.restart.Goals as goal
 
 pub returns-clause-agrees : goal.returns-clause-agrees
@@ -15,3 +16,8 @@ returns-clause-agrees g c = λ m r.
     let same : c.args.self.now.store.records ≡ (g.K.Keeper.store c.self.inside.keeper).records = sym (ap (λ (s : State StationMemory). s.store.records) c.self.view_is) in
     subst (λ (h : Held). AgreesWith (station_in c.in_ok-self-inside.field-0 h) (g.K.Keeper.store c.self.inside.keeper).records) (sym c.clear.ensures)
     (c.in_ok-self-inside.ensures.agrees (subst (λ (k : Records). IsGapless peers k) same m) (subst (λ (k : Records). IsGapless ranks k) same r))
+
+pub returns-clause-again : goal.returns-clause-again
+returns-clause-again g c = λ running before.
+    let gapless = gapless_kept c.args.self.now running before in
+    returns-clause-agrees g c gapless.0 gapless.1

@@ -53,7 +53,7 @@ unfolding goes leave with_own_number with_rank empty_draft leaving
 returns-clause-carries g c =
     let count : c.units_for-units.result + 1 ≡ length (tells 0xFFFF (Rreq c.args.rank.number c.args.rank.cost c.args.origin c.args.dest) (offers c.args.grant.now.address c.args.origin c.args.rank c.args.by c.args.now (station_in c.self.inside.parts c.self.inside.bodies))).units = omega (arith, c.units_for-units.ensures.units c.args.grant.now.address c.args.by, length-append (leaving c.args.grant.now.address c.args.origin c.args.by c.self.inside.bodies.waiting) ((record { to = 0xFFFF; unit = Local 1 (messages.spelling (Rreq c.args.rank.number c.args.rank.cost c.args.origin c.args.dest)); note = 0 }) ∷ [])) in
     rw (← c.self.view_is) (on_memory c.self.inside.halted _ _ (λ running. ended dropped _ _ (tells 0xFFFF (Rreq c.args.rank.number c.args.rank.cost c.args.origin c.args.dest) (offers c.args.grant.now.address c.args.origin c.args.rank c.args.by c.args.now (station_in c.self.inside.parts c.self.inside.bodies))) (tells 0xFFFF (Rreq c.args.rank.number c.args.rank.cost c.args.origin c.args.dest) (offers c.args.grant.now.address c.args.origin c.args.rank c.args.by c.args.now (station_in c.self.inside.parts c.self.inside.bodies))) tt _ _ _ refl c.in-Ok.ensures.store count c.in-Ok-reserve.ensures.store
-    (c.seal_message.ensures
+    (c.seal_message.ensures.sent
     ∙ (λ i. record {
       frames = (c.seal_leaving.ensures i).frames ++ map (spelled network) (sealed_by (Some c.args.grant.now) (c.in-Ok-reserve.first + c.units_for-units.ensures.units c.args.grant.now.address c.args.by i) (record { to = 0xFFFF; unit = Local 1 (messages.spelling (Rreq c.args.rank.number c.args.rank.cost c.args.origin c.args.dest)); note = 0 } ∷ []));
       tags = (c.seal_leaving.ensures i).tags;
