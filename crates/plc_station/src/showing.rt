@@ -12,7 +12,7 @@ use crate::station::Station;
 use frame_counters::PeerMarks;
 use group_keys::KeyRing;
 use node_rules::{Shown, ShownPeer, ShownPeers, ShownRoute, ShownRoutes};
-use plc_base::{Keeper, Short};
+use plc_base::{Eui, Keeper, Short};
 use routing_set::RoutingSet;
 
 // The next hop of the valid route to an address, as a number.
@@ -112,6 +112,13 @@ impl<K: Keeper + Drop> Station<K> {
         show_routes(&self.parts.routing, &mut out.routes);
         out.floors = self.parts.routing.floors();
         show_peers(&self.parts.marks, &mut out.peers);
+    }
+
+    /// Its own identity.
+    pub fn eui(&self) -> Eui
+        ensures { result ≡ self.now.eui }
+    {
+        self.eui
     }
 
     /// Its ring. That of a halted one says nothing.

@@ -1,0 +1,53 @@
+-- A meter's session, as the rules have it.
+use Rattle.std.specs.Prelude.{◌≡◌, ℕ, List, Option, Some, None, refl}
+use Rattle.std.specs.Coded.{Coded, code_by, coded×, coded_ℕ, coded_list, coded_option}
+use Rattle.plc_base.specs.declared.key.Rand.{Rand}
+use Rattle.plc_base.specs.declared.key.Key.{Key}
+use Rattle.eap_psk.specs.declared.peer.Peer.{Peer}
+use Rattle.node_rules.specs.Memory as memory
+use Rattle.meter_node.specs.declared.session.Course.{Course}
+use Rattle.meter_node.specs.declared.session.Course.TheVariants.{ByAgent, ByCommand}
+use Rattle.meter_node.specs.declared.session.Session.{Session}
+
+-- the course of a session
+abbrev pub course_of : Course → memory.Course
+course_of (ByAgent agent) = memory.ByAgent agent
+course_of ByCommand = memory.ByCommand
+
+abbrev pub session_of : Session → memory.MeterSession
+session_of s = record { course = course_of s.course; peer = s.peer; since = s.since }
+
+-- # How they are kept as values
+
+-- a course is kept as its agent, if it has one
+abbrev pub agent_of : memory.Course → Option ℕ
+agent_of (memory.ByAgent agent) = Some agent
+agent_of memory.ByCommand = None
+
+abbrev pub course_by : Option ℕ → memory.Course
+course_by (Some agent) = memory.ByAgent agent
+course_by None = memory.ByCommand
+
+pub course_back : (c : memory.Course) → course_by (agent_of c) ≡ c
+course_back (memory.ByAgent agent) = refl
+course_back memory.ByCommand = refl
+
+abbrev pub course_code : Coded memory.Course
+course_code = code_by (Option ℕ) (coded_option coded_ℕ) agent_of course_by (λ c. course_back c)
+
+abbrev pub peer_code : Coded Peer
+peer_code =
+    code_by (List ℕ × (List ℕ × (List ℕ × List ℕ))) (coded× (coded_list coded_ℕ) (coded× (coded_list coded_ℕ) (coded× (coded_list coded_ℕ) (coded_list coded_ℕ))))
+    (λ p. (p.eui.0, (p.id_s.0, (p.rand_s.0, p.rand_p.0))))
+    (λ t. record { eui = record { 0 = t.0 }; id_s = record { 0 = t.1.0 }; rand_s = record { 0 = t.1.1.0 }; rand_p = record { 0 = t.1.1.1 } }) (λ _. refl)
+
+abbrev pub session_code : Coded memory.MeterSession
+session_code =
+    code_by (memory.Course × (Option Peer × ℕ)) (coded× course_code (coded× (coded_option peer_code) coded_ℕ)) (λ s. (s.course, (s.peer, s.since)))
+    (λ t. record { course = t.0; peer = t.1.0; since = t.1.1 }) (λ _. refl)
+
+abbrev pub rand_code : Coded Rand
+rand_code = code_by (List ℕ) (coded_list coded_ℕ) (λ r. r.0) (λ xs. record { 0 = xs }) (λ _. refl)
+
+abbrev pub key_code : Coded Key
+key_code = code_by (List ℕ) (coded_list coded_ℕ) (λ r. r.0) (λ xs. record { 0 = xs }) (λ _. refl)

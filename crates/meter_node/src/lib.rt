@@ -1,0 +1,14 @@
+//! A meter: a station that joins a network, carries the joining messages of its neighbours, and leaves.
+//!
+//! Each call carries out its rule of `node_rules`, whatever its keeper does. What a meter makes of a frame that it hears is not here
+//! yet.
+#![tactic(auto)]
+
+mod joining;
+mod meter;
+mod pair_key;
+mod session;
+#[cfg(test)]
+mod tests;
+
+pub use meter::Meter;

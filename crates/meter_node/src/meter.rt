@@ -1,0 +1,130 @@
+//! The meter.
+ghost use Rattle.std.specs.Prelude.{◌≡◌, Some, None, Ok, Err, IfSome, IsSome, IfNone, IfOk, IfErr};
+ghost use Rattle.std.specs.Result.{result_ok};
+ghost use Rattle.std.specs.Option.{option_map, option_and_then};
+ghost use Rattle.plc_base.specs.SlotTables.{IsGapless};
+ghost use Rattle.frame_counters.specs.PeerMarks.{peers};
+ghost use Rattle.routing_set.specs.RoutingSet.{ranks};
+ghost use Rattle.node_rules.specs.Memory as memory;
+ghost use Rattle.node_rules.specs.Meters as meters;
+ghost use Rattle.node_rules.specs.StoreReading.{memory_of};
+ghost use Rattle.node_rules.specs.Agreement.{Agrees};
+ghost use Rattle.meter_node.specs.MeterStates.{node_of};
+ghost use Rattle.meter_node.specs.Sessions.{session_of};
+ghost use Rattle.meter_node.specs.Reading.{read_answer, IsOpenFault};
+
+use crate::pair_key::PairKey;
+use crate::session::Session;
+use joining_base::RandomValues;
+use plc_base::{BadStore, Eui, Keeper, Key, Short, is_within};
+use plc_station::{OpenFault, Station};
+use std::alloc::Global;
+use std::marker::Model;
+
+/// A meter, over its keeper.
+///
+/// A contract sees its station, the pair key, the random values and the session; `node_of` is the same as a node.
+#[derive(Drop)]
+pub struct Meter<K: Keeper + Drop> {
+    pub(crate) station: Station<K>,
+    pub(crate) pair_key: PairKey,
+    pub(crate) randoms: RandomValues,
+    pub(crate) session: Option<Session>,
+}
+
+impl<K: Keeper + Drop> Model for Meter<K> {
+    ghost use Rattle.std.specs.Option.{option_map};
+    ghost use Rattle.meter_node.specs.Sessions.{session_of};
+    ghost use Rattle.meter_node.specs.MeterStates.{MeterState, meter_code};
+
+    ghost Value = { MeterState };
+
+    ghost coded = { meter_code };
+
+    ghost view = { λ m. record { station = m.station; psk = m.pair_key; randoms = m.randoms; session = option_map session_of m.session } };
+}
+
+impl<K: Keeper + Drop> Meter<K> {
+    ghost use Rattle.std.specs.Borrow.{Lends, sem};
+    ghost use Rattle.meter_node.specs.contracts.meter.Meter.{the_row};
+    ghost use Rattle.plc_station.specs.contracts.station.Station.{the_row as station_row};
+
+    /// A meter over what its keeper holds, not halted, without a random value and a session. Its memory is taken here, and only here.
+    ///
+    /// Memory, where there is none for it; BadStore, where a record has no reading. The keeper comes back with it.
+    pub fn open(alloc: Global, keeper: K, eui: Eui, psk: Key) -> Result<Meter<K>, (OpenFault, K)>
+        ensures opened { IfOk result (λ m. (m.station.store ≡ K.store keeper) × (m.station.eui ≡ eui) × (m.psk ≡ psk)
+            × ((node_of m).memory ≡ result_ok (memory_of (memory.Meter psk) (K.store keeper).records))) }
+        ensures running { IfOk result (λ m. IsSome m.station.memory) }
+        ensures agrees { IsGapless peers (K.store keeper).records → IsGapless ranks (K.store keeper).records → IfOk result (λ m. Agrees m.station) }
+        ensures refused { IfErr result (λ e. (e.1 ≡ keeper) × IsOpenFault (memory_of (memory.Meter psk) (K.store keeper).records) e.0) }
+    {
+        match Station::open(alloc, keeper, eui) {
+            Ok(station) => Ok(Meter {
+                station,
+                pair_key: PairKey::new(psk),
+                randoms: RandomValues::new(),
+                session: None,
+            }),
+            Err(fault) => Err(fault),
+        }
+    }
+
+    /// Lends the station, to accept frames, to send, and for what breaks and is set at it. What the meter keeps beside it stays.
+    pub fn station(&mut self) -> &mut Station<K>
+        ensures* lends { sem 𝓛 (Lends (the_row K.row K.Keeper) (station_row K.row K.Keeper) self.entry result (λ w. record self.entry.now { station = w })) }
+        ensures value { result.now ≡ self.old.station }
+    {
+        &mut self.station
+    }
+
+    /// Its short address, None where it is halted or not joined.
+    pub fn address(&self) -> Option<Short>
+        ensures { result ≡ option_and_then memory.address_of self.now.station.memory }
+    {
+        if self.station.halted() {
+            return None;
+        }
+        self.station.ring().joined()
+    }
+
+    /// Ends what is old at a time in seconds: what its station ends, and a session after 120. A halted meter stays as it is.
+    pub fn tick(&mut self, now: u64)
+        requires agrees { Agrees self.old.station }
+        ensures halted { IfNone self.old.station.memory (self.new ≡ self.old) }
+        ensures state { node_of self.new ≡ record (node_of self.old) { memory = option_map (meters.tick now) (node_of self.old).memory } }
+        ensures psk { self.new.psk ≡ self.old.psk }
+        ensures agrees { Agrees self.new.station }
+    {
+        if self.station.halted() {
+            return;
+        }
+        self.station.tick(now);
+        self.session = session_within(now, self.session);
+    }
+
+    /// Forgets everything but the store, its random values and its session too, and ends a halt. After BadStore it is halted.
+    pub fn restart(&mut self) -> Result<(), BadStore>
+        ensures answer { result ≡ read_answer (memory_of (memory.Meter self.old.psk) self.old.station.store.records) }
+        ensures memory { (node_of self.new).memory ≡ result_ok (memory_of (memory.Meter self.old.psk) self.old.station.store.records) }
+        ensures store { self.new.station.store ≡ self.old.station.store }
+        ensures eui { self.new.station.eui ≡ self.old.station.eui }
+        ensures psk { self.new.psk ≡ self.old.psk }
+        ensures agrees { IsGapless peers self.old.station.store.records → IsGapless ranks self.old.station.store.records → Agrees self.new.station }
+    {
+        self.randoms.clear();
+        self.session = None;
+        self.station.restart()
+    }
+}
+
+// The session that is left at a time: one that began 120 seconds ago ends.
+fn session_within(now: u64, session: Option<Session>) -> Option<Session>
+    ensures { option_map session_of result ≡ option_and_then (meters.session_within now) (option_map session_of session) }
+{
+    let session = session?;
+    if is_within(120, now, session.since) {
+        return Some(session);
+    }
+    None
+}
