@@ -36,7 +36,8 @@ fn goes_down(body: &JoinBody) -> bool
 /// NotRelayed exactly where the message is no JOIN; `out` is then empty.
 pub fn relay_up(message: &JoinMessage, out: &mut FrameBuf) -> Result<(), NotRelayed>
     requires { IsMessage message.now }
-    ensures carried { MatchResult result (λ _. goes_up message.now.body ≡ true) (λ _. goes_up message.now.body ≡ false) }
+    ensures carried { MatchResult result (λ _. goes_up message.now.body ≡ true)
+        (λ _. goes_up message.now.body ≡ false) }
     ensures command { OnOk result (out.new ≡ command_up message.now) }
     ensures empty { OnErr result (out.new ≡ []) }
 {
@@ -55,7 +56,8 @@ pub fn relay_up(message: &JoinMessage, out: &mut FrameBuf) -> Result<(), NotRela
 /// NotRelayed exactly where the message is none of the three; `out` is then empty.
 pub fn relay_down(message: &JoinMessage, agent: Short, out: &mut FrameBuf) -> Result<(), NotRelayed>
     requires { IsMessage message.now }
-    ensures carried { MatchResult result (λ _. goes_down message.now.body ≡ true) (λ _. goes_down message.now.body ≡ false) }
+    ensures carried { MatchResult result (λ _. goes_down message.now.body ≡ true)
+        (λ _. goes_down message.now.body ≡ false) }
     ensures frame { OnOk result (out.new ≡ frame_down message.now agent) }
     ensures empty { OnErr result (out.new ≡ []) }
 {

@@ -12,13 +12,17 @@ run_of first (suc more) = (first + more) ∷ run_of first more
 -- What was given out, the last first, since some opening; the counter, none where a put failed and it was not opened again;
 -- and the records.
 pub data Gives : List ℕ → Option Counting → Records → Type 0 where
-  begins : (counting : Counting) (records : Records) → opened records ≡ Ok counting → counting.limit < 2 ^ 32 → Gives [] (Some counting) records
-  reserves : (given : List ℕ) (counting : Counting) (count : ℕ) (old new : Store) → Gives given (Some counting) old.records
+  begins : (counting : Counting) (records : Records) → opened records ≡ Ok counting → counting.limit < 2 ^ 32
+      → Gives [] (Some counting) records
+  reserves : (given : List ℕ) (counting : Counting) (count : ℕ) (old new : Store)
+      → Gives given (Some counting) old.records
       → count ≤ 1024 → counting.next + count ≤ 4294967295 → Stores old (reserve_write counting count) true new
       → Gives (run_of counting.next count ++ given) (Some (reserved counting count)) new.records
   fails : (given : List ℕ) (counting : Counting) (count : ℕ) (old new : Store) → Gives given (Some counting) old.records
-      → count ≤ 1024 → counting.next + count ≤ 4294967295 → Stores old (reserve_write counting count) false new → Gives given None new.records
-  restarts : (given : List ℕ) (was : Option Counting) (counting : Counting) (records : Records) → Gives given was records
+      → count ≤ 1024 → counting.next + count ≤ 4294967295 → Stores old (reserve_write counting count) false new
+      → Gives given None new.records
+  restarts : (given : List ℕ) (was : Option Counting) (counting : Counting) (records : Records)
+      → Gives given was records
       → opened records ≡ Ok counting → Gives given (Some counting) records
   elsewhere : (given : List ℕ) (was : Option Counting) (old new : Records) → Gives given was old
       → get new limit_slot ≡ get old limit_slot → Gives given was new

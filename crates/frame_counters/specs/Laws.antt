@@ -39,5 +39,6 @@ pub record AreMarksIn (table : marks.Table) (records : Records) : Type 0 where
 -- Whatever becomes of the put for an admitted counter, some marks are what the records give.
 abbrev pub AdmissionsLead : Type 0
 AdmissionsLead =
-    (table : marks.Table) (from counter : ℕ) → marks.room_for table from counter ≡ Ok tt → from < 0xFFFE → counter < 2 ^ 32
+    (table : marks.Table) (from counter : ℕ) → marks.room_for table from counter ≡ Ok tt
+    → from < 0xFFFE → counter < 2 ^ 32
     → PutsLead AreMarksIn table (puts_of (marks.keep_write table from counter)) (marks.kept_after table from counter)

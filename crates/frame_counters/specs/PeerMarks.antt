@@ -21,7 +21,10 @@ table_code =
 
 -- the sender of an address and a mark, which is the stored one
 abbrev pub peer_of : ℕ → ℕ → Option Peer
-peer_of address stored = if nat_lt address 0xFFFE then Some (record { address = address; mark = stored; stored = stored }) else None
+peer_of address stored =
+    if nat_lt address 0xFFFE
+    then Some (record { address = address; mark = stored; stored = stored })
+    else None
 
 -- the sender that a record gives: an address in 2 octets and the stored mark in 4
 abbrev pub peer_in : List ℕ → Option Peer
@@ -79,13 +82,16 @@ peer_ahead from counter = record { address = from; mark = counter; stored = min 
 
 -- the sender at a place with a higher mark
 abbrev pub advanced : Peer → ℕ → ℕ → Peer
-advanced peer from counter = if nat_le counter peer.stored then record peer { mark = counter } else peer_ahead from counter
+advanced peer from counter =
+    if nat_le counter peer.stored then record peer { mark = counter } else peer_ahead from counter
 
 -- what is stored before a counter is kept: nothing, where it is not above the stored mark
 abbrev pub keep_write : Table → ℕ → ℕ → Option Write
 keep_write table from counter =
     option_map_or
-    (λ place. if nat_le counter (peer_at table place).stored then None else Some (slots.entry_write peers place (peer_ahead from counter)))
+    (λ place. if nat_le counter (peer_at table place).stored
+    then None
+    else Some (slots.entry_write peers place (peer_ahead from counter)))
     (place_of table from) (Some (slots.entry_write peers (length table) (peer_ahead from counter)))
 
 -- the table after a counter was kept
@@ -111,7 +117,8 @@ abbrev pub admit_write : Table → ℕ → ℕ → Option Write
 admit_write table from counter = where_room (room_for table from counter) (keep_write table from counter) None
 
 abbrev pub admit_after : Table → ℕ → ℕ → Bool → Table
-admit_after table from counter done = where_room (room_for table from counter) (if done then kept_after table from counter else table) table
+admit_after table from counter done =
+    where_room (room_for table from counter) (if done then kept_after table from counter else table) table
 
 -- whether no put of an `admit` failed
 abbrev pub is_stored : Result (Unit {0}) PeerFault → Bool
@@ -124,10 +131,14 @@ is_stored (Err Store) = false
 pub peer_in-rests : (octets : List ℕ) (peer : Peer) → peer_in octets ≡ Some peer → at_rest peer ≡ peer
 peer_in-rests octets peer e = by_length (length octets == 6) e
   where
-    by_address : (b : Bool) (address stored : ℕ) → (if b then Some (record { address = address; mark = stored; stored = stored }) else None) ≡ Some peer → at_rest peer ≡ peer
+    by_address : (b : Bool) (address stored : ℕ)
+        → (if b then Some (record { address = address; mark = stored; stored = stored }) else None) ≡ Some peer
+        → at_rest peer ≡ peer
     by_address true address stored h = cc
     by_address false address stored h = cc
 
-    by_length : (b : Bool) → (if b then peer_of (big_number 2 octets) (big_number 4 (drop 2 octets)) else None) ≡ Some peer → at_rest peer ≡ peer
+    by_length : (b : Bool)
+        → (if b then peer_of (big_number 2 octets) (big_number 4 (drop 2 octets)) else None) ≡ Some peer
+        → at_rest peer ≡ peer
     by_length true h = by_address _ _ _ h
     by_length false h = cc

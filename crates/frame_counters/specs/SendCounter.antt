@@ -16,7 +16,9 @@ pub record Counting : Type 0 where
 
 -- a counter's value is kept as the pair of its fields
 abbrev pub counting_code : Coded Counting
-counting_code = code_by (ℕ × ℕ) (coded× coded_ℕ coded_ℕ) (λ c. (c.limit, c.next)) (λ p. record { limit = p.0; next = p.1 }) (λ _. refl)
+counting_code =
+    code_by (ℕ × ℕ) (coded× coded_ℕ coded_ℕ)
+    (λ c. (c.limit, c.next)) (λ p. record { limit = p.0; next = p.1 }) (λ _. refl)
 
 -- where the limit is stored: 4 octets at slot 2, 0 where none is there
 abbrev pub limit_at : NumberSlot

@@ -131,10 +131,11 @@ impl PeerMarks {
         self.table.as_slice()
     }
 
-    /// The senders that are held, in ascending order.
+    /// The senders that are held, in ascending order: no two of one address.
     pub fn senders(&self) -> ArrayVec<Short, 64>
         ensures sorted { IsSorted nat_cmp result.items }
         ensures same { IsPermutation (map (λ peer. peer.address) self.now) result.items }
+        ensures table { IsTable peers self.now }
     {
         let mut senders = ArrayVec::new();
         for peer in self.table.as_slice() {
@@ -172,7 +173,8 @@ impl PeerMarks {
         requires kept { IsKept self.old (K.store keeper.old).records }
         ensures table { OnOk result (self.new ≡ kept_after self.old from counter) }
         ensures same { OnErr result (self.new ≡ self.old) }
-        ensures store { Stores (K.store keeper.old) (keep_write self.old from counter) (is_ok result) (K.store keeper.new) }
+        ensures store { Stores (K.store keeper.old) (keep_write self.old from counter) (is_ok result)
+            (K.store keeper.new) }
         ensures kept { OnOk result (IsKept self.new (K.store keeper.new).records) }
         // Whatever became of the put, the records are those of the marks before or of those after.
         ensures either { IsOldOrNew IsKept self.old (kept_after self.old from counter) (K.store keeper.new).records }
@@ -215,7 +217,8 @@ impl PeerMarks {
         ensures fresh { (before : List Admitted) → Admits before (Some self.old) (K.store keeper.old).records
             → OnOk result (AllEarlier from counter before) }
         ensures table { self.new ≡ admit_after self.old from counter (is_stored result) }
-        ensures store { Stores (K.store keeper.old) (admit_write self.old from counter) (is_stored result) (K.store keeper.new) }
+        ensures store { Stores (K.store keeper.old) (admit_write self.old from counter) (is_stored result)
+            (K.store keeper.new) }
         ensures kept { OnTrue (is_stored result) (IsKept self.new (K.store keeper.new).records) }
         ensures either { IsOldOrNew IsKept self.old (kept_after self.old from counter) (K.store keeper.new).records }
         ensures elsewhere { OutsideStays 0x0100 0x013F (K.store keeper.old) (K.store keeper.new) }

@@ -126,7 +126,8 @@ impl SendCounter {
         ensures same { OnErr result (self.new ≡ self.old) }
         ensures store { Stores (K.store keeper.old) (limit_write value) (is_ok result) (K.store keeper.new) }
         ensures kept { OnOk result (IsKept self.new (K.store keeper.new).records) }
-        ensures either { IsOldLimitOrKept (counting_at value) (K.store keeper.old).records (K.store keeper.new).records }
+        ensures either { IsOldLimitOrKept (counting_at value) (K.store keeper.old).records
+            (K.store keeper.new).records }
         ensures elsewhere { OutsideStays 2 2 (K.store keeper.old) (K.store keeper.new) }
     {
         LIMIT.store(keeper, value)?;
@@ -144,7 +145,8 @@ impl SendCounter {
         ensures same { OnErr result (self.new ≡ self.old) }
         ensures store { Stores (K.store keeper.old) (limit_write value) (is_ok result) (K.store keeper.new) }
         ensures kept { OnOk result (IsKept self.new (K.store keeper.new).records) }
-        ensures either { IsOldLimitOrKept (counting_at value) (K.store keeper.old).records (K.store keeper.new).records }
+        ensures either { IsOldLimitOrKept (counting_at value) (K.store keeper.old).records
+            (K.store keeper.new).records }
         ensures elsewhere { OutsideStays 2 2 (K.store keeper.old) (K.store keeper.new) }
     {
         self.set_limit(keeper, value)

@@ -1,8 +1,9 @@
 //! Tables: which records have a reading, the ends of the ranges, and each put of each call cut.
-mod holder;
+ghost use Rattle.std.specs.Prelude.{◌≡◌, IfOk};
+ghost use Rattle.std.specs.FinMap as map;
+ghost use Rattle.frame_counters.specs.PeerMarks.{IsKept};
 
 use crate::{CounterFault, PeerFault, PeerMarks, SendCounter};
-use holder::{Holder, Refusal};
 use plc_base::{Keeper, MemKeeper, Record, Short};
 use std::test::Fail;
 
@@ -73,45 +74,65 @@ fn a_table_ends_at_the_first_empty_slot(rt: HostRuntime) -> Result<(), Fail> {
     Ok(())
 }
 
+// The marks of a new node.
+fn first_marks(keeper: &MemKeeper) -> Result<PeerMarks, Fail>
+    requires empty { keeper.now.records ≡ map.empty }
+    ensures kept { IfOk result (λ marks. IsKept marks keeper.now.records) }
+{
+    Ok(PeerMarks::open(keeper)?)
+}
+
+// The marks that a new start finds.
+#[tactic(auto, using(plc_base::proofs::Opening::stored_gapless))]
+fn restarted(before: PeerMarks, keeper: &MemKeeper) -> Result<PeerMarks, Fail>
+    requires kept { IsKept before keeper.now.records }
+    ensures kept { IfOk result (λ marks. IsKept marks keeper.now.records) }
+{
+    drop(before);
+    Ok(PeerMarks::open(keeper)?)
+}
+
 #[test]
 fn counters_end_and_go_on_at_the_limit(rt: HostRuntime) -> Result<(), Fail> {
-    let mut node = Holder::fresh(rt.alloc())?;
-    assert_eq!(rt; node.take(), Ok(0));
-    assert_eq!(rt; node.take(), Ok(1));
-    node.restart();
-    assert_eq!(rt; node.take(), Ok(1024));
-    assert_eq!(rt; node.preset(4_294_967_294), Ok(()));
-    assert_eq!(rt; node.take(), Ok(4_294_967_294));
-    assert_eq!(rt; node.take(), Err(Refusal::Counter(CounterFault::Spent)));
-    node.restart();
-    assert_eq!(rt; node.take(), Err(Refusal::Counter(CounterFault::Spent)));
+    let mut keeper = MemKeeper::new(rt.alloc())?;
+    let mut first = SendCounter::open(&keeper)?;
+    assert_eq!(rt; first.take(&mut keeper)?, 0);
+    assert_eq!(rt; first.take(&mut keeper)?, 1);
+    let mut second = SendCounter::open(&keeper)?;
+    assert_eq!(rt; second.take(&mut keeper)?, 1024);
+    second.preset(&mut keeper, 4_294_967_294)?;
+    assert_eq!(rt; second.take(&mut keeper)?, 4_294_967_294);
+    assert_eq!(rt; second.take(&mut keeper), Err(CounterFault::Spent));
+    let mut third = SendCounter::open(&keeper)?;
+    assert_eq!(rt; third.take(&mut keeper), Err(CounterFault::Spent));
     Ok(())
 }
 
 #[test]
 fn sixty_four_senders_and_no_more(rt: HostRuntime) -> Result<(), Fail> {
-    let mut node = Holder::fresh(rt.alloc())?;
+    let mut keeper = MemKeeper::new(rt.alloc())?;
+    let mut marks = first_marks(&keeper)?;
     for number in 0..64u16 {
         let from = Short::new(63 - number).ok_or("no address")?;
-        assert_eq!(rt; node.admit(from, 4_294_967_290), Ok(()));
+        marks.admit(&mut keeper, from, 4_294_967_290)?;
     }
     let other = Short::new(64).ok_or("no address")?;
     assert_eq!(rt;
-        node.admit(other, 1),
-        Err(Refusal::Peer(PeerFault::PeersFull))
+        marks.admit(&mut keeper, other, 1),
+        Err(PeerFault::PeersFull)
     );
-    node.restart();
+    let mut marks = restarted(marks, &keeper)?;
     let first = Short::new(0).ok_or("no address")?;
     assert_eq!(rt;
-        node.admit(first, 4_294_967_295),
-        Err(Refusal::Peer(PeerFault::Replayed))
+        marks.admit(&mut keeper, first, 4_294_967_295),
+        Err(PeerFault::Replayed)
     );
     assert_eq!(rt;
-        node.admit(other, 1),
-        Err(Refusal::Peer(PeerFault::PeersFull))
+        marks.admit(&mut keeper, other, 1),
+        Err(PeerFault::PeersFull)
     );
     let mut last = None;
-    for sender in node.senders().as_slice() {
+    for sender in marks.senders().as_slice() {
         assert!(rt; last < Some(sender.number()));
         last = Some(sender.number());
     }
@@ -121,21 +142,19 @@ fn sixty_four_senders_and_no_more(rt: HostRuntime) -> Result<(), Fail> {
 
 #[test]
 fn a_mark_is_stored_ahead(rt: HostRuntime) -> Result<(), Fail> {
-    let mut node = Holder::fresh(rt.alloc())?;
+    let mut keeper = MemKeeper::new(rt.alloc())?;
+    let mut marks = first_marks(&keeper)?;
     let from = Short::new(7).ok_or("no address")?;
-    assert_eq!(rt; node.admit(from, 0), Ok(()));
+    marks.admit(&mut keeper, from, 0)?;
+    assert_eq!(rt; marks.admit(&mut keeper, from, 0), Err(PeerFault::Replayed));
+    marks.admit(&mut keeper, from, 5)?;
+    let mut marks = restarted(marks, &keeper)?;
+    assert_eq!(rt; marks.mark(from), Some(63));
     assert_eq!(rt;
-        node.admit(from, 0),
-        Err(Refusal::Peer(PeerFault::Replayed))
+        marks.admit(&mut keeper, from, 63),
+        Err(PeerFault::Replayed)
     );
-    assert_eq!(rt; node.admit(from, 5), Ok(()));
-    node.restart();
-    assert_eq!(rt; node.mark(from), Some(63));
-    assert_eq!(rt;
-        node.admit(from, 63),
-        Err(Refusal::Peer(PeerFault::Replayed))
-    );
-    assert_eq!(rt; node.admit(from, 64), Ok(()));
+    marks.admit(&mut keeper, from, 64)?;
     Ok(())
 }
 
@@ -152,28 +171,40 @@ const CUTS: [(u16, bool, u32, Option<u32>, Option<u32>); 8] = [
     (4, true, 1024, Some(127), Some(72)),
 ];
 
+// Makes these calls of a new node one after another, up to one that fails, and answers how many succeeded.
+fn calls_made(keeper: &mut MemKeeper, one: Short, two: Short) -> Result<u16, Fail>
+    requires empty { keeper.old.records ≡ map.empty }
+{
+    let mut counter = SendCounter::open(keeper)?;
+    let mut marks = first_marks(keeper)?;
+    if counter.take(keeper).is_err() {
+        return Ok(0);
+    }
+    if marks.admit(keeper, one, 0).is_err() {
+        return Ok(1);
+    }
+    if marks.admit(keeper, two, 9).is_err() {
+        return Ok(2);
+    }
+    if marks.admit(keeper, one, 64).is_err() {
+        return Ok(3);
+    }
+    Ok(4)
+}
+
 #[test]
 fn each_put_is_cut(rt: HostRuntime) -> Result<(), Fail> {
     for (nth, keeps_new, next, first, second) in CUTS {
-        let mut node = Holder::fresh(rt.alloc())?;
         let one = Short::new(1).ok_or("no address")?;
         let two = Short::new(2).ok_or("no address")?;
-        node.cut(nth, keeps_new);
-        let answers = [
-            node.take().is_ok(),
-            node.admit(one, 0).is_ok(),
-            node.admit(two, 9).is_ok(),
-            node.admit(one, 64).is_ok(),
-        ];
-        for put in 0..4u16 {
-            let done = answers[usize::from(put)];
-            assert_eq!(rt; done, put + 1 < nth, "put {put} of {nth}");
-        }
-        assert_eq!(rt; node.take(), Err(Refusal::Halted));
-        node.restart();
-        assert_eq!(rt; node.mark(one), first, "{nth} {keeps_new}");
-        assert_eq!(rt; node.mark(two), second, "{nth} {keeps_new}");
-        assert_eq!(rt; node.take(), Ok(next), "{nth} {keeps_new}");
+        let mut keeper = MemKeeper::new(rt.alloc())?;
+        keeper.cut(nth, keeps_new);
+        assert_eq!(rt; calls_made(&mut keeper, one, two)?, nth - 1);
+        let marks = PeerMarks::open(&keeper)?;
+        assert_eq!(rt; marks.mark(one), first, "{nth} {keeps_new}");
+        assert_eq!(rt; marks.mark(two), second, "{nth} {keeps_new}");
+        let mut counter = SendCounter::open(&keeper)?;
+        assert_eq!(rt; counter.take(&mut keeper)?, next, "{nth} {keeps_new}");
     }
     Ok(())
 }

@@ -24,7 +24,8 @@ Book = List BookEntry
 abbrev pub book_code : Coded Book
 book_code =
     coded_list (code_by (List ℕ × (Key × (Bool × (Option Key × Option Key))))
-    (coded× (coded_list coded_ℕ) (coded× key_code (coded× coded_bool (coded× (coded_option key_code) (coded_option key_code)))))
+    (coded× (coded_list coded_ℕ)
+    (coded× key_code (coded× coded_bool (coded× (coded_option key_code) (coded_option key_code)))))
     (λ e. (e.eui.0, (e.psk, (e.allowed, (e.issued0, e.issued1)))))
     (λ t. record { eui = record { 0 = t.0 }; psk = t.1.0; allowed = t.1.1.0; issued0 = t.1.1.1.0; issued1 = t.1.1.1.1 })
     (λ _. refl))
@@ -34,23 +35,29 @@ book_code =
 abbrev pub entry_of : List ℕ → List ℕ → Option Bool → Option (Option Key) → Option (Option Key) → Option BookEntry
 entry_of eui psk allowed issued0 issued1 =
     option_map_or (λ a. option_map_or (λ k0. option_map_or (λ k1.
-    Some (record { eui = record { 0 = eui }; psk = key_in psk; allowed = a; issued0 = k0; issued1 = k1 })) issued1 None) issued0 None) allowed None
+    Some (record { eui = record { 0 = eui }; psk = key_in psk; allowed = a; issued0 = k0; issued1 = k1 }))
+    issued1 None) issued0 None) allowed None
 
 -- what stands behind the pair key: an address, which is one more than the place, the flag and the keys
 abbrev pub entry_behind : ℕ → List ℕ → List ℕ → List ℕ → Option BookEntry
 entry_behind place eui psk octets =
     if big_number 2 octets == place + 1
-    then entry_of eui psk (flag_in (slice_index octets 2)) (held_in (take 17 (drop 3 octets))) (held_in (drop 17 (drop 3 octets)))
+    then entry_of eui psk (flag_in (slice_index octets 2))
+    (held_in (take 17 (drop 3 octets))) (held_in (drop 17 (drop 3 octets)))
     else None
 
 -- the entry that the record at a place gives, if it has a reading
 abbrev pub entry_in : ℕ → List ℕ → Option BookEntry
 entry_in place octets =
-    if length octets == 61 then entry_behind place (take 8 octets) (take 16 (drop 8 octets)) (drop 16 (drop 8 octets)) else None
+    if length octets == 61
+    then entry_behind place (take 8 octets) (take 16 (drop 8 octets)) (drop 16 (drop 8 octets))
+    else None
 
 abbrev pub entry_octets : ℕ → BookEntry → List ℕ
 entry_octets place e =
-    e.eui.0 ++ (e.psk.0 ++ (big_bytes 2 (place + 1) ++ (flag_octet e.allowed ∷ (held_octets e.issued0 ++ held_octets e.issued1))))
+    e.eui.0
+    ++ (e.psk.0
+    ++ (big_bytes 2 (place + 1) ++ (flag_octet e.allowed ∷ (held_octets e.issued0 ++ held_octets e.issued1))))
 
 -- how the entries are stored
 abbrev pub entries : slots.Layout BookEntry
@@ -111,7 +118,10 @@ entry_write book entry = Some (slots.entry_write entries (place_for book entry.e
 -- whether two entries are the same
 abbrev pub same_entry : BookEntry → BookEntry → Bool
 same_entry a b =
-    pointwise nat_eq a.eui.0 b.eui.0 && (same_key a.psk b.psk && (beq a.allowed b.allowed && (option_eq same_key a.issued0 b.issued0 && option_eq same_key a.issued1 b.issued1)))
+    pointwise nat_eq a.eui.0 b.eui.0
+    && (same_key a.psk b.psk
+    && (beq a.allowed b.allowed
+    && (option_eq same_key a.issued0 b.issued0 && option_eq same_key a.issued1 b.issued1)))
 
 -- whether the book has this very entry
 abbrev pub holds : Book → BookEntry → Bool
@@ -130,7 +140,8 @@ has_room book eui = is_some (place_of book eui) || nat_lt (length book) 999
 -- a meter that is allowed: one that is known keeps the keys that were issued to it
 abbrev pub allowed_entry : Eui → Key → Option BookEntry → BookEntry
 allowed_entry eui psk None = record { eui = eui; psk = psk; allowed = true; issued0 = None; issued1 = None }
-allowed_entry eui psk (Some e) = record { eui = eui; psk = psk; allowed = true; issued0 = e.issued0; issued1 = e.issued1 }
+allowed_entry eui psk (Some e) =
+    record { eui = eui; psk = psk; allowed = true; issued0 = e.issued0; issued1 = e.issued1 }
 
 -- a meter that was kicked
 abbrev pub kicked_entry : Eui → BookEntry → BookEntry
@@ -138,7 +149,8 @@ kicked_entry eui e = record { eui = eui; psk = e.psk; allowed = false; issued0 =
 
 -- a meter to which the keys of a grant were issued
 abbrev pub issued_entry : Eui → Granted → BookEntry → BookEntry
-issued_entry eui granted e = record { eui = eui; psk = e.psk; allowed = e.allowed; issued0 = granted.key0; issued1 = granted.key1 }
+issued_entry eui granted e =
+    record { eui = eui; psk = e.psk; allowed = e.allowed; issued0 = granted.key0; issued1 = granted.key1 }
 
 -- the entry of a meter that is allowed
 abbrev pub allowed_one : Book → Eui → Option BookEntry
@@ -146,13 +158,15 @@ allowed_one book eui = option_map_or (λ e. if e.allowed then Some e else None) 
 
 -- what a call is to make of the book: a fault, or the entry that it is to have
 abbrev pub allow_change : Book → Eui → Key → Result BookEntry BookFault
-allow_change book eui psk = if has_room book eui then Ok (allowed_entry eui psk (entry_for book eui)) else Err MetersFull
+allow_change book eui psk =
+    if has_room book eui then Ok (allowed_entry eui psk (entry_for book eui)) else Err MetersFull
 
 abbrev pub kick_change : Book → Eui → Result BookEntry BookFault
 kick_change book eui = option_map_or (λ e. Ok (kicked_entry eui e)) (allowed_one book eui) (Err NotAllowed)
 
 abbrev pub issue_change : Book → Eui → Granted → Result BookEntry BookFault
-issue_change book eui granted = option_map_or (λ e. Ok (issued_entry eui granted e)) (allowed_one book eui) (Err NotAllowed)
+issue_change book eui granted =
+    option_map_or (λ e. Ok (issued_entry eui granted e)) (allowed_one book eui) (Err NotAllowed)
 
 -- and then which put it makes, what the book is afterwards, and the address that it answers; done says that no put failed
 abbrev pub changing_write : Book → Result BookEntry BookFault → Option Write
@@ -203,7 +217,8 @@ issue_result book eui granted done = done_result (changing_result book (issue_ch
 
 -- each meter that has an address keeps it
 abbrev pub AddressesStay : Book → Book → Type 0
-AddressesStay old new = (meter : Eui) (address : ℕ) → address_of old meter ≡ Some address → address_of new meter ≡ Some address
+AddressesStay old new =
+    (meter : Eui) (address : ℕ) → address_of old meter ≡ Some address → address_of new meter ≡ Some address
 
 -- whether no put of a call failed
 abbrev pub is_stored : {A : Type 0} → Result A BookFault → Bool

@@ -32,7 +32,10 @@ grant_of address active key0 key1 =
 -- the grant behind the flag that says that the node has joined
 abbrev pub grant_in : List ℕ → Option Granted
 grant_in octets =
-    option_map_or (λ key0. option_map_or (λ key1. grant_of (big_number 2 octets) (slice_index octets 2) key0 key1) (held_in (drop 17 (drop 3 octets))) None)
+    option_map_or
+    (λ key0. option_map_or
+    (λ key1. grant_of (big_number 2 octets) (slice_index octets 2) key0 key1)
+    (held_in (drop 17 (drop 3 octets))) None)
     (held_in (take 17 (drop 3 octets))) None
 
 -- the ring that a record gives, if it has a reading: 38 zeros, or 1 and a grant
@@ -66,7 +69,8 @@ pub record IsKept (ring : Ring) (records : Records) : Type 0 where
 
 -- the slot gives the ring that it gave in the records from before, or this one
 abbrev pub IsOldOrNewRing : Ring → Records → Records → Type 0
-IsOldOrNewRing ring old new = (ring_at (get new ring_slot) ≡ ring_at (get old ring_slot)) ⊎ (ring_at (get new ring_slot) ≡ Some ring)
+IsOldOrNewRing ring old new =
+    (ring_at (get new ring_slot) ≡ ring_at (get old ring_slot)) ⊎ (ring_at (get new ring_slot) ≡ Some ring)
 
 -- The same, where what the ring holds is what the new records give.
 abbrev pub IsOldRingOrKept : Ring → Records → Records → Type 0
@@ -103,7 +107,8 @@ abbrev pub activate_write : Ring → ℕ → Option Write
 activate_write ring index = if is_some (key_in_ring ring index) then ring_write (with_active ring index) else None
 
 abbrev pub activate_after : Ring → ℕ → Bool → Ring
-activate_after ring index done = if is_some (key_in_ring ring index) then (if done then with_active ring index else ring) else ring
+activate_after ring index done =
+    if is_some (key_in_ring ring index) then (if done then with_active ring index else ring) else ring
 
 -- whether no put of a call failed
 abbrev pub is_stored : Result (Unit {0}) RingFault → Bool

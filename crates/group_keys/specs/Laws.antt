@@ -36,7 +36,9 @@ pub record IsReadableEntry (entry : BookEntry) : Type 0 where
 
 -- Whatever becomes of the put of a ring, some ring is what the records give.
 abbrev pub RingsLead : Type 0
-RingsLead = (before after : rings.Ring) → IfSome after IsReadable → PutsLead rings.IsKept before (puts_of (rings.ring_write after)) after
+RingsLead =
+    (before after : rings.Ring) → IfSome after IsReadable
+    → PutsLead rings.IsKept before (puts_of (rings.ring_write after)) after
 
 -- # The book
 
@@ -46,7 +48,8 @@ pub record IsNoChange (book : books.Book) (entry : BookEntry) : Type 0 where
   pub write : books.change_write book entry ≡ None
 
 abbrev pub AHeldEntryChangesNothing : Type 0
-AHeldEntryChangesNothing = (book : books.Book) (entry : BookEntry) → books.holds book entry ≡ true → IsNoChange book entry
+AHeldEntryChangesNothing =
+    (book : books.Book) (entry : BookEntry) → books.holds book entry ≡ true → IsNoChange book entry
 
 -- What is looked up after an entry was written: the entry of its meter, at the place that the meter had or that is the next, and
 -- for another meter what was there before.
@@ -55,7 +58,8 @@ pub record HasEntry (book : books.Book) (entry : BookEntry) : Type 0 where
   pub address : books.address_of (books.with_entry book entry) entry.eui ≡ Some (books.place_for book entry.eui + 1)
   pub others : (meter : Eui) → books.eui_number meter ≢ books.eui_number entry.eui
       → books.entry_for (books.with_entry book entry) meter ≡ books.entry_for book meter
-  pub addresses : (meter : Eui) (address : ℕ) → books.address_of book meter ≡ Some address → books.address_of (books.with_entry book entry) meter ≡ Some address
+  pub addresses : (meter : Eui) (address : ℕ) → books.address_of book meter ≡ Some address
+      → books.address_of (books.with_entry book entry) meter ≡ Some address
 
 abbrev pub AnEntryIsFound : Type 0
 AnEntryIsFound = (book : books.Book) (entry : BookEntry) → HasEntry book entry

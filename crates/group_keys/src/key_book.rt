@@ -276,9 +276,11 @@ impl KeyBook {
         ensures answer { result ≡ allow_result self.old eui psk.now (is_stored result) }
         ensures book { self.new ≡ allow_after self.old eui psk.now (is_stored result) }
         ensures addresses { AddressesStay self.old self.new }
-        ensures store { Stores (K.store keeper.old) (allow_write self.old eui psk.now) (is_stored result) (K.store keeper.new) }
+        ensures store { Stores (K.store keeper.old) (allow_write self.old eui psk.now) (is_stored result)
+            (K.store keeper.new) }
         ensures kept { OnTrue (is_stored result) (IsKept self.new (K.store keeper.new).records) }
-        ensures either { IsOldOrNew IsKept self.old (allow_after self.old eui psk.now true) (K.store keeper.new).records }
+        ensures either { IsOldOrNew IsKept self.old (allow_after self.old eui psk.now true)
+            (K.store keeper.new).records }
         ensures elsewhere { OutsideStays 0x1000 0x13E6 (K.store keeper.old) (K.store keeper.new) }
     {
         if !self.has_room(eui) {
@@ -340,9 +342,11 @@ impl KeyBook {
         ensures answer { result ≡ issue_result self.old eui grant.now (is_stored result) }
         ensures book { self.new ≡ issue_after self.old eui grant.now (is_stored result) }
         ensures addresses { AddressesStay self.old self.new }
-        ensures store { Stores (K.store keeper.old) (issue_write self.old eui grant.now) (is_stored result) (K.store keeper.new) }
+        ensures store { Stores (K.store keeper.old) (issue_write self.old eui grant.now) (is_stored result)
+            (K.store keeper.new) }
         ensures kept { OnTrue (is_stored result) (IsKept self.new (K.store keeper.new).records) }
-        ensures either { IsOldOrNew IsKept self.old (issue_after self.old eui grant.now true) (K.store keeper.new).records }
+        ensures either { IsOldOrNew IsKept self.old (issue_after self.old eui grant.now true)
+            (K.store keeper.new).records }
         ensures elsewhere { OutsideStays 0x1000 0x13E6 (K.store keeper.old) (K.store keeper.new) }
     {
         let Some(entry) = self.allowed_one(eui) else {

@@ -189,9 +189,11 @@ impl KeyRing {
         ensures answer { result ≡ stored_result (is_ok result) }
         ensures ring { OnOk result (self.new ≡ with_key self.old index key.now) }
         ensures same { OnErr result (self.new ≡ self.old) }
-        ensures store { Stores (K.store keeper.old) (ring_write (with_key self.old index key.now)) (is_ok result) (K.store keeper.new) }
+        ensures store { Stores (K.store keeper.old) (ring_write (with_key self.old index key.now)) (is_ok result)
+            (K.store keeper.new) }
         ensures kept { OnOk result (IsKept self.new (K.store keeper.new).records) }
-        ensures either { IsOldRingOrKept (with_key self.old index key.now) (K.store keeper.old).records (K.store keeper.new).records }
+        ensures either { IsOldRingOrKept (with_key self.old index key.now) (K.store keeper.old).records
+            (K.store keeper.new).records }
         ensures elsewhere { OutsideStays 1 1 (K.store keeper.old) (K.store keeper.new) }
     {
         let grant = self.grant.map(|grant| grant.with_key(index, key));
@@ -206,10 +208,12 @@ impl KeyRing {
         requires { index ≤ 1 }
         ensures answer { result ≡ activate_result self.old index (is_stored result) }
         ensures ring { self.new ≡ activate_after self.old index (is_stored result) }
-        ensures store { Stores (K.store keeper.old) (activate_write self.old index) (is_stored result) (K.store keeper.new) }
+        ensures store { Stores (K.store keeper.old) (activate_write self.old index) (is_stored result)
+            (K.store keeper.new) }
         ensures kept { IsKept self.old (K.store keeper.old).records
             → OnTrue (is_stored result) (IsKept self.new (K.store keeper.new).records) }
-        ensures either { IsOldRingOrKept (with_active self.old index) (K.store keeper.old).records (K.store keeper.new).records }
+        ensures either { IsOldRingOrKept (with_active self.old index) (K.store keeper.old).records
+            (K.store keeper.new).records }
         ensures elsewhere { OutsideStays 1 1 (K.store keeper.old) (K.store keeper.new) }
     {
         if self.key(index).is_none() {
@@ -226,9 +230,11 @@ impl KeyRing {
         requires held { is_some (key_in_ring self.old index) ≡ true }
         ensures ring { OnOk result (self.new ≡ with_active self.old index) }
         ensures same { OnErr result (self.new ≡ self.old) }
-        ensures store { Stores (K.store keeper.old) (ring_write (with_active self.old index)) (is_ok result) (K.store keeper.new) }
+        ensures store { Stores (K.store keeper.old) (ring_write (with_active self.old index)) (is_ok result)
+            (K.store keeper.new) }
         ensures kept { OnOk result (IsKept self.new (K.store keeper.new).records) }
-        ensures either { IsOldRingOrKept (with_active self.old index) (K.store keeper.old).records (K.store keeper.new).records }
+        ensures either { IsOldRingOrKept (with_active self.old index) (K.store keeper.old).records
+            (K.store keeper.new).records }
         ensures elsewhere { OutsideStays 1 1 (K.store keeper.old) (K.store keeper.new) }
     {
         let grant = self.grant.map(|grant| grant.with_active(index));

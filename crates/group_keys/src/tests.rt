@@ -1,9 +1,12 @@
 //! Tables: which records have a reading, the ends of the ranges, and each put of each call cut.
-mod holder;
+ghost use Rattle.std.specs.Prelude.{◌≡◌, IfOk, OnOk};
+ghost use Rattle.std.specs.FinMap as map;
+ghost use Rattle.plc_base.specs.SlotTables.{IsGapless};
+ghost use Rattle.group_keys.specs.KeyBook.{entries, IsKept};
 
 use crate::{BookFault, KeyBook, KeyRing, RingFault};
-use holder::{Holder, Refusal};
 use plc_base::{Eui, Grant, Keeper, Key, MemKeeper, Record, Short};
+use std::process::Abort;
 use std::test::Fail;
 
 const ONE: Key = Key([1; 16]);
@@ -133,128 +136,232 @@ fn grant_of(address: u16) -> Result<Grant, Fail> {
     })
 }
 
+// The book of a new coordinator.
+fn first_book(keeper: &MemKeeper) -> Result<KeyBook, Fail>
+    requires empty { keeper.now.records ≡ map.empty }
+    ensures kept { IfOk result (λ book. IsKept book keeper.now.records) }
+{
+    Ok(KeyBook::open(keeper)?)
+}
+
+// The book that a new start finds.
+#[tactic(auto, using(plc_base::proofs::Opening::stored_gapless))]
+fn restarted(before: KeyBook, keeper: &MemKeeper) -> Result<KeyBook, Fail>
+    requires kept { IsKept before keeper.now.records }
+    ensures kept { IfOk result (λ book. IsKept book keeper.now.records) }
+{
+    drop(before);
+    Ok(KeyBook::open(keeper)?)
+}
+
+// The book of 999 meters, each at the address of its number.
+fn crowded(rt: &impl Abort, keeper: &mut MemKeeper) -> Result<KeyBook, Fail>
+    requires empty { keeper.old.records ≡ map.empty }
+    ensures kept { IfOk result (λ book. IsKept book keeper.new.records) }
+{
+    let mut book = first_book(keeper)?;
+    for number in 1..=999u16 {
+        let address = book.allow(keeper, meter(number), &ONE)?;
+        assert_eq!(rt; address.number(), number);
+    }
+    Ok(book)
+}
+
+// Kicks a meter and allows it again.
+fn kick_row(
+    rt: &impl Abort,
+    book: &mut KeyBook,
+    keeper: &mut MemKeeper,
+    number: u16,
+) -> Result<(), Fail>
+    requires kept { IsKept book.old keeper.old.records }
+    ensures kept { OnOk result (IsKept book.new keeper.new.records) }
+{
+    let address = book.kick(keeper, meter(number))?;
+    assert_eq!(rt; address.number(), number);
+    let Err(BookFault::NotAllowed) = book.kick(keeper, meter(number)) else {
+        return Err(Fail::from("kicked twice"));
+    };
+    let address = book.allow(keeper, meter(number), &TWO)?;
+    assert_eq!(rt; address.number(), number);
+    Ok(())
+}
+
 #[test]
 fn nine_hundred_and_ninety_nine_meters(rt: HostRuntime) -> Result<(), Fail> {
-    let mut node = Holder::fresh(rt.alloc())?;
-    for number in 1..=999u16 {
-        let address = Short::new(number).ok_or("no address")?;
-        assert_eq!(rt; node.allow(meter(number), &ONE), Ok(address));
-    }
-    assert_eq!(rt;
-        node.allow(meter(1000), &ONE),
-        Err(Refusal::Book(BookFault::MetersFull))
-    );
-    node.restart();
+    let mut keeper = MemKeeper::new(rt.alloc())?;
+    let mut before = crowded(&rt, &mut keeper)?;
+    let Err(BookFault::MetersFull) = before.allow(&mut keeper, meter(1000), &ONE) else {
+        return Err(Fail::from("there was room"));
+    };
+    let mut book = restarted(before, &keeper)?;
     for number in [1, 500, 999] {
-        let address = Short::new(number).ok_or("no address")?;
-        assert_eq!(rt; node.kick(meter(number)), Ok(address));
-        assert_eq!(rt;
-            node.kick(meter(number)),
-            Err(Refusal::Book(BookFault::NotAllowed))
-        );
-        assert_eq!(rt; node.allow(meter(number), &TWO), Ok(address));
+        kick_row(&rt, &mut book, &mut keeper, number)?;
     }
-    assert_eq!(rt; node.book().psk(meter(999)), Some(TWO));
-    assert_eq!(rt; node.book().address(meter(1000)), None);
+    assert_eq!(rt; book.psk(meter(999)), Some(TWO));
+    assert_eq!(rt; book.address(meter(1000)), None);
+    Ok(())
+}
+
+// The book in which a grant was issued to meter 1.
+fn issued(keeper: &mut MemKeeper, grant: &Grant) -> Result<KeyBook, Fail>
+    requires empty { keeper.old.records ≡ map.empty }
+    ensures kept { IfOk result (λ book. IsKept book keeper.new.records) }
+{
+    let mut book = first_book(keeper)?;
+    let Err(BookFault::NotAllowed) = book.issue(keeper, meter(1), grant) else {
+        return Err(Fail::from("issued to a meter that is not allowed"));
+    };
+    book.allow(keeper, meter(1), &TWO)?;
+    book.issue(keeper, meter(1), grant)?;
+    Ok(book)
+}
+
+// Nothing is put where nothing changes, so the put that is to fail is the one of the kick.
+#[tactic(auto, using(plc_base::proofs::Opening::stored_gapless))]
+fn kick_cut(book: &mut KeyBook, keeper: &mut MemKeeper, grant: &Grant) -> Result<(), Fail>
+    requires kept { IsKept book.old keeper.old.records }
+    ensures gapless { OnOk result (IsGapless entries keeper.new.records) }
+{
+    book.issue(keeper, meter(1), grant)?;
+    book.allow(keeper, meter(1), &TWO)?;
+    let Err(BookFault::Store) = book.kick(keeper, meter(1)) else {
+        return Err(Fail::from("the put of the kick did not fail"));
+    };
     Ok(())
 }
 
 #[test]
 fn a_kick_clears_what_was_issued(rt: HostRuntime) -> Result<(), Fail> {
-    let mut node = Holder::fresh(rt.alloc())?;
+    let mut keeper = MemKeeper::new(rt.alloc())?;
     let grant = grant_of(1)?;
-    assert_eq!(rt;
-        node.issue(meter(1), &grant),
-        Err(Refusal::Book(BookFault::NotAllowed))
-    );
-    assert!(rt; node.allow(meter(1), &TWO).is_ok());
-    assert_eq!(rt; node.issue(meter(1), &grant), Ok(()));
-    assert_eq!(rt; node.book().issued(meter(1), 0), Some(ONE));
-    // Nothing is put where nothing changes, so the put that is to fail is the one of the kick.
-    node.cut(1, true);
-    assert_eq!(rt; node.issue(meter(1), &grant), Ok(()));
-    assert!(rt; node.allow(meter(1), &TWO).is_ok());
-    assert_eq!(rt; node.kick(meter(1)), Err(Refusal::Book(BookFault::Store)));
-    node.restart();
-    assert_eq!(rt; node.book().issued(meter(1), 0), None);
-    assert_eq!(rt; node.book().allowed(meter(1)), false);
-    assert!(rt; node.allow(meter(1), &TWO).is_ok());
-    assert_eq!(rt; node.book().issued(meter(1), 0), None);
+    let mut before = issued(&mut keeper, &grant)?;
+    assert_eq!(rt; before.issued(meter(1), 0), Some(ONE));
+    keeper.cut(1, true);
+    kick_cut(&mut before, &mut keeper, &grant)?;
+    let mut book = KeyBook::open(&keeper)?;
+    assert_eq!(rt; book.issued(meter(1), 0), None);
+    assert_eq!(rt; book.allowed(meter(1)), false);
+    assert!(rt; book.allow(&mut keeper, meter(1), &TWO).is_ok());
+    assert_eq!(rt; book.issued(meter(1), 0), None);
     Ok(())
 }
 
 #[test]
 fn a_ring_is_its_last_grant_with_the_later_changes(rt: HostRuntime) -> Result<(), Fail> {
-    let mut node = Holder::fresh(rt.alloc())?;
-    assert_eq!(rt; node.activate(), Err(Refusal::Ring(RingFault::NotHeld)));
-    assert_eq!(rt; node.install(&grant_of(7)?), Ok(()));
-    assert_eq!(rt; node.activate(), Err(Refusal::Ring(RingFault::NotHeld)));
-    assert_eq!(rt; node.put(&TWO), Ok(()));
-    assert_eq!(rt; node.activate(), Ok(()));
-    node.restart();
-    assert_eq!(rt; node.ring().active(), Some(1));
-    assert_eq!(rt; node.ring().key(0), Some(ONE));
-    assert_eq!(rt; node.ring().key(1), Some(TWO));
-    assert_eq!(rt; node.drop_all(), Ok(()));
-    node.restart();
-    assert_eq!(rt; node.ring().joined(), None);
+    let mut keeper = MemKeeper::new(rt.alloc())?;
+    let mut first = KeyRing::open(&keeper)?;
+    assert_eq!(rt; first.activate(&mut keeper, 1), Err(RingFault::NotHeld));
+    assert_eq!(rt; first.install(&mut keeper, &grant_of(7)?), Ok(()));
+    assert_eq!(rt; first.activate(&mut keeper, 1), Err(RingFault::NotHeld));
+    assert!(rt; first.grant().is_some());
+    assert_eq!(rt; first.put(&mut keeper, 1, &TWO), Ok(()));
+    assert_eq!(rt; first.activate(&mut keeper, 1), Ok(()));
+    let mut second = KeyRing::open(&keeper)?;
+    assert_eq!(rt; second.active(), Some(1));
+    assert_eq!(rt; second.key(0), Some(ONE));
+    assert_eq!(rt; second.key(1), Some(TWO));
+    assert_eq!(rt; second.drop_all(&mut keeper), Ok(()));
+    let third = KeyRing::open(&keeper)?;
+    assert_eq!(rt; third.joined(), None);
     Ok(())
 }
 
-// Which put is cut and whether it keeps the new record; then the ring's active index and whether it holds the key at index
-// 1, whether meter 1 is allowed and has an issued key, and the address of meter 2 that a restart finds. The puts are:
-// install, put, activate, drop_all, allow 1, allow 2, issue 1, kick 1.
-const CUTS: [(u16, bool, Option<u8>, bool, bool, bool, Option<u16>); 16] = [
-    (1, false, None, false, false, false, None),
-    (1, true, Some(0), false, false, false, None),
-    (2, false, Some(0), false, false, false, None),
-    (2, true, Some(0), true, false, false, None),
-    (3, false, Some(0), true, false, false, None),
-    (3, true, Some(1), true, false, false, None),
-    (4, false, Some(1), true, false, false, None),
-    (4, true, None, false, false, false, None),
-    (5, false, None, false, false, false, None),
-    (5, true, None, false, true, false, None),
-    (6, false, None, false, true, false, None),
-    (6, true, None, false, true, false, Some(2)),
-    (7, false, None, false, true, false, Some(2)),
-    (7, true, None, false, true, true, Some(2)),
-    (8, false, None, false, true, true, Some(2)),
-    (8, true, None, false, false, false, Some(2)),
+// Which put of a ring is cut and whether it keeps the new record; then the active index and whether the key at index 1 is
+// held that a restart finds. The puts are: install, put, activate, drop_all.
+const RING_CUTS: [(u16, bool, Option<u8>, bool); 8] = [
+    (1, false, None, false),
+    (1, true, Some(0), false),
+    (2, false, Some(0), false),
+    (2, true, Some(0), true),
+    (3, false, Some(0), true),
+    (3, true, Some(1), true),
+    (4, false, Some(1), true),
+    (4, true, None, false),
 ];
 
+// Makes these calls of a new ring one after another, up to one that fails, and answers how many succeeded.
+fn ring_calls(keeper: &mut MemKeeper, grant: &Grant) -> Result<u16, Fail> {
+    let mut ring = KeyRing::open(keeper)?;
+    let Ok(()) = ring.install(keeper, grant) else {
+        return Ok(0);
+    };
+    let Ok(()) = ring.put(keeper, 1, &TWO) else {
+        return Ok(1);
+    };
+    let Ok(()) = ring.activate(keeper, 1) else {
+        return Ok(2);
+    };
+    let Ok(()) = ring.drop_all(keeper) else {
+        return Ok(3);
+    };
+    Ok(4)
+}
+
 #[test]
-fn each_put_is_cut(rt: HostRuntime) -> Result<(), Fail> {
-    for (nth, keeps_new, active, second, allowed, issued, address) in CUTS {
-        let mut node = Holder::fresh(rt.alloc())?;
-        let grant = grant_of(7)?;
+fn each_put_of_a_ring_is_cut(rt: HostRuntime) -> Result<(), Fail> {
+    for (nth, keeps_new, active, second) in RING_CUTS {
+        let mut keeper = MemKeeper::new(rt.alloc())?;
         assert!(rt; nth > 0);
-        node.cut(nth, keeps_new);
-        let answers = [
-            node.install(&grant).is_ok(),
-            node.put(&TWO).is_ok(),
-            node.activate().is_ok(),
-            node.drop_all().is_ok(),
-            node.allow(meter(1), &ONE).is_ok(),
-            node.allow(meter(2), &TWO).is_ok(),
-            node.issue(meter(1), &grant).is_ok(),
-            node.kick(meter(1)).is_ok(),
-        ];
-        for put in 0..8u16 {
-            let done = answers[usize::from(put)];
-            assert_eq!(rt; done, put + 1 < nth, "put {put} of {nth}");
-        }
-        assert_eq!(rt; node.drop_all(), Err(Refusal::Halted));
-        node.restart();
-        assert_eq!(rt; node.ring().active(), active, "{nth} {keeps_new}");
-        assert_eq!(rt; node.ring().key(1).is_some(), second, "{nth} {keeps_new}");
-        assert_eq!(rt; node.book().allowed(meter(1)), allowed, "{nth} {keeps_new}");
+        keeper.cut(nth, keeps_new);
+        let done = ring_calls(&mut keeper, &grant_of(7)?)?;
+        assert_eq!(rt; done, nth - 1, "{nth} {keeps_new}");
+        let ring = KeyRing::open(&keeper)?;
+        assert_eq!(rt; ring.active(), active, "{nth} {keeps_new}");
+        assert_eq!(rt; ring.key(1).is_some(), second, "{nth} {keeps_new}");
+    }
+    Ok(())
+}
+
+// Which put of a book is cut and whether it keeps the new record; then whether meter 1 is allowed and has an issued key, and
+// the address of meter 2 that a restart finds. The puts are: allow 1, allow 2, issue 1, kick 1.
+const BOOK_CUTS: [(u16, bool, bool, bool, Option<u16>); 8] = [
+    (1, false, false, false, None),
+    (1, true, true, false, None),
+    (2, false, true, false, None),
+    (2, true, true, false, Some(2)),
+    (3, false, true, false, Some(2)),
+    (3, true, true, true, Some(2)),
+    (4, false, true, true, Some(2)),
+    (4, true, false, false, Some(2)),
+];
+
+// Makes these calls of a new book one after another, up to one that fails, and answers how many succeeded.
+fn book_calls(keeper: &mut MemKeeper, grant: &Grant) -> Result<u16, Fail>
+    requires empty { keeper.old.records ≡ map.empty }
+{
+    let mut book = first_book(keeper)?;
+    let Ok(_) = book.allow(keeper, meter(1), &ONE) else {
+        return Ok(0);
+    };
+    let Ok(_) = book.allow(keeper, meter(2), &TWO) else {
+        return Ok(1);
+    };
+    let Ok(()) = book.issue(keeper, meter(1), grant) else {
+        return Ok(2);
+    };
+    let Ok(_) = book.kick(keeper, meter(1)) else {
+        return Ok(3);
+    };
+    Ok(4)
+}
+
+#[test]
+fn each_put_of_a_book_is_cut(rt: HostRuntime) -> Result<(), Fail> {
+    for (nth, keeps_new, allowed, issued, address) in BOOK_CUTS {
+        let mut keeper = MemKeeper::new(rt.alloc())?;
+        assert!(rt; nth > 0);
+        keeper.cut(nth, keeps_new);
+        let done = book_calls(&mut keeper, &grant_of(7)?)?;
+        assert_eq!(rt; done, nth - 1, "{nth} {keeps_new}");
+        let book = KeyBook::open(&keeper)?;
+        let found = book.address(meter(2)).map(|a| a.number());
+        assert_eq!(rt; book.allowed(meter(1)), allowed, "{nth} {keeps_new}");
         assert_eq!(rt;
-            node.book().issued(meter(1), 0).is_some(),
+            book.issued(meter(1), 0).is_some(),
             issued,
             "{nth} {keeps_new}"
         );
-        let found = node.book().address(meter(2)).map(|a| a.number());
         assert_eq!(rt; found, address, "{nth} {keeps_new}");
     }
     Ok(())

@@ -16,14 +16,18 @@ IssuedAreNamed entries = All (λ (x : Entry). All (λ (i : Issued). IsEui i.eui)
 -- after each event up to the first forged one, each meter holds only keys that were issued to it up to then
 abbrev pub IsIssuedAfter : List Entry → List Entry → Type 0
 IsIssuedAfter before [] = Unit {0}
-IsIssuedAfter before (x ∷ xs) = x.trace.happened.forged ≡ false → HasOnlyIssuedKeys (issued (before ++ x ∷ [])) x.after × IsIssuedAfter (before ++ x ∷ []) xs
+IsIssuedAfter before (x ∷ xs) =
+    x.trace.happened.forged ≡ false
+    → HasOnlyIssuedKeys (issued (before ++ x ∷ [])) x.after × IsIssuedAfter (before ++ x ∷ []) xs
 
 -- so it is from the beginning of a run on
 abbrev pub OnlyIssuedKeys : Type 0
 OnlyIssuedKeys =
-    (ciphers : Ciphers) → KeepsRanges ciphers → (entries : List Entry) → IsLineRun ciphers entries → FlightsAreOctets entries → IssuedAreNamed entries → IsIssuedAfter [] entries
+    (ciphers : Ciphers) → KeepsRanges ciphers → (entries : List Entry) → IsLineRun ciphers entries
+    → FlightsAreOctets entries → IssuedAreNamed entries → IsIssuedAfter [] entries
 
 -- a joining that is done in a run was taken before it, with the same random values
 abbrev pub EveryJoiningAgrees : Type 0
 EveryJoiningAgrees =
-    (ciphers : Ciphers) → KeepsRanges ciphers → (entries : List Entry) → IsLineRun ciphers entries → FlightsAreOctets entries → Agrees entries
+    (ciphers : Ciphers) → KeepsRanges ciphers → (entries : List Entry) → IsLineRun ciphers entries
+    → FlightsAreOctets entries → Agrees entries

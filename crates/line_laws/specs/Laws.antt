@@ -27,40 +27,55 @@ EveryCountIsRight = (ciphers : Ciphers) (entries : List Entry) → IsLineRun cip
 
 -- the history has of each event what the report says
 abbrev pub EveryTraceIsRight : Type 0
-EveryTraceIsRight = (ciphers : Ciphers) (entries : List Entry) → IsLineRun ciphers entries → AreTracedRight start entries
+EveryTraceIsRight =
+    (ciphers : Ciphers) (entries : List Entry) → IsLineRun ciphers entries → AreTracedRight start entries
 
 -- exactly forged events are reported to be forged
 abbrev pub EveryForgeryIsTold : Type 0
-EveryForgeryIsTold = (ciphers : Ciphers) (entries : List Entry) → IsLineRun ciphers entries → IsForgedRight ciphers start entries
+EveryForgeryIsTold =
+    (ciphers : Ciphers) (entries : List Entry) → IsLineRun ciphers entries → IsForgedRight ciphers start entries
 
 -- each flight with a key is a sealed frame under it, and each other one a plain frame
 abbrev pub EveryFlightIsSpelled : Type 0
-EveryFlightIsSpelled = (ciphers : Ciphers) (entries : List Entry) → IsLineRun ciphers entries → AreSpelled ciphers entries
+EveryFlightIsSpelled =
+    (ciphers : Ciphers) (entries : List Entry) → IsLineRun ciphers entries → AreSpelled ciphers entries
 
 -- # Forged or not
 
 -- no table passes its size, and no event sends more than 24 frames
 abbrev pub EveryRunIsSized : Type 0
-EveryRunIsSized = (ciphers : Ciphers) → KeepsRanges ciphers → (entries : List Entry) → IsLineRun ciphers entries → FlightsAreOctets entries → IsAlwaysSized entries
+EveryRunIsSized =
+    (ciphers : Ciphers) → KeepsRanges ciphers → (entries : List Entry) → IsLineRun ciphers entries
+    → FlightsAreOctets entries → IsAlwaysSized entries
 
 -- a restart finds a store that has a reading
 abbrev pub EveryRestartIsAnswered : Type 0
-EveryRestartIsAnswered = (ciphers : Ciphers) → KeepsRanges ciphers → (entries : List Entry) → IsLineRun ciphers entries → FlightsAreOctets entries → RestartsAreAnswered entries
+EveryRestartIsAnswered =
+    (ciphers : Ciphers) → KeepsRanges ciphers → (entries : List Entry) → IsLineRun ciphers entries
+    → FlightsAreOctets entries → RestartsAreAnswered entries
 
 -- the counters of one node's sealed flights rise
 abbrev pub EveryCounterRises : Type 0
-EveryCounterRises = (ciphers : Ciphers) → KeepsRanges ciphers → (entries : List Entry) → IsLineRun ciphers entries → FlightsAreOctets entries → CountersRise entries
+EveryCounterRises =
+    (ciphers : Ciphers) → KeepsRanges ciphers → (entries : List Entry) → IsLineRun ciphers entries
+    → FlightsAreOctets entries → CountersRise entries
 
 -- a sealed flight has in its sender field the address of the node that sent it
 abbrev pub EverySenderIsRight : Type 0
-EverySenderIsRight = (ciphers : Ciphers) → KeepsRanges ciphers → (entries : List Entry) → IsLineRun ciphers entries → FlightsAreOctets entries → AreAddressed start entries
+EverySenderIsRight =
+    (ciphers : Ciphers) → KeepsRanges ciphers → (entries : List Entry) → IsLineRun ciphers entries
+    → FlightsAreOctets entries → AreAddressed start entries
 
 -- # Up to the first forged event
 
 -- no two nodes have one address
 abbrev pub EveryAddressDiffers : Type 0
-EveryAddressDiffers = (ciphers : Ciphers) → KeepsRanges ciphers → (entries : List Entry) → IsLineRun ciphers entries → FlightsAreOctets entries → AreApart entries
+EveryAddressDiffers =
+    (ciphers : Ciphers) → KeepsRanges ciphers → (entries : List Entry) → IsLineRun ciphers entries
+    → FlightsAreOctets entries → AreApart entries
 
 -- no two flights under one key have one nonce
 abbrev pub EveryNonceDiffers : Type 0
-EveryNonceDiffers = (ciphers : Ciphers) → KeepsRanges ciphers → (entries : List Entry) → IsLineRun ciphers entries → FlightsAreOctets entries → NoncesDiffer entries
+EveryNonceDiffers =
+    (ciphers : Ciphers) → KeepsRanges ciphers → (entries : List Entry) → IsLineRun ciphers entries
+    → FlightsAreOctets entries → NoncesDiffer entries

@@ -21,7 +21,8 @@ pub record IsFit (unit : Unit) : Type 0 where
 
 -- a unit without a mesh header is a route message
 abbrev pub IsRoute : Unit → Type 0
-IsRoute (units.Local code body) = (code ≡ 1) × ((message : Message) × IsMessage message × (body ≡ messages.spelling message))
+IsRoute (units.Local code body) =
+    (code ≡ 1) × ((message : Message) × IsMessage message × (body ≡ messages.spelling message))
 IsRoute (units.Whole mesh octets) = ⊤
 IsRoute (units.Part mesh piece) = ⊤
 IsRoute (units.Carried mesh body) = ⊤
@@ -45,8 +46,10 @@ pub record SpellsLetter (ciphers : Ciphers) (f : Flight) (key : Key) : Type 0 wh
 
 -- A frame without a key: up to an agent, or down to the node of its message.
 pub data IsPlain (ciphers : Ciphers) (octets : List ℕ) : Type 0 where
-  GoesUp : (agent : ℕ) → (from : _) → (message : JoinMessage) → octets ≡ (spelled ciphers (Up agent from message)).octets → IsPlain ciphers octets
-  GoesDown : (from : ℕ) → (message : JoinMessage) → octets ≡ (spelled ciphers (Down from message)).octets → IsPlain ciphers octets
+  GoesUp : (agent : ℕ) → (from : _) → (message : JoinMessage)
+      → octets ≡ (spelled ciphers (Up agent from message)).octets → IsPlain ciphers octets
+  GoesDown : (from : ℕ) → (message : JoinMessage) → octets ≡ (spelled ciphers (Down from message)).octets
+      → IsPlain ciphers octets
 
 -- A flight is what its key says.
 pub record IsFlight (ciphers : Ciphers) (f : Flight) : Type 0 where

@@ -72,7 +72,8 @@ Homes = ℕ → Option ℕ
 
 -- What the part of addresses says: each address that a node has is its home, and no two nodes have one home.
 pub record Addressed (h : Homes) (w : World) : Type 0 where
-  pub home : (i : ℕ) (x : Node) → node_at w i ≡ Some x → (address : ℕ) → node_address x ≡ Some address → h i ≡ Some address
+  pub home : (i : ℕ) (x : Node) → node_at w i ≡ Some x → (address : ℕ) → node_address x ≡ Some address
+      → h i ≡ Some address
   pub apart : (i j address : ℕ) → h i ≡ Some address → h j ≡ Some address → i ≡ j
 
 -- no home that was given is taken back
@@ -83,9 +84,12 @@ Grows h k = (i address : ℕ) → h i ≡ Some address → k i ≡ Some address
 
 -- What a letter spells is read back: the address and the unit of who opens it under its key, and its route message.
 pub record LetterRead (ciphers : Ciphers) (letter : Letter) : Type 0 where
-  pub opens : (a : Arrived) (ack : Bool) (seq pan to from counter index : ℕ) (payload : List ℕ) → arrived ciphers (spelled ciphers (Sealed letter)).octets ≡ Some a → a.head ≡ heads.Sealed ack seq pan to from counter index
+  pub opens : (a : Arrived) (ack : Bool) (seq pan to from counter index : ℕ) (payload : List ℕ)
+      → arrived ciphers (spelled ciphers (Sealed letter)).octets ≡ Some a
+      → a.head ≡ heads.Sealed ack seq pan to from counter index
       → a.opened letter.key ≡ Some payload → (from ≡ letter.from) × (unit_in payload ≡ Some letter.unit)
-  pub messages : (message : Message) → letter.unit ≡ units.Local 1 (messages.spelling message) → message_in (messages.spelling message) ≡ Some message
+  pub messages : (message : Message) → letter.unit ≡ units.Local 1 (messages.spelling message)
+      → message_in (messages.spelling message) ≡ Some message
 
 -- a plain frame has no letter
 abbrev pub FrameRead : Ciphers → Sent → Type 0
@@ -99,15 +103,30 @@ Reads ciphers p = All (FrameRead ciphers) p.frames
 
 -- So it is of every call of a node of a line that may send sealed frames.
 pub record CallsRead (ciphers : Ciphers) (w : World) : Type 0 where
-  pub send : (number : ℕ) (x : Node) (m : Memory) → node_at w number ≡ Some x → x.memory ≡ Some m → (b : ℕ) (y : Node) (to : ℕ) (datagram : List ℕ) → node_at w b ≡ Some y → node_address y ≡ Some to → IsLineOctets datagram → Reads ciphers (of_station m (calls.send m.station to datagram (w.sends + 1) w.clock))
-  pub challenge : (number : ℕ) (x : Node) (m : Memory) → node_at w number ≡ Some x → x.memory ≡ Some m → (b : ℕ) (y : Node) → node_at w b ≡ Some y → Reads ciphers (coordinator_rules.challenge x.eui m y.eui w.clock)
-  pub activate : (number : ℕ) (x : Node) (m : Memory) → node_at w number ≡ Some x → x.memory ≡ Some m → (b : ℕ) (y : Node) (index : ℕ) → node_at w b ≡ Some y → index ≤ 1 → Reads ciphers (coordinator_rules.activate m y.eui index w.clock)
-  pub kick : (number : ℕ) (x : Node) (m : Memory) → node_at w number ≡ Some x → x.memory ≡ Some m → (b : ℕ) (y : Node) → node_at w b ≡ Some y → Reads ciphers (coordinator_rules.kick m y.eui)
+  pub send : (number : ℕ) (x : Node) (m : Memory) → node_at w number ≡ Some x → x.memory ≡ Some m
+      → (b : ℕ) (y : Node) (to : ℕ) (datagram : List ℕ) → node_at w b ≡ Some y → node_address y ≡ Some to
+      → IsLineOctets datagram → Reads ciphers (of_station m (calls.send m.station to datagram (w.sends + 1) w.clock))
+  pub challenge : (number : ℕ) (x : Node) (m : Memory) → node_at w number ≡ Some x → x.memory ≡ Some m
+      → (b : ℕ) (y : Node) → node_at w b ≡ Some y → Reads ciphers (coordinator_rules.challenge x.eui m y.eui w.clock)
+  pub activate : (number : ℕ) (x : Node) (m : Memory) → node_at w number ≡ Some x → x.memory ≡ Some m
+      → (b : ℕ) (y : Node) (index : ℕ) → node_at w b ≡ Some y → index ≤ 1
+      → Reads ciphers (coordinator_rules.activate m y.eui index w.clock)
+  pub kick : (number : ℕ) (x : Node) (m : Memory) → node_at w number ≡ Some x → x.memory ≡ Some m → (b : ℕ) (y : Node)
+      → node_at w b ≡ Some y → Reads ciphers (coordinator_rules.kick m y.eui)
   -- what is heard of octets that were accepted, and that are not forged
-  pub meter_hears : (number : ℕ) (x : Node) (octets : List ℕ) (cost : ℕ) (got : Accepted) (psk : Key) (m : Memory) → node_at w number ≡ Some x → AreOctets octets → (accepting ciphers x octets).answer ≡ Ok got → forged_by w octets got.path ≡ false
-      → (accepting ciphers x octets).node.role ≡ Meter psk → (accepting ciphers x octets).node.memory ≡ Some m → Reads ciphers (meters.hear_meter (identity ciphers (accepting ciphers x octets).node psk) m got cost (note_by w octets got.path) w.clock)
-  pub coordinator_hears : (number : ℕ) (x : Node) (octets : List ℕ) (cost : ℕ) (got : Accepted) (m : Memory) → node_at w number ≡ Some x → AreOctets octets → (accepting ciphers x octets).answer ≡ Ok got → forged_by w octets got.path ≡ false
-      → (accepting ciphers x octets).node.memory ≡ Some m → Reads ciphers (coordinator_rules.hear_coordinator (record { eui = (accepting ciphers x octets).node.eui; ciphers = ciphers }) m got cost (note_by w octets got.path) w.clock)
+  pub meter_hears : (number : ℕ) (x : Node) (octets : List ℕ) (cost : ℕ) (got : Accepted) (psk : Key) (m : Memory)
+      → node_at w number ≡ Some x → AreOctets octets → (accepting ciphers x octets).answer ≡ Ok got
+      → forged_by w octets got.path ≡ false
+      → (accepting ciphers x octets).node.role ≡ Meter psk → (accepting ciphers x octets).node.memory ≡ Some m
+      → Reads ciphers (meters.hear_meter (identity ciphers (accepting ciphers x octets).node psk) m got cost
+      (note_by w octets got.path) w.clock)
+  pub coordinator_hears : (number : ℕ) (x : Node) (octets : List ℕ) (cost : ℕ) (got : Accepted) (m : Memory)
+      → node_at w number ≡ Some x → AreOctets octets → (accepting ciphers x octets).answer ≡ Ok got
+      → forged_by w octets got.path ≡ false
+      → (accepting ciphers x octets).node.memory ≡ Some m
+      → Reads ciphers (coordinator_rules.hear_coordinator
+      (record { eui = (accepting ciphers x octets).node.eui; ciphers = ciphers }) m got cost
+      (note_by w octets got.path) w.clock)
 
 -- # Grants
 
@@ -129,15 +148,21 @@ pub record TakenFrom (x : Identity) (m : Memory) (got : Accepted) (cost note now
 -- where a meter takes the grant of a frame that it accepted, and no pair tag that it finds right there is forged, the grant has the meter's home
 abbrev pub TakesItsOwn : Ciphers → Homes → World → ℕ → List ℕ → ℕ → NodeStep (Result Accepted FrameRefusal) → Type 0
 TakesItsOwn ciphers h w number octets cost d =
-    (got : Accepted) → d.answer ≡ Ok got → list_any (is_forged_tag w.made) (hears ciphers d.node got cost (note_by w octets got.path) w.clock).opened ≡ false
+    (got : Accepted) → d.answer ≡ Ok got
+    → list_any (is_forged_tag w.made) (hears ciphers d.node got cost (note_by w octets got.path) w.clock).opened ≡ false
     → (psk : Key) → d.node.role ≡ Meter psk → (m : Memory) → d.node.memory ≡ Some m
-    → (agreed : Agreed) → (meters.hear_meter (identity ciphers d.node psk) m got cost (note_by w octets got.path) w.clock).answer ≡ Ok (meter_heard.Took agreed)
-    → (granted : Granted) → TakenFrom (identity ciphers d.node psk) m got cost (note_by w octets got.path) w.clock granted → h number ≡ Some granted.address
+    → (agreed : Agreed) →
+    (meters.hear_meter (identity ciphers d.node psk) m got cost (note_by w octets got.path) w.clock).answer
+    ≡ Ok (meter_heard.Took agreed)
+    → (granted : Granted)
+    → TakenFrom (identity ciphers d.node psk) m got cost (note_by w octets got.path) w.clock granted
+    → h number ≡ Some granted.address
 
 -- What the part of addresses says of an event: the homes are those after it, and each grant that a meter takes has its home.
 pub record HomesFit (ciphers : Ciphers) (h : Homes) (w : World) : Type 0 where
   pub addressed : Addressed h w
-  pub took : (number : ℕ) (x : Node) (octets : List ℕ) (cost : ℕ) → node_at w number ≡ Some x → AreOctets octets → TakesItsOwn ciphers h w number octets cost (accepting ciphers x octets)
+  pub took : (number : ℕ) (x : Node) (octets : List ℕ) (cost : ℕ) → node_at w number ≡ Some x → AreOctets octets
+      → TakesItsOwn ciphers h w number octets cost (accepting ciphers x octets)
 
 -- and the grant of the workshop has the home of its meter, which it may have since this event
 abbrev pub DepotFits : Ciphers → Homes → World → Event → Type 0
@@ -159,7 +184,8 @@ pub record EventHomed (ciphers : Ciphers) (h : Homes) (w : World) (x : Entry) : 
 
 abbrev pub AreHomed : Ciphers → Homes → World → List Entry → Type 0
 AreHomed ciphers h w [] = Unit {0}
-AreHomed ciphers h w (x ∷ xs) = x.trace.happened.forged ≡ false → (e : EventHomed ciphers h w x) × AreHomed ciphers e.homes x.after xs
+AreHomed ciphers h w (x ∷ xs) =
+    x.trace.happened.forged ≡ false → (e : EventHomed ciphers h w x) × AreHomed ciphers e.homes x.after xs
 
 -- each node is there after an event, and no rank that it stores is lower
 abbrev pub RanksRise : World → World → Type 0
@@ -168,7 +194,8 @@ RanksRise w v = (i : ℕ) (x : Node) → node_at w i ≡ Some x → Later v i x
 -- after each event up to the first forged one no valid next hops form a loop, and no stored rank is lower than before
 abbrev pub AreLoopFree : World → List Entry → Type 0
 AreLoopFree w [] = Unit {0}
-AreLoopFree w (x ∷ xs) = x.trace.happened.forged ≡ false → HasNoLoop x.after × RanksRise w x.after × AreLoopFree x.after xs
+AreLoopFree w (x ∷ xs) =
+    x.trace.happened.forged ≡ false → HasNoLoop x.after × RanksRise w x.after × AreLoopFree x.after xs
 
 -- no node has a home
 abbrev pub nowhere : Homes
@@ -177,4 +204,5 @@ nowhere i = None
 -- a run whose addresses and letters are right has no loop before it is forged
 abbrev pub EveryRunIsLoopFree : Type 0
 EveryRunIsLoopFree =
-    (ciphers : Ciphers) → KeepsRanges ciphers → (entries : List Entry) → IsLineRun ciphers entries → FlightsAreOctets entries → AreHomed ciphers nowhere start entries → AreLoopFree start entries
+    (ciphers : Ciphers) → KeepsRanges ciphers → (entries : List Entry) → IsLineRun ciphers entries
+    → FlightsAreOctets entries → AreHomed ciphers nowhere start entries → AreLoopFree start entries

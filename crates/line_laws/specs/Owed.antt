@@ -12,5 +12,7 @@ AreOctets xs = All (λ x. x < 256) xs
 
 -- What is read out of octets that came is in its ranges.
 pub record KeepsRanges (ciphers : Ciphers) : Type 0 where
-  pub opened : (octets : List ℕ) (a : Arrived) (key : Key) (payload : List ℕ) → AreOctets octets → arrived ciphers octets ≡ Some a → a.opened key ≡ Some payload → AreOctets payload
-  pub granted : (psk : Key) (peer : Peer) (packet : List ℕ) (granted : Granted) → ciphers.third_fault psk peer packet ≡ None → ciphers.granted psk peer packet ≡ Some granted → IsReadable granted
+  pub opened : (octets : List ℕ) (a : Arrived) (key : Key) (payload : List ℕ) → AreOctets octets
+      → arrived ciphers octets ≡ Some a → a.opened key ≡ Some payload → AreOctets payload
+  pub granted : (psk : Key) (peer : Peer) (packet : List ℕ) (granted : Granted)
+      → ciphers.third_fault psk peer packet ≡ None → ciphers.granted psk peer packet ≡ Some granted → IsReadable granted

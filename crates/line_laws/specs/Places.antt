@@ -22,7 +22,9 @@ node_keeps n i memory = option_map_or (λ (m : Memory). keeps n i m.station) mem
 
 -- the unit that a flight carries, as its key opens it
 abbrev pub unit_of : Ciphers → Flight → Option MeshUnit
-unit_of ciphers f = option_and_then (λ (key : Key). option_and_then (λ (a : Arrived). option_and_then unit_in (a.opened key)) (arrived ciphers f.octets)) f.key
+unit_of ciphers f =
+    option_and_then (λ (key : Key). option_and_then (λ (a : Arrived). option_and_then unit_in (a.opened key))
+    (arrived ciphers f.octets)) f.key
 
 abbrev pub flight_is : Ciphers → ℕ → ℕ → Flight → ℕ
 flight_is ciphers n i f = weigh n f.note (option_map_or (content_is i) (unit_of ciphers f) 0)
@@ -37,7 +39,8 @@ live_is ciphers live n i f = cond (live f) (flight_is ciphers n i f) 0
 -- in waiting bodies and gathered pieces, in live flights, and handed up before
 abbrev pub places : Ciphers → (World → Flight → Bool) → ℕ → ℕ → World → List Handed → ℕ
 places ciphers live n i w ups =
-    (sum_by (λ (x : Node). node_keeps n i x.memory) w.nodes + sum_by (live_is ciphers (live w) n i) w.flights) + sum_by (handed_is n i) ups
+    (sum_by (λ (x : Node). node_keeps n i x.memory) w.nodes + sum_by (live_is ciphers (live w) n i) w.flights) + sum_by
+    (handed_is n i) ups
 
 -- 1 where a send has this note: they are numbered from 1
 abbrev pub issued : ℕ → ℕ → ℕ
@@ -57,12 +60,14 @@ pub record OneNode (w v : World) (x y : Node) (new : List Flight) : Type 0 where
 -- What is owed of marks and counters: no flight comes to life again, and one that was opened was live and is no more.
 pub record LiveFalls (live : World → Flight → Bool) (w v : World) (opened : Option ℕ) : Type 0 where
   pub falls : (f : Flight) → live v f ≡ true → live w f ≡ true
-  pub passes : (place : ℕ) (f : Flight) → opened ≡ Some place → slice_get w.flights place ≡ Some f → (live w f ≡ true) × (live v f ≡ false)
+  pub passes : (place : ℕ) (f : Flight) → opened ≡ Some place → slice_get w.flights place ≡ Some f
+      → (live w f ≡ true) × (live v f ≡ false)
 
 -- the place of the first flight with these octets under this key
 unfoldable pub first_place : List Flight → List ℕ → Key → Option ℕ
 first_place [] octets key = None
-first_place (f ∷ rest) octets key = if has_octets octets key f then Some 0 else option_map (λ (k : ℕ). suc k) (first_place rest octets key)
+first_place (f ∷ rest) octets key =
+    if has_octets octets key f then Some 0 else option_map (λ (k : ℕ). suc k) (first_place rest octets key)
 
 -- the flight to one node that a node opened when it accepted octets, if it opened one: what goes to all carries no datagram
 abbrev pub opened_by : World → List ℕ → Path → Option ℕ

@@ -66,7 +66,8 @@ taking w (Text octets) = reading_taking w (reading octets)
 
 -- the lines that report an event, in a quiet report without those of its flights
 abbrev pub entry_text : Bool → Entry → List ℕ
-entry_text quiet entry = happened_text entry.number entry.event entry.happened ++ sent_text quiet entry.after entry.happened.first_flight
+entry_text quiet entry =
+    happened_text entry.number entry.event entry.happened ++ sent_text quiet entry.after entry.happened.first_flight
 
 -- A world, and whether its report is quiet.
 pub record Playing : Type 0 where

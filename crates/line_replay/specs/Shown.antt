@@ -43,11 +43,17 @@ abbrev pub payload_word : List ℕ → List ℕ
 payload_word body = if length body == 0 then codes "-" else encode_lower body
 
 abbrev pub plain_text : List ℕ → List ℕ → List ℕ → List ℕ
-plain_text to from body = codes "plain to " ++ (to ++ (codes " from " ++ (from ++ (codes " payload " ++ (payload_word body ++ codes "\n")))))
+plain_text to from body =
+    codes "plain to " ++ (to ++ (codes " from " ++ (from ++ (codes " payload " ++ (payload_word body ++ codes "\n")))))
 
 unfoldable pub head_text : MacHead → List ℕ → List ℕ
 head_text (Sealed ack seq pan to from counter index) body =
-    codes "sealed to " ++ (short_word to ++ (codes " from " ++ (short_word from ++ (codes " counter " ++ (decimal counter ++ (codes " index " ++ (decimal index ++ (codes " body " ++ (decimal (length body) ++ codes "\n")))))))))
+    codes "sealed to " ++
+    (short_word to ++ (codes " from "
+    ++ (short_word from ++
+    (codes " counter " ++
+    (decimal counter ++ (codes " index "
+    ++ (decimal index ++ (codes " body " ++ (decimal (length body) ++ codes "\n")))))))))
 head_text (Up ack version seq pan to from) body = plain_text (short_word to) (encode_lower from.0) body
 head_text (Down ack version seq pan to from) body = plain_text (encode_lower to.0) (short_word from) body
 

@@ -41,7 +41,8 @@ status_of exits.ReadFault forged = status.ReadFault
 status_of exits.WriteFault forged = status.WriteFault
 
 -- What reading lines did: how the run ended, the last state where it came to the end of input, and the status of both.
-pub record Ran {M : Type 0} (forged : M → Bool) (outcome : List ℕ → Bool → Outcome M) (source0 source1 : SourceState) (sink0 sink1 : SinkState) (result : Status) : Type 0 where
+pub record Ran {M : Type 0} (forged : M → Bool) (outcome : List ℕ → Bool → Outcome M) (source0 source1 : SourceState)
+    (sink0 sink1 : SinkState) (result : Status) : Type 0 where
   pub exit : Exit
   pub last : M
   pub drives : Drives outcome last source0 source1 sink0 sink1 exit
@@ -85,7 +86,8 @@ pub record Holds (entries : List Entry) : Type 0 where
   pub counts : CountsRight start entries
 
 -- What a replay did: the same, and what holds of its run.
-pub record Replays (quiet : Bool) (source0 source1 : SourceState) (sink0 sink1 : SinkState) (result : Status) : Type 0 where
+pub record Replays (quiet : Bool) (source0 source1 : SourceState) (sink0 sink1 : SinkState)
+    (result : Status) : Type 0 where
   pub ran : Ran is_forged (outcome quiet) source0 source1 sink0 sink1 result
   -- the report is the lines of the run's entries, and then the last line
   pub by_entries : (e : Bool)

@@ -20,7 +20,8 @@ pub record WasTaken (done : Pairing) (before : List Pairing) : Type 0 where
 abbrev pub AgreesAfter : List Entry → List Entry → Type 0
 AgreesAfter before [] = Unit {0}
 AgreesAfter before (x ∷ xs) =
-    x.trace.happened.forged ≡ false → IfSome x.trace.done (λ done. WasTaken done (takings before)) × AgreesAfter (before ++ x ∷ []) xs
+    x.trace.happened.forged ≡ false
+    → IfSome x.trace.done (λ done. WasTaken done (takings before)) × AgreesAfter (before ++ x ∷ []) xs
 
 -- the same from the beginning of a run
 abbrev pub Agrees : List Entry → Type 0
@@ -72,5 +73,7 @@ NeverAllowed number entries = All (λ (x : Entry). is_allow_of number x.event �
 -- no event is forged.
 abbrev pub KickedStaysOut : List Entry → Type 0
 KickedStaysOut entries =
-    (number : ℕ) (before after rest : List Entry) (kick : Entry) (key : Key) → entries ≡ before ++ kick ∷ after ++ rest → NoneForged (before ++ kick ∷ after)
-    → IsKicked number kick → NeverAllowed number after → NeverStood key (before ++ kick ∷ []) → All (λ (x : Entry). NodeHasKey x.after number key → ⊥) (before ++ kick ∷ after)
+    (number : ℕ) (before after rest : List Entry) (kick : Entry) (key : Key) → entries ≡ before ++ kick ∷ after ++ rest
+    → NoneForged (before ++ kick ∷ after)
+    → IsKicked number kick → NeverAllowed number after → NeverStood key (before ++ kick ∷ [])
+    → All (λ (x : Entry). NodeHasKey x.after number key → ⊥) (before ++ kick ∷ after)

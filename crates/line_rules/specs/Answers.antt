@@ -153,7 +153,8 @@ only answer = record { answer = answer; up = None; keyed = None; took = None; do
 
 -- a joining command is never left unread by a node, and no line of a script uses the commands 03, 04 and 05 yet
 abbrev pub station_reception : Heard → Reception
-station_reception (station.Up from note octets) = record (only said.Up) { up = Some (record { note = note; octets = octets }) }
+station_reception (station.Up from note octets) =
+    record (only said.Up) { up = Some (record { note = note; octets = octets }) }
 station_reception station.Held = only said.Held
 station_reception station.Relayed = only said.Relayed
 station_reception station.Answered = only said.Answered
@@ -179,7 +180,9 @@ meter_reception (Err reason) = only (drop_word reason)
 abbrev pub coordinator_reception : Result CoordinatorHeard Dropped → Reception
 coordinator_reception (Ok (coordinator_heard.Station h)) = station_reception h
 coordinator_reception (Ok coordinator_heard.Challenged) = only said.Challenged
-coordinator_reception (Ok (coordinator_heard.Keyed eui granted)) = record (only said.Keyed) { keyed = Some (record { eui = eui; granted = granted }) }
-coordinator_reception (Ok (coordinator_heard.Done eui agreed)) = record (only said.Done) { done = Some (record { eui = eui; agreed = agreed }) }
+coordinator_reception (Ok (coordinator_heard.Keyed eui granted)) =
+    record (only said.Keyed) { keyed = Some (record { eui = eui; granted = granted }) }
+coordinator_reception (Ok (coordinator_heard.Done eui agreed)) =
+    record (only said.Done) { done = Some (record { eui = eui; agreed = agreed }) }
 coordinator_reception (Ok coordinator_heard.Declined) = only said.Declined
 coordinator_reception (Err reason) = only (drop_word reason)

@@ -24,12 +24,14 @@ use Rattle.line_rules.specs.Runs.{Entry}
 
 -- octets come to the node of a number: those of a flight, or of the script
 pub data Comes (w : World) : Event → ℕ → List ℕ → Type 0 where
-  OfFlight : (flight number cost : ℕ) (f : Flight) → flight_at w flight ≡ Some f → Comes w (events.Deliver flight number cost) number f.octets
+  OfFlight : (flight number cost : ℕ) (f : Flight) → flight_at w flight ≡ Some f
+      → Comes w (events.Deliver flight number cost) number f.octets
   OfScript : (number cost : ℕ) (octets : List ℕ) → Comes w (events.Inject number cost octets) number octets
 
 -- what a node does about octets before it hears what they carry
 abbrev pub accepting : Ciphers → Node → List ℕ → NodeStep (Result Accepted FrameRefusal)
-accepting ciphers x octets = acts x (Err frames.Halted) (λ m. of_station m (accept m.station x.eui (arrived ciphers octets)))
+accepting ciphers x octets =
+    acts x (Err frames.Halted) (λ m. of_station m (accept m.station x.eui (arrived ciphers octets)))
 
 -- A node accepts octets that come to it, sealed under a key.
 pub record AcceptsSealed (ciphers : Ciphers) (w : World) (event : Event) (octets : List ℕ) (key : Key) : Type 0 where
@@ -51,8 +53,10 @@ NoneFlew flights octets key = All (λ (f : Flight). (f.octets ≡ octets) × (f.
 
 -- two pair tags were computed over the same, under the pair key of one meter
 pub data IsSameTag : PairTag → PairTag → Type 0 where
-  BothMacP : (a b : Eui) (octets : List ℕ) → eui_number a ≡ eui_number b → IsSameTag (tags.MacP a octets) (tags.MacP b octets)
-  BothMacS : (a b : Eui) (octets : List ℕ) → eui_number a ≡ eui_number b → IsSameTag (tags.MacS a octets) (tags.MacS b octets)
+  BothMacP : (a b : Eui) (octets : List ℕ) → eui_number a ≡ eui_number b
+      → IsSameTag (tags.MacP a octets) (tags.MacP b octets)
+  BothMacS : (a b : Eui) (octets : List ℕ) → eui_number a ≡ eui_number b
+      → IsSameTag (tags.MacS a octets) (tags.MacS b octets)
   BothChannel : (a b : Eui) (rand_p : Rand) (nonce : ℕ) (header text : List ℕ) → eui_number a ≡ eui_number b
       → IsSameTag (tags.Channel a rand_p nonce header text) (tags.Channel b rand_p nonce header text)
 
@@ -64,10 +68,13 @@ NoneMade made tag = All (λ (t : PairTag). IsSameTag tag t → ⊥) made
 
 -- an event in which a node accepts octets that no node sent under their key, or finds a pair tag right that no node made
 pub data IsForged (ciphers : Ciphers) (w : World) (event : Event) (opened : List PairTag) : Type 0 where
-  ByFrame : (octets : List ℕ) (key : Key) → AcceptsSealed ciphers w event octets key → NoneFlew w.flights octets key → IsForged ciphers w event opened
-  ByTag : (place : ℕ) (tag : PairTag) → slice_get opened place ≡ Some tag → NoneMade w.made tag → IsForged ciphers w event opened
+  ByFrame : (octets : List ℕ) (key : Key) → AcceptsSealed ciphers w event octets key → NoneFlew w.flights octets key
+      → IsForged ciphers w event opened
+  ByTag : (place : ℕ) (tag : PairTag) → slice_get opened place ≡ Some tag → NoneMade w.made tag
+      → IsForged ciphers w event opened
 
 -- exactly such events are reported to be forged
 abbrev pub IsForgedRight : Ciphers → World → List Entry → Type 0
 IsForgedRight ciphers w [] = Unit {0}
-IsForgedRight ciphers w (x ∷ xs) = ((x.trace.happened.forged ≡ true) ↔ IsForged ciphers w x.event x.trace.opened) × IsForgedRight ciphers x.after xs
+IsForgedRight ciphers w (x ∷ xs) =
+    ((x.trace.happened.forged ≡ true) ↔ IsForged ciphers w x.event x.trace.opened) × IsForgedRight ciphers x.after xs

@@ -31,4 +31,5 @@ pub record GoesOn (w v : World) : Type 0 where
 
 -- every event that is taken leads one event on
 abbrev pub StepsGoOn : Type 0
-StepsGoOn = (ciphers : Ciphers) (w v : World) (event : Event) (d : Trace) → step ciphers w event ≡ Ok (v, d) → GoesOn w v
+StepsGoOn =
+    (ciphers : Ciphers) (w v : World) (event : Event) (d : Trace) → step ciphers w event ≡ Ok (v, d) → GoesOn w v

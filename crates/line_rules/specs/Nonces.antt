@@ -36,7 +36,8 @@ CounterRises f g = f.from ≡ g.from → IfSome (nonce_parts f) (λ p. IfSome (n
 
 -- two flights under one key have different nonces
 abbrev pub HasAnotherNonce : Flight → Flight → Type 0
-HasAnotherNonce f g = f.key ≡ g.key → IfSome f.key (λ _. IfSome (nonce_parts f) (λ p. IfSome (nonce_parts g) (λ q. p ≢ q)))
+HasAnotherNonce f g =
+    f.key ≡ g.key → IfSome f.key (λ _. IfSome (nonce_parts f) (λ p. IfSome (nonce_parts g) (λ q. p ≢ q)))
 
 -- In every run, forged or not, the counters of the sealed flights of one node rise.
 abbrev pub CountersRise : List Entry → Type 0
@@ -57,7 +58,8 @@ pub record IsSealedUnder (ciphers : Ciphers) (key : Key) (octets : List ℕ) : T
   pub spelled : octets ≡ header_then head (ciphers.seals key head payload)
   pub nonce : is_some (nonce_in_head (head_in octets)) ≡ true
   -- the key opens what it sealed, where the ciphers do so at all
-  pub opened : OpensWhatItSeals ciphers → ciphers.opens key head (header head) (ciphers.seals key head payload) ≡ Some payload
+  pub opened : OpensWhatItSeals ciphers
+      → ciphers.opens key head (header head) (ciphers.seals key head payload) ≡ Some payload
 
 -- The octets are a plain frame with a joining message, and no sealed one.
 pub record IsPlainFrame (octets : List ℕ) : Type 0 where

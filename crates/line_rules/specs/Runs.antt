@@ -26,12 +26,16 @@ entries_of w event (Err fault) rest = []
 -- the run of events from a world on, up to the first that is not taken; it has at most MAX_EVENTS events
 abbrev pub run : Ciphers → World → List Event → List Entry
 run ciphers w [] = []
-run ciphers w (event ∷ events) = if nat_lt w.events MAX_EVENTS then entries_of w event (step ciphers w event) (λ next. run ciphers next events) else []
+run ciphers w (event ∷ events) =
+    if nat_lt w.events MAX_EVENTS
+    then entries_of w event (step ciphers w event) (λ next. run ciphers next events) else []
 
 -- the entries are a run from a world on
 abbrev pub IsRun : Ciphers → World → List Entry → Type 0
 IsRun ciphers w [] = Unit {0}
-IsRun ciphers w (x ∷ xs) = (w.events < MAX_EVENTS) × (x.number ≡ w.events + 1) × (step ciphers w x.event ≡ Ok (x.after, x.trace)) × IsRun ciphers x.after xs
+IsRun ciphers w (x ∷ xs) =
+    (w.events < MAX_EVENTS) × (x.number ≡ w.events + 1) × (step ciphers w x.event ≡ Ok (x.after, x.trace))
+    × IsRun ciphers x.after xs
 
 -- # What a history tells
 

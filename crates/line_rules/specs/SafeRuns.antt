@@ -36,7 +36,8 @@ HasAddress w number address = IfSomeNode (node_at w number)
 -- the nodes lead on, one to the next, from this one to an address
 abbrev pub Leads : World → (dest : ℕ) → (first : ℕ) → List ℕ → (end : ℕ) → Type 0
 Leads w dest first [] end = HasRoute w dest first end
-Leads w dest first (second ∷ rest) end = ((address : ℕ) × (HasRoute w dest first address × HasAddress w second address)) × Leads w dest second rest end
+Leads w dest first (second ∷ rest) end =
+    ((address : ℕ) × (HasRoute w dest first address × HasAddress w second address)) × Leads w dest second rest end
 
 -- they lead back to the first one
 pub record IsLoop (w : World) (dest first : ℕ) (rest : List ℕ) : Type 0 where
@@ -122,4 +123,5 @@ is_restart _ = false
 
 -- every restart is answered Restarted
 abbrev pub RestartsAreAnswered : List Entry → Type 0
-RestartsAreAnswered entries = All (λ (x : Entry). is_restart x.event ≡ true → x.trace.happened.answer ≡ said.Restarted) entries
+RestartsAreAnswered entries =
+    All (λ (x : Entry). is_restart x.event ≡ true → x.trace.happened.answer ≡ said.Restarted) entries

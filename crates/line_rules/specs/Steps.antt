@@ -98,7 +98,8 @@ trace_of h = record { happened = h; sent = None; issued = []; taken = None; done
 
 -- what a node did is told, in the words of its answer
 abbrev pub spoken : World → NodeStep Answer → Trace
-spoken w d = record (trace_of (record (happened w d.answer) { flights = length d.frames })) { made = d.made; opened = d.opened }
+spoken w d =
+    record (trace_of (record (happened w d.answer) { flights = length d.frames })) { made = d.made; opened = d.opened }
 
 -- what a node did is told to the world and to the report
 abbrev pub acted : Ciphers → World → ℕ → NodeStep Answer → World × Trace
@@ -138,11 +139,18 @@ at_coordinator w step = on_node w 0 step
 
 -- a node with an empty store
 abbrev pub blank_node : Role → Eui → Node
-blank_node role eui = record { role = role; eui = eui; store = record { records = maps.empty; cut = None }; memory = Some (remembering blank_station []) }
+blank_node role eui =
+    record {
+      role = role;
+      eui = eui;
+      store = record { records = maps.empty; cut = None };
+      memory = Some (remembering blank_station []);
+    }
 
 -- the coordinator, which begins with its first ring
 abbrev pub coordinator_node : Eui → Key → Node
-coordinator_node eui key = (acts (blank_node Coordinator eui) (Ok tt) (λ m. coordinator_rules.begin m (first_grant key))).node
+coordinator_node eui key =
+    (acts (blank_node Coordinator eui) (Ok tt) (λ m. coordinator_rules.begin m (first_grant key))).node
 
 -- a node more
 abbrev pub made_node : World → Node → World × Trace
@@ -200,7 +208,8 @@ depot_by ciphers w number x d = by_answer d.answer
 abbrev pub depot_at : Ciphers → World → ℕ → Node → Node → Step
 depot_at ciphers w number x c =
     if (number == 0) || is_some (node_address x) then Err faults.Setup
-    else option_map_or (λ psk. depot_by ciphers w number x (acts c (Err orders.Halted) (λ m. coordinator_rules.depot m x.eui psk))) (psk_of x) (Err faults.Setup)
+    else option_map_or (λ psk. depot_by ciphers w number x
+    (acts c (Err orders.Halted) (λ m. coordinator_rules.depot m x.eui psk))) (psk_of x) (Err faults.Setup)
 
 -- a meter is joined in the workshop
 unfoldable pub depot : Ciphers → World → ℕ → Step
@@ -218,7 +227,8 @@ ranks_full x = option_map_or (λ (m : Memory). nat_lt 63 (length m.station.routi
 
 -- a node takes a neighbour as a route of one hop
 abbrev pub offered_near : Node → ℕ → ℕ → ℕ → NodeStep (Unit {0})
-offered_near x to cost now = answering (λ _. tt) (acts x (Ok tt) (λ m. of_station m (calls.preset_near m.station to cost now)))
+offered_near x to cost now =
+    answering (λ _. tt) (acts x (Ok tt) (λ m. of_station m (calls.preset_near m.station to cost now)))
 
 -- of two nodes that have addresses, keep no rank of each other and have room for one
 abbrev pub near_by : Ciphers → World → (a b cost : ℕ) → Node → Node → Option ℕ → Option ℕ → Step
@@ -226,7 +236,11 @@ near_by ciphers w a b cost x y None q = Err faults.Setup
 near_by ciphers w a b cost x y (Some p) None = Err faults.Setup
 near_by ciphers w a b cost x y (Some p) (Some q) =
     if (a == b) || (keeps_rank x q || (ranks_full x || ranks_full y)) then Err faults.Setup
-    else Ok (told ciphers (told ciphers (set_up w) a (offered_near x q cost w.clock)) b (offered_near y p cost w.clock), trace_of (happened w said.Set))
+    else Ok (
+      told ciphers (told ciphers (set_up w) a (offered_near x q cost w.clock)) b
+          (offered_near y p cost w.clock),
+      trace_of (happened w said.Set),
+    )
 
 -- two nodes are neighbours over a link of this cost
 unfoldable pub near : Ciphers → World → (a b cost : ℕ) → Step
@@ -238,7 +252,12 @@ near ciphers w a b cost =
 -- a value of a node is set
 abbrev pub preset : Ciphers → World → ℕ → (StationMemory → calls.Presetting) → Step
 preset ciphers w number plan =
-    in_setup w (on_node w number (λ x. Ok (told ciphers (set_up w) number (acts x (Ok tt) (λ m. of_station m (plan m.station))), trace_of (happened w said.Set))))
+    in_setup w (on_node w number
+    (λ x. Ok (
+      told ciphers (set_up w) number (acts x (Ok tt) (λ m. of_station m (plan m.station))),
+      trace_of
+          (happened w said.Set),
+    )))
 
 -- # allow, rand, join, leave
 
@@ -262,12 +281,16 @@ allowed ciphers w number d = (
 unfoldable pub allow : Ciphers → World → ℕ → Step
 allow ciphers w number =
     once_begun w (on_meter w number (λ x. at_coordinator w (λ c.
-    option_map_or (λ psk. Ok (allowed ciphers w number (acts c (Err orders.Halted) (λ m. coordinator_rules.allow m x.eui psk)))) (psk_of x) (Err faults.Node))))
+    option_map_or (λ psk. Ok
+    (allowed ciphers w number
+    (acts c (Err orders.Halted) (λ m. coordinator_rules.allow m x.eui psk)))) (psk_of x) (Err faults.Node))))
 
 -- a node is given a random value
 unfoldable pub rand : Ciphers → World → ℕ → Rand → Step
 rand ciphers w number value =
-    once_begun w (on_node w number (λ x. Ok (acted ciphers w number (answering random_word (acts x (Err randoms.Halted) (λ m. give_random m value))))))
+    once_begun w (on_node w number
+    (λ x. Ok (acted ciphers w number
+    (answering random_word (acts x (Err randoms.Halted) (λ m. give_random m value))))))
 
 -- the identity that a meter's calls are given
 abbrev pub identity : Ciphers → Node → Key → meters.Identity
@@ -278,17 +301,20 @@ abbrev pub joins_by : Ciphers → World → ℕ → Node → Option ℕ → Opti
 joins_by ciphers w number x None psk = (ran w, trace_of (happened w said.NoAddress))
 joins_by ciphers w number x (Some agent) None = (ran w, trace_of (happened w said.NoAddress))
 joins_by ciphers w number x (Some agent) (Some psk) =
-    acted ciphers w number (answering join_word (acts x (Err joins.Halted) (λ m. meters.join (identity ciphers x psk) m agent w.clock)))
+    acted ciphers w number
+    (answering join_word (acts x (Err joins.Halted) (λ m. meters.join (identity ciphers x psk) m agent w.clock)))
 
 -- a meter is told to join at an agent
 unfoldable pub join : Ciphers → World → ℕ → ℕ → Step
 join ciphers w number agent =
-    once_begun w (on_meter w number (λ x. on_node w agent (λ y. Ok (joins_by ciphers w number x (node_address y) (psk_of x)))))
+    once_begun w (on_meter w number
+    (λ x. on_node w agent (λ y. Ok (joins_by ciphers w number x (node_address y) (psk_of x)))))
 
 -- a meter is told to leave
 unfoldable pub leave : Ciphers → World → ℕ → Step
 leave ciphers w number =
-    once_begun w (on_meter w number (λ x. Ok (acted ciphers w number (answering leave_word (acts x (Err leaves.Halted) meters.leave)))))
+    once_begun w (on_meter w number
+    (λ x. Ok (acted ciphers w number (answering leave_word (acts x (Err leaves.Halted) meters.leave)))))
 
 -- # send, break
 
@@ -319,7 +345,8 @@ abbrev pub sends_by : Ciphers → World → (from to : ℕ) → List ℕ → Nod
 sends_by ciphers w from to datagram x None = (ran w, trace_of (happened w said.NoAddress))
 sends_by ciphers w from to datagram x (Some address) =
     sending ciphers w from to datagram (tag_of x)
-    (answering sent_word (acts x (Err sends.Halted) (λ m. of_station m (calls.send m.station address datagram (w.sends + 1) w.clock))))
+    (answering sent_word
+    (acts x (Err sends.Halted) (λ m. of_station m (calls.send m.station address datagram (w.sends + 1) w.clock))))
 
 -- a datagram is to go from one node to another
 unfoldable pub send : Ciphers → World → (from to : ℕ) → List ℕ → Step
@@ -329,7 +356,9 @@ send ciphers w from to datagram =
 -- the link to a node that has an address breaks
 abbrev pub breaks_by : Ciphers → World → ℕ → Node → Option ℕ → World × Trace
 breaks_by ciphers w number x None = (ran w, trace_of (happened w said.NoAddress))
-breaks_by ciphers w number x (Some next) = acted ciphers w number (acts x said.Halted (λ m. changing said.Broken (with_station (calls.broke next m.station) m)))
+breaks_by ciphers w number x (Some next) =
+    acted ciphers w number
+    (acts x said.Halted (λ m. changing said.Broken (with_station (calls.broke next m.station) m)))
 
 -- a node is told that its link to another one broke
 unfoldable pub breaks : Ciphers → World → ℕ → ℕ → Step
@@ -343,8 +372,13 @@ abbrev pub hears : Ciphers → Node → Accepted → (cost note now : ℕ) → N
 hears ciphers x got cost note now = hears_by x.role
   where
     hears_by : Role → NodeStep Reception
-    hears_by Coordinator = answering coordinator_reception (acts x (Err drops.Store) (λ m. coordinator_rules.hear_coordinator (record { eui = x.eui; ciphers = ciphers }) m got cost note now))
-    hears_by (Meter psk) = answering meter_reception (acts x (Err drops.Store) (λ m. meters.hear_meter (identity ciphers x psk) m got cost note now))
+    hears_by Coordinator =
+        answering coordinator_reception
+        (acts x (Err drops.Store)
+        (λ m. coordinator_rules.hear_coordinator (record { eui = x.eui; ciphers = ciphers }) m got cost note now))
+    hears_by (Meter psk) =
+        answering meter_reception
+        (acts x (Err drops.Store) (λ m. meters.hear_meter (identity ciphers x psk) m got cost note now))
 
 -- the note of octets that a node accepted, and whether they are forged
 abbrev pub note_by : World → List ℕ → Path → ℕ
@@ -426,11 +460,13 @@ accepted_by ciphers w number octets cost d = by_answer d.answer
 -- octets come to a node over a link of a cost
 unfoldable pub arrives : Ciphers → World → ℕ → Node → List ℕ → ℕ → World × Trace
 arrives ciphers w number x octets cost =
-    accepted_by ciphers w number octets cost (acts x (Err frames.Halted) (λ m. of_station m (accept m.station x.eui (arrived ciphers octets))))
+    accepted_by ciphers w number octets cost
+    (acts x (Err frames.Halted) (λ m. of_station m (accept m.station x.eui (arrived ciphers octets))))
 
 -- a flight that was lost comes no more
 abbrev pub on_flight : World → ℕ → (Flight → Step) → Step
-on_flight w number step = option_map_or (λ f. if f.lost then Err faults.Flight else step f) (flight_at w number) (Err faults.Flight)
+on_flight w number step =
+    option_map_or (λ f. if f.lost then Err faults.Flight else step f) (flight_at w number) (Err faults.Flight)
 
 -- a flight comes to a node over a link of this cost
 unfoldable pub deliver : Ciphers → World → (flight number cost : ℕ) → Step
@@ -444,7 +480,12 @@ inject ciphers w number cost octets = once_begun w (on_node w number (λ x. Ok (
 -- a flight is lost
 unfoldable pub lose : World → ℕ → Step
 lose w number =
-    once_begun w (on_flight w number (λ f. Ok (record (ran w) { flights = slice_set w.flights (number - 1) (record f { lost = true }) }, trace_of (happened w said.Lost))))
+    once_begun w (on_flight w number
+    (λ f. Ok (
+      record (ran w) { flights = slice_set w.flights (number - 1) (record f { lost = true }) },
+      trace_of
+          (happened w said.Lost),
+    )))
 
 -- # tick, restart, cut, show
 
@@ -476,7 +517,9 @@ restart_word (Err bad) = said.BadStore
 
 -- a node has what its store gives, and a loss of power that is still to come stays so
 abbrev pub restarts : Node → NodeStep Answer
-restarts x = stays (record x { memory = memory_by (memory_of x.role x.store.records) }) (restart_word (memory_of x.role x.store.records))
+restarts x =
+    stays (record x { memory = memory_by (memory_of x.role x.store.records) })
+    (restart_word (memory_of x.role x.store.records))
 
 -- a node restarts
 unfoldable pub restart : Ciphers → World → ℕ → Step
@@ -486,26 +529,39 @@ restart ciphers w number = once_begun w (on_node w number (λ x. Ok (acted ciphe
 unfoldable pub cut : Ciphers → World → ℕ → ℕ → Bool → Step
 cut ciphers w number nth keeps_new =
     once_begun w (on_node w number (λ x.
-    Ok (acted ciphers w number (stays (record x { store = record x.store { cut = Some (record { nth = nth; keeps_new = keeps_new }) } }) said.Set))))
+    Ok (acted ciphers w number
+    (stays (record x {
+      store = record x.store
+          { cut = Some (record { nth = nth; keeps_new = keeps_new }) };
+    }) said.Set))))
 
 -- a node shows what it holds
 unfoldable pub show : World → ℕ → Step
-show w number = once_begun w (on_node w number (λ x. Ok (ran w, trace_of (record (happened w said.Shown) { shown = Some (shown_of x) }))))
+show w number =
+    once_begun w (on_node w number
+    (λ x. Ok (ran w, trace_of (record (happened w said.Shown) { shown = Some (shown_of x) }))))
 
 -- # rekey, challenge, activate, kick
 
 -- the coordinator carries out an order
-abbrev pub by_coordinator : {A : Type 0} → Ciphers → World → Node → Answer → (Memory → Plan Memory (Result A CoordinatorRefusal)) → World × Trace
-by_coordinator ciphers w c answer order = acted ciphers w 0 (answering (ordered_word answer) (acts c (Err orders.Halted) order))
+abbrev pub by_coordinator : {A : Type 0} → Ciphers → World → Node → Answer
+    → (Memory → Plan Memory (Result A CoordinatorRefusal)) → World × Trace
+by_coordinator ciphers w c answer order =
+    acted ciphers w 0 (answering (ordered_word answer) (acts c (Err orders.Halted) order))
 
 -- the coordinator draws a key for an index
 unfoldable pub rekey : Ciphers → World → ℕ → Key → Step
-rekey ciphers w index key = once_begun w (at_coordinator w (λ c. Ok (by_coordinator ciphers w c said.Drawn (λ m. coordinator_rules.rekey m index key))))
+rekey ciphers w index key =
+    once_begun w (at_coordinator w
+    (λ c. Ok (by_coordinator ciphers w c said.Drawn (λ m. coordinator_rules.rekey m index key))))
 
 -- the coordinator opens a session with a meter
 unfoldable pub challenge : Ciphers → World → ℕ → Step
 challenge ciphers w number =
-    once_begun w (on_meter w number (λ x. at_coordinator w (λ c. Ok (by_coordinator ciphers w c said.Challenged (λ m. coordinator_rules.challenge c.eui m x.eui w.clock)))))
+    once_begun w (on_meter w number
+    (λ x. at_coordinator w
+    (λ c. Ok (by_coordinator ciphers w c said.Challenged
+    (λ m. coordinator_rules.challenge c.eui m x.eui w.clock)))))
 
 -- the coordinator seals with another key itself, or tells a meter to
 abbrev pub activate_at : Ciphers → World → ℕ → ℕ → Node → Node → World × Trace
@@ -515,12 +571,15 @@ activate_at ciphers w number index x c =
 
 -- another key is to seal, at a node
 unfoldable pub activate : Ciphers → World → ℕ → ℕ → Step
-activate ciphers w number index = once_begun w (on_node w number (λ x. at_coordinator w (λ c. Ok (activate_at ciphers w number index x c))))
+activate ciphers w number index =
+    once_begun w (on_node w number (λ x. at_coordinator w (λ c. Ok (activate_at ciphers w number index x c))))
 
 -- the coordinator shuts a meter out
 unfoldable pub kick : Ciphers → World → ℕ → Step
 kick ciphers w number =
-    once_begun w (on_meter w number (λ x. at_coordinator w (λ c. Ok (by_coordinator ciphers w c said.Kicked (λ m. coordinator_rules.kick m x.eui)))))
+    once_begun w (on_meter w number
+    (λ x. at_coordinator w
+    (λ c. Ok (by_coordinator ciphers w c said.Kicked (λ m. coordinator_rules.kick m x.eui)))))
 
 -- # All kinds
 

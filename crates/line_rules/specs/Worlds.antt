@@ -47,7 +47,19 @@ pub record World : Type 0 where
 
 -- the world before the first event
 abbrev pub start : World
-start = record { clock = 0; events = 0; running = false; nodes = []; flights = []; made = []; sends = 0; ups = 0; forged = 0; done = 0 }
+start =
+    record {
+      clock = 0;
+      events = 0;
+      running = false;
+      nodes = [];
+      flights = [];
+      made = [];
+      sends = 0;
+      ups = 0;
+      forged = 0;
+      done = 0;
+    }
 
 -- the node of a number
 abbrev pub node_at : World → ℕ → Option Node
@@ -86,7 +98,8 @@ same_tag (tags.MacS a s) (tags.MacS b t) = same_eui a b && bytes_eq s t
 same_tag (tags.MacS a s) (tags.Channel b q n h t) = false
 same_tag (tags.Channel a p m g s) (tags.MacP b t) = false
 same_tag (tags.Channel a p m g s) (tags.MacS b t) = false
-same_tag (tags.Channel a p m g s) (tags.Channel b q n h t) = same_eui a b && (same_rand p q && ((m == n) && (bytes_eq g h && bytes_eq s t)))
+same_tag (tags.Channel a p m g s) (tags.Channel b q n h t) =
+    same_eui a b && (same_rand p q && ((m == n) && (bytes_eq g h && bytes_eq s t)))
 
 -- whether a pair tag that a node found right was made by no node
 abbrev pub is_forged_tag : List PairTag → PairTag → Bool

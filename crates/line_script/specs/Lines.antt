@@ -31,14 +31,18 @@ line_of (Allow node) = spaced (kind_word kinds.Allow) (decimal node)
 line_of (GiveRand node value) = spaced (kind_word kinds.Rand) (spaced (decimal node) (encode_lower value.0))
 line_of (Join node agent) = spaced (kind_word kinds.Join) (spaced (decimal node) (decimal agent))
 line_of (Leave node) = spaced (kind_word kinds.Leave) (decimal node)
-line_of (Send from to datagram) = spaced (kind_word kinds.Send) (spaced (decimal from) (spaced (decimal to) (encode_lower datagram)))
-line_of (Deliver flight node cost) = spaced (kind_word kinds.Deliver) (spaced (decimal flight) (spaced (decimal node) (decimal cost)))
-line_of (Inject node cost octets) = spaced (kind_word kinds.Inject) (spaced (decimal node) (spaced (decimal cost) (encode_lower octets)))
+line_of (Send from to datagram) =
+    spaced (kind_word kinds.Send) (spaced (decimal from) (spaced (decimal to) (encode_lower datagram)))
+line_of (Deliver flight node cost) =
+    spaced (kind_word kinds.Deliver) (spaced (decimal flight) (spaced (decimal node) (decimal cost)))
+line_of (Inject node cost octets) =
+    spaced (kind_word kinds.Inject) (spaced (decimal node) (spaced (decimal cost) (encode_lower octets)))
 line_of (Lose flight) = spaced (kind_word kinds.Lose) (decimal flight)
 line_of (Break node next) = spaced (kind_word kinds.Break) (spaced (decimal node) (decimal next))
 line_of (Tick seconds) = spaced (kind_word kinds.Tick) (decimal seconds)
 line_of (Restart node) = spaced (kind_word kinds.Restart) (decimal node)
-line_of (Cut node nth keeps_new) = spaced (kind_word kinds.Cut) (spaced (decimal node) (spaced (decimal nth) (kept_word keeps_new)))
+line_of (Cut node nth keeps_new) =
+    spaced (kind_word kinds.Cut) (spaced (decimal node) (spaced (decimal nth) (kept_word keeps_new)))
 line_of (Rekey index key) = spaced (kind_word kinds.Rekey) (spaced (decimal index) (encode_lower key.0))
 line_of (Challenge node) = spaced (kind_word kinds.Challenge) (decimal node)
 line_of (Activate node index) = spaced (kind_word kinds.Activate) (spaced (decimal node) (decimal index))

@@ -34,7 +34,8 @@ next_word (Some next) = short_word next
 -- node <n> <address> <active> <next counter> <last number>
 unfoldable pub head_text : ℕ → Shown → List ℕ
 head_text node shown =
-    codes "node " ++ (decimal node ++ (codes " " ++ (address_word shown.address ++ (codes " " ++ (index_word shown.active ++ (codes " "
+    codes "node " ++ (decimal node
+    ++ (codes " " ++ (address_word shown.address ++ (codes " " ++ (index_word shown.active ++ (codes " "
     ++ (decimal shown.next_counter ++ (codes " " ++ (decimal shown.last_number ++ codes "\n")))))))))
 
 -- key <index> <hex>
@@ -45,7 +46,8 @@ key_text index (Some key) = codes "key " ++ (decimal index ++ (codes " " ++ (enc
 -- route <dest> <number> <cost> <next>
 unfoldable pub route_text : ShownRoute → List ℕ
 route_text route =
-    codes "route " ++ (short_word route.dest ++ (codes " " ++ (decimal route.number ++ (codes " " ++ (decimal route.cost ++ (codes " "
+    codes "route " ++ (short_word route.dest
+    ++ (codes " " ++ (decimal route.number ++ (codes " " ++ (decimal route.cost ++ (codes " "
     ++ (next_word route.next ++ codes "\n")))))))
 
 abbrev pub routes_text : List ShownRoute → List ℕ
@@ -54,7 +56,8 @@ routes_text (route ∷ routes) = route_text route ++ routes_text routes
 
 -- floor <class> <number>, where it is above 0
 unfoldable pub floor_text : ℕ → ℕ → List ℕ
-floor_text class floor = if floor == 0 then [] else codes "floor " ++ (decimal class ++ (codes " " ++ (decimal floor ++ codes "\n")))
+floor_text class floor =
+    if floor == 0 then [] else codes "floor " ++ (decimal class ++ (codes " " ++ (decimal floor ++ codes "\n")))
 
 -- the floors of the classes from one on
 abbrev pub floors_text : ℕ → List ℕ → List ℕ

@@ -19,7 +19,8 @@ use Rattle.line_script.specs.NodeTexts.{short_word, node_text}
 
 -- <event> ok <word>, or <event> no <refusal>
 unfoldable pub answer_text : ℕ → Answer → List ℕ
-answer_text number answer = decimal number ++ (codes " " ++ (verdict_word answer ++ (codes " " ++ (answer_word answer ++ codes "\n"))))
+answer_text number answer =
+    decimal number ++ (codes " " ++ (verdict_word answer ++ (codes " " ++ (answer_word answer ++ codes "\n"))))
 
 -- forged <event>
 unfoldable pub forged_text : ℕ → Bool → List ℕ
@@ -28,12 +29,15 @@ forged_text number forged = if forged then codes "forged " ++ (decimal number ++
 -- up <node> <send> <hex>
 unfoldable pub up_text : Option Handed → List ℕ
 up_text None = []
-up_text (Some up) = codes "up " ++ (decimal up.node ++ (codes " " ++ (decimal up.note ++ (codes " " ++ (encode_lower up.octets ++ codes "\n")))))
+up_text (Some up) =
+    codes "up " ++ (decimal up.node
+    ++ (codes " " ++ (decimal up.note ++ (codes " " ++ (encode_lower up.octets ++ codes "\n")))))
 
 -- grant <n> <address>
 unfoldable pub grant_text : Option Admission → List ℕ
 grant_text None = []
-grant_text (Some grant) = codes "grant " ++ (decimal grant.node ++ (codes " " ++ (short_word grant.address ++ codes "\n")))
+grant_text (Some grant) =
+    codes "grant " ++ (decimal grant.node ++ (codes " " ++ (short_word grant.address ++ codes "\n")))
 
 -- took <n>
 unfoldable pub took_text : Option ℕ → List ℕ
@@ -53,16 +57,20 @@ shown_text _ _ = []
 -- who was allowed, took a grant, is done, and is shown
 unfoldable pub details_text : Event → Happenings → List ℕ
 details_text event happened =
-    grant_text happened.grant ++ (took_text happened.took ++ (done_text happened.done ++ shown_text event happened.shown))
+    grant_text happened.grant
+    ++ (took_text happened.took ++ (done_text happened.done ++ shown_text event happened.shown))
 
 -- the lines of an event, by its number, without those of its flights
 unfoldable pub happened_text : ℕ → Event → Happenings → List ℕ
 happened_text number event happened =
-    answer_text number happened.answer ++ (forged_text number happened.forged ++ (up_text happened.up ++ details_text event happened))
+    answer_text number happened.answer
+    ++ (forged_text number happened.forged ++ (up_text happened.up ++ details_text event happened))
 
 -- fly <flight> <node> <hex>
 unfoldable pub fly_text : ℕ → ℕ → List ℕ → List ℕ
-fly_text number node octets = codes "fly " ++ (decimal number ++ (codes " " ++ (decimal node ++ (codes " " ++ (encode_lower octets ++ codes "\n")))))
+fly_text number node octets =
+    codes "fly " ++ (decimal number
+    ++ (codes " " ++ (decimal node ++ (codes " " ++ (encode_lower octets ++ codes "\n")))))
 
 -- # The last line
 
@@ -82,5 +90,6 @@ bad_text number reason = codes "bad " ++ (decimal number ++ (codes " " ++ (reaso
 -- end <events> <flights> <sends> <ups> <forged>
 unfoldable pub end_text : Totals → List ℕ
 end_text totals =
-    codes "end " ++ (decimal totals.events ++ (codes " " ++ (decimal totals.flights ++ (codes " " ++ (decimal totals.sends ++ (codes " "
+    codes "end " ++ (decimal totals.events
+    ++ (codes " " ++ (decimal totals.flights ++ (codes " " ++ (decimal totals.sends ++ (codes " "
     ++ (decimal totals.ups ++ (codes " " ++ (decimal totals.forged ++ codes "\n")))))))))

@@ -5,11 +5,20 @@ use Rattle.line_world.specs.declared.flights.Kept.{Kept}
 
 -- the chain of octets, by the last two of them
 unfoldable pub bucket_of : List ℕ → ℕ
-bucket_of octets = if nat_lt (length octets) 2 then 0 else (256 * slice_index octets (length octets - 2) + slice_index octets (length octets - 1)) % 16384
+bucket_of octets =
+    if nat_lt (length octets) 2
+    then 0 else (256 * slice_index octets (length octets - 2) + slice_index octets (length octets - 1)) % 16384
 
 -- a flight whose octets stand in a part of a vector
 abbrev pub flight_of : List ℕ → Kept → Flight
-flight_of octets kept = record { from = kept.from; octets = slice_range octets kept.start kept.end; key = kept.key; note = kept.note; lost = kept.lost }
+flight_of octets kept =
+    record {
+      from = kept.from;
+      octets = slice_range octets kept.start kept.end;
+      key = kept.key;
+      note = kept.note;
+      lost = kept.lost;
+    }
 
 abbrev pub flights_of : List ℕ → List Kept → List Flight
 flights_of octets items = map (flight_of octets) items
@@ -17,7 +26,8 @@ flights_of octets items = map (flight_of octets) items
 -- each part stands in the vector, and has at most 400 octets
 abbrev pub ArePlaced : ℕ → List Kept → Type 0
 ArePlaced end [] = Unit {0}
-ArePlaced end (kept ∷ items) = ((kept.start ≤ kept.end) × (kept.end ≤ end) × (kept.end ≤ kept.start + 400)) × ArePlaced end items
+ArePlaced end (kept ∷ items) =
+    ((kept.start ≤ kept.end) × (kept.end ≤ end) × (kept.end ≤ kept.start + 400)) × ArePlaced end items
 
 abbrev pub buckets_of : List Flight → List ℕ
 buckets_of flights = map (λ (f : Flight). bucket_of f.octets) flights

@@ -18,4 +18,5 @@ befores_of links = map (λ (l : Link). l.before) links
 pub record IsLinked (heads : List ℕ) (links : List Link) : Type 0 where
   pub size : (heads ≡ []) ⊎ (length heads ≡ 16384)
   pub head : (chain : ℕ) → chain < 16384 → IsLast (chains_of links) chain (slice_index heads chain)
-  pub before : (n : ℕ) → n < length links → IsLast (take n (chains_of links)) (slice_index (chains_of links) n) (slice_index (befores_of links) n)
+  pub before : (n : ℕ) → n < length links
+      → IsLast (take n (chains_of links)) (slice_index (chains_of links) n) (slice_index (befores_of links) n)

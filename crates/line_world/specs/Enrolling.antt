@@ -19,8 +19,13 @@ issued_in book eui grant = changing_after book (issue_change book eui grant) tru
 
 -- node 0 allowed a meter and issued the keys of a grant to it
 abbrev pub enrolled : World → Node → Eui → Key → Granted → World
-enrolled w coordinator eui psk grant = record w { nodes = slice_set w.nodes 0 (record coordinator { book = issued_in (allowed_in coordinator.book eui psk) eui grant }) }
+enrolled w coordinator eui psk grant =
+    record w {
+      nodes = slice_set w.nodes 0
+          (record coordinator { book = issued_in (allowed_in coordinator.book eui psk) eui grant });
+    }
 
 -- the meter installed the grant
 abbrev pub installed : World → ℕ → Node → Granted → World × Happenings
-installed w number meter grant = (record (set_up w) { nodes = slice_set w.nodes number (granted meter grant) }, happened w Joined)
+installed w number meter grant =
+    (record (set_up w) { nodes = slice_set w.nodes number (granted meter grant) }, happened w Joined)

@@ -34,7 +34,11 @@ abbrev pub heard : World → ℕ → ℕ → Bool → ℕ → Option WholeUnit �
 heard w number own forged note None = (w, answered w BadUnit forged)
 heard w number own forged note (Some unit) =
     if unit.mesh.to == own
-    then (record w { ups = w.ups + 1 }, record (answered w Up forged) { up = Some (record { node = number; note = note; octets = unit.octets }) })
+    then (
+      record w { ups = w.ups + 1 },
+      record (answered w Up forged)
+          { up = Some (record { node = number; note = note; octets = unit.octets }) },
+    )
     else (w, answered w NoRoute forged)
 
 abbrev pub came_so : World → ℕ → Node → List ℕ → Result Opened Answer → World × Happenings
@@ -55,7 +59,8 @@ delivering_by w number (Some node) None = Err faults.Flight
 delivering_by w number (Some node) (Some f) = Ok (came w number node f.octets)
 
 unfoldable pub delivering : World → ℕ → ℕ → Step
-delivering w flight number = if has_begun w then delivering_by w number (node_at w number) (not_lost (flight_at w flight)) else Err faults.Setup
+delivering w flight number =
+    if has_begun w then delivering_by w number (node_at w number) (not_lost (flight_at w flight)) else Err faults.Setup
 
 -- ---- inject
 

@@ -30,11 +30,13 @@ pub record Node : Type 0 where
 
 -- a node with nothing in its store
 abbrev pub new_node : Eui → Key → Node
-new_node eui key = record { eui = eui; key = key; ring = None; counter = counters.counting_at 0; marks = []; near = []; book = [] }
+new_node eui key =
+    record { eui = eui; key = key; ring = None; counter = counters.counting_at 0; marks = []; near = []; book = [] }
 
 -- A node that was started anew from its store: the counter goes on at its limit, each mark is the stored one, the routes are lost.
 abbrev pub restarted : Node → Node
-restarted node = record node { counter = counters.counting_at node.counter.limit; marks = map peers.at_rest node.marks; near = [] }
+restarted node =
+    record node { counter = counters.counting_at node.counter.limit; marks = map peers.at_rest node.marks; near = [] }
 
 -- whether one of the neighbours has an address
 abbrev pub has_neighbour : List Neighbour → ℕ → Bool

@@ -18,13 +18,16 @@ use Rattle.line_world.specs.Nodes.{Node, is_own}
 
 -- Whether a frame is for a node, and not from it: of this network, to its own address or EUI, or sealed to all.
 abbrev pub is_for : Node → MacHead → Bool
-is_for node (Sealed ack seq pan to from counter index) = pan == 0x781D && (is_own node.ring to || to == 0xFFFF) && not (is_own node.ring from)
+is_for node (Sealed ack seq pan to from counter index) =
+    pan == 0x781D && (is_own node.ring to || to == 0xFFFF) && not (is_own node.ring from)
 is_for node (Up ack version seq pan to from) = pan == 0x781D && is_own node.ring to && not (bytes_eq from.0 node.eui.0)
-is_for node (Down ack version seq pan to from) = pan == 0x781D && bytes_eq to.0 node.eui.0 && not (is_own node.ring from)
+is_for node (Down ack version seq pan to from) =
+    pan == 0x781D && bytes_eq to.0 node.eui.0 && not (is_own node.ring from)
 
 -- whether the tag of a sealed frame is that of a key
 unfoldable pub has_tag : Key → MacHead → List ℕ → Bool
-has_tag key head body = bytes_eq (sealed_tag body) (ccm_tag 4 key.0 (nonce_of head) (header head) (payload_in key.0 head body))
+has_tag key head body =
+    bytes_eq (sealed_tag body) (ccm_tag 4 key.0 (nonce_of head) (header head) (payload_in key.0 head body))
 
 -- Why a counter is not taken in: it is not above the sender's mark, or a new sender finds 64 held.
 abbrev pub mark_fault : Option ℕ → ℕ → ℕ → Option Answer
@@ -45,7 +48,8 @@ opening_under node head body to from counter (Some key) =
 
 -- a frame that is for the node; a plain one carries no datagram
 abbrev pub opening_by : Node → MacHead → List ℕ → Result Opened Answer
-opening_by node (Sealed ack seq pan to from counter index) body = opening_under node (Sealed ack seq pan to from counter index) body to from counter (key_in_ring node.ring index)
+opening_by node (Sealed ack seq pan to from counter index) body =
+    opening_under node (Sealed ack seq pan to from counter index) body to from counter (key_in_ring node.ring index)
 opening_by node (Up ack version seq pan to from) body = Err BadUnit
 opening_by node (Down ack version seq pan to from) body = Err BadUnit
 
@@ -54,4 +58,5 @@ opening_head node head body = if is_for node head then opening_by node head body
 
 -- The frame that the octets are, opened, or why the node goes no further with them.
 unfoldable pub opening : Node → List ℕ → Result Opened Answer
-opening node octets = if is_some (frame_fault octets) then Err Malformed else opening_head node (head_in octets) (body_in octets)
+opening node octets =
+    if is_some (frame_fault octets) then Err Malformed else opening_head node (head_in octets) (body_in octets)

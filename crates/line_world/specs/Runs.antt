@@ -39,12 +39,14 @@ entries_of w event (Err fault) rest = []
 -- the run of events from a world on, up to the first that is not taken; it has at most 50,000 events
 abbrev pub run : World → List Event → List Entry
 run w [] = []
-run w (event ∷ events) = if nat_lt w.events MAX_EVENTS then entries_of w event (step w event) (λ next. run next events) else []
+run w (event ∷ events) =
+    if nat_lt w.events MAX_EVENTS then entries_of w event (step w event) (λ next. run next events) else []
 
 -- the entries are a run from a world on
 abbrev pub IsRun : World → List Entry → Type 0
 IsRun w [] = Unit {0}
-IsRun w (x ∷ xs) = (w.events < MAX_EVENTS) × (x.number ≡ w.events + 1) × (step w x.event ≡ Ok (x.after, x.happened)) × IsRun x.after xs
+IsRun w (x ∷ xs) =
+    (w.events < MAX_EVENTS) × (x.number ≡ w.events + 1) × (step w x.event ≡ Ok (x.after, x.happened)) × IsRun x.after xs
 
 -- ---- what a history says of datagrams
 
@@ -119,11 +121,13 @@ pub record WasIssued (issues : List Issue) (eui : Eui) (index : ℕ) (key : Key)
 
 -- each key that a node's ring has at an index was issued to that node
 abbrev pub HoldsIssued : List Issue → Node → Type 0
-HoldsIssued issues node = (index : ℕ) (key : Key) → index ≤ 1 → key_in_ring node.ring index ≡ Some key → WasIssued issues node.eui index key
+HoldsIssued issues node =
+    (index : ℕ) (key : Key) → index ≤ 1 → key_in_ring node.ring index ≡ Some key → WasIssued issues node.eui index key
 
 -- so it is for every meter of a world; only one that has an address has a ring
 abbrev pub HoldOnlyIssued : List Issue → World → Type 0
-HoldOnlyIssued issues w = (number : ℕ) (node : Node) → 0 < number → node_at w number ≡ Some node → HoldsIssued issues node
+HoldOnlyIssued issues w =
+    (number : ℕ) (node : Node) → 0 < number → node_at w number ≡ Some node → HoldsIssued issues node
 
 -- ---- sizes
 
@@ -168,7 +172,8 @@ abbrev pub IsSafeAfter : List Sending → List Handed → List Issue → List En
 IsSafeAfter sent handed issues [] = Unit {0}
 IsSafeAfter sent handed issues (x ∷ xs) = x.happened.forged ≡ false
     → IsSafeEntry sent handed (issues ++ issues_at x.event x.after) x
-    × IsSafeAfter (sent ++ sends_at x.event x.happened) (handed ++ ups_by x.happened.up) (issues ++ issues_at x.event x.after) xs
+    × IsSafeAfter (sent ++ sends_at x.event x.happened) (handed ++ ups_by x.happened.up)
+    (issues ++ issues_at x.event x.after) xs
 
 -- Up to its first forged event, every datagram that a run hands up was sent to that node with the same octets and none is handed up
 -- twice, every meter holds only keys that were issued to it, and no table passes its size.
@@ -239,7 +244,8 @@ pub record HasCounter (octets : List ℕ) (counter : ℕ) : Type 0 where
 -- Every flight is a sealed frame, and of two flights of one node the later one has the greater counter.
 pub record CountersRise (flights : List Flight) : Type 0 where
   pub each : (j : ℕ) (f : Flight) → slice_get flights j ≡ Some f → (counter : ℕ) × HasCounter f.octets counter
-  pub rise : (i j : ℕ) (f g : Flight) (c d : ℕ) → i < j → slice_get flights i ≡ Some f → slice_get flights j ≡ Some g → f.from ≡ g.from
+  pub rise : (i j : ℕ) (f g : Flight) (c d : ℕ) → i < j → slice_get flights i ≡ Some f → slice_get flights j ≡ Some g
+      → f.from ≡ g.from
       → HasCounter f.octets c → HasCounter g.octets d → c < d
 
 -- so it is after each event
@@ -257,8 +263,10 @@ sender_in (heads.Down ack version seq pan to from) = None
 
 -- No two nodes have one address, and every flight has that of the node that sent it.
 pub record AreAddressed (w : World) : Type 0 where
-  pub apart : (m n : ℕ) (x y : Node) (address : ℕ) → node_at w m ≡ Some x → node_at w n ≡ Some y → address_of x.ring ≡ Some address → address_of y.ring ≡ Some address → m ≡ n
-  pub senders : (j : ℕ) (f : Flight) (head : MacHead) (body : List ℕ) (node : Node) → slice_get w.flights j ≡ Some f → Frame head body f.octets → node_at w f.from ≡ Some node → sender_in head ≡ address_of node.ring
+  pub apart : (m n : ℕ) (x y : Node) (address : ℕ) → node_at w m ≡ Some x → node_at w n ≡ Some y
+      → address_of x.ring ≡ Some address → address_of y.ring ≡ Some address → m ≡ n
+  pub senders : (j : ℕ) (f : Flight) (head : MacHead) (body : List ℕ) (node : Node) → slice_get w.flights j ≡ Some f
+      → Frame head body f.octets → node_at w f.from ≡ Some node → sender_in head ≡ address_of node.ring
 
 -- so it is after each event
 abbrev pub HaveAddresses : List Entry → Type 0
@@ -277,7 +285,9 @@ pub record HasNonce (octets nonce : List ℕ) : Type 0 where
 
 -- no two flights have one nonce
 abbrev pub NoncesDiffer : List Flight → Type 0
-NoncesDiffer flights = (i j : ℕ) (f g : Flight) (m n : List ℕ) → i < j → slice_get flights i ≡ Some f → slice_get flights j ≡ Some g → HasNonce f.octets m → HasNonce g.octets n → m ≢ n
+NoncesDiffer flights =
+    (i j : ℕ) (f g : Flight) (m n : List ℕ) → i < j → slice_get flights i ≡ Some f → slice_get flights j ≡ Some g
+    → HasNonce f.octets m → HasNonce g.octets n → m ≢ n
 
 -- so it is after each event
 abbrev pub HaveNewNonces : List Entry → Type 0

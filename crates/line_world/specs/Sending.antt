@@ -31,7 +31,8 @@ head_to ring counter next = Sealed true (counter % 256) 0x781D next ring.address
 
 -- the octets of a frame that is sealed under a key
 unfoldable pub sealed : Key → MacHead → List ℕ → List ℕ
-sealed key head payload = header_then head (ccm_text key.0 (nonce_of head) payload ++ ccm_tag 4 key.0 (nonce_of head) (header head) payload)
+sealed key head payload =
+    header_then head (ccm_text key.0 (nonce_of head) payload ++ ccm_tag 4 key.0 (nonce_of head) (header head) payload)
 
 -- a datagram for an address goes out with 14 hops to go
 unfoldable pub unit_of : ℕ → ℕ → List ℕ → List ℕ
@@ -39,7 +40,8 @@ unit_of own to datagram = spelling (Whole (record { hops = 14; origin = own; to 
 
 -- the frame of a datagram to a neighbour, which is for that neighbour
 unfoldable pub frame_of : Granted → ℕ → ℕ → List ℕ → List ℕ
-frame_of ring counter to datagram = sealed (sealing_key ring) (head_to ring counter to) (unit_of ring.address to datagram)
+frame_of ring counter to datagram =
+    sealed (sealing_key ring) (head_to ring counter to) (unit_of ring.address to datagram)
 
 -- ---- send
 
@@ -60,7 +62,17 @@ went w from x ring to datagram = (
     nodes = slice_set w.nodes from (record x { counter = reserved x.counter 1 });
     flights = w.flights ++ flight_of from ring x.counter.next (w.sends + 1) to datagram ∷ [];
   },
-  record { answer = Sent; forged = false; up = None; grant = None; took = None; done = None; shown = None; first_flight = length w.flights + 1; flights = 1 },
+  record {
+    answer = Sent;
+    forged = false;
+    up = None;
+    grant = None;
+    took = None;
+    done = None;
+    shown = None;
+    first_flight = length w.flights + 1;
+    flights = 1;
+  },
 )
 
 -- a datagram that goes out whole has 1 to 375 octets
@@ -90,12 +102,14 @@ sending_by w from datagram (Some x) None = Err faults.Node
 sending_by w from datagram (Some x) (Some y) = Ok (sent w from x x.ring (address_of y.ring) datagram)
 
 unfoldable pub sending : World → ℕ → ℕ → List ℕ → Step
-sending w from to datagram = if has_begun w then sending_by w from datagram (node_at w from) (node_at w to) else Err faults.Setup
+sending w from to datagram =
+    if has_begun w then sending_by w from datagram (node_at w from) (node_at w to) else Err faults.Setup
 
 -- ---- lose
 
 unfoldable pub lost : World → ℕ → Flight → World × Happenings
-lost w number f = (record (ran w) { flights = slice_set w.flights (number - 1) (record f { lost = true }) }, happened w Lost)
+lost w number f =
+    (record (ran w) { flights = slice_set w.flights (number - 1) (record f { lost = true }) }, happened w Lost)
 
 abbrev pub losing_by : World → ℕ → Option Flight → Step
 losing_by w number None = Err faults.Flight

@@ -32,7 +32,8 @@ abbrev pub is_known : Eui → List Node → Bool
 is_known eui nodes = list_any (λ (n : Node). eui_number n.eui == eui_number eui) nodes
 
 unfoldable pub coordinated : World → Eui → Key → Step
-coordinated w eui key = if has_begun w then Err faults.Setup else Ok (made w (granted (new_node eui key) (first_grant key)))
+coordinated w eui key =
+    if has_begun w then Err faults.Setup else Ok (made w (granted (new_node eui key) (first_grant key)))
 
 unfoldable pub metered : World → Eui → Key → Step
 metered w eui psk =
@@ -55,7 +56,12 @@ grant_of ring address = record ring { address = address }
 unfoldable pub joined : World → ℕ → Node → Node → Granted → World × Happenings
 joined w number coordinator meter grant = (
   record (set_up w) {
-    nodes = slice_set (slice_set w.nodes 0 (record coordinator { book = issued (allowed coordinator.book meter) meter grant })) number (granted meter grant);
+    nodes =
+        slice_set (slice_set w.nodes 0
+        (record coordinator {
+          book = issued
+              (allowed coordinator.book meter) meter grant;
+        })) number (granted meter grant);
   },
   happened w Joined,
 )
@@ -67,7 +73,9 @@ joining_at w number coordinator meter ring (Err fault) = Err faults.Setup
 
 abbrev pub joining_under : World → ℕ → Node → Node → Ring → Step
 joining_under w number coordinator meter None = Err faults.Setup
-joining_under w number coordinator meter (Some ring) = joining_at w number coordinator meter ring (changing_result coordinator.book (allow_change coordinator.book meter.eui meter.key) true)
+joining_under w number coordinator meter (Some ring) =
+    joining_at w number coordinator meter ring
+    (changing_result coordinator.book (allow_change coordinator.book meter.eui meter.key) true)
 
 -- The coordinator is node 0; it always has a ring.
 abbrev pub joining_by : World → ℕ → Node → Option Node → Step
@@ -76,7 +84,8 @@ joining_by w number meter (Some coordinator) = joining_under w number coordinato
 
 abbrev pub joining : World → ℕ → Option Node → Step
 joining w number None = Err faults.Node
-joining w number (Some meter) = if number == 0 || is_some meter.ring then Err faults.Setup else joining_by w number meter (node_at w 0)
+joining w number (Some meter) =
+    if number == 0 || is_some meter.ring then Err faults.Setup else joining_by w number meter (node_at w 0)
 
 unfoldable pub depoted : World → ℕ → Step
 depoted w number = if takes_setup w then joining w number (node_at w number) else Err faults.Setup
@@ -111,7 +120,13 @@ neared w a b cost = if takes_setup w then nearing w a b cost (node_at w a) (node
 -- ---- counter: the next counter of a node's frames, which is stored as the limit; 4,294,967,295 is the last there is
 
 unfoldable pub counted : World → ℕ → ℕ → Node → World × Happenings
-counted w number value node = (record (set_up w) { nodes = slice_set w.nodes number (record node { counter = counting_at (min value 4294967295) }) }, happened w Set)
+counted w number value node = (
+  record (set_up w) {
+    nodes = slice_set w.nodes number
+        (record node { counter = counting_at (min value 4294967295) });
+  },
+  happened w Set,
+)
 
 abbrev pub counting_by : World → ℕ → ℕ → Option Node → Step
 counting_by w number value None = Err faults.Node

@@ -16,7 +16,8 @@ whole_at hops at octets = record {
 -- whether there is such a unit: the rule of whole datagrams
 abbrev pub is_whole : WholeUnit → Bool
 is_whole unit =
-    nat_lt unit.mesh.hops 256 && nat_lt unit.mesh.origin 0xFFFE && nat_lt unit.mesh.to 0xFFFE && nat_lt 0 (length unit.octets) && nat_lt (length unit.octets) 376
+    nat_lt unit.mesh.hops 256 && nat_lt unit.mesh.origin 0xFFFE && nat_lt unit.mesh.to 0xFFFE
+    && nat_lt 0 (length unit.octets) && nat_lt (length unit.octets) 376
 
 -- whether these octets are its spelling
 abbrev pub is_spelled : WholeUnit → List ℕ → Bool
@@ -25,6 +26,7 @@ is_spelled unit octets = is_whole unit && bytes_eq (spelling (Whole unit.mesh un
 -- the value of the short or of the long form of hops whose spelling these octets are
 unfoldable pub whole_in : List ℕ → Option WholeUnit
 whole_in octets =
-    if is_spelled (whole_at (octet 0 octets - 0xB0) 1 octets) octets then Some (whole_at (octet 0 octets - 0xB0) 1 octets)
+    if is_spelled (whole_at (octet 0 octets - 0xB0) 1 octets) octets
+    then Some (whole_at (octet 0 octets - 0xB0) 1 octets)
     else (if is_spelled (whole_at (octet 1 octets) 2 octets) octets then Some (whole_at (octet 1 octets) 2 octets)
     else None)

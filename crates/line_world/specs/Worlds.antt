@@ -43,7 +43,18 @@ Step = Result (World × Happenings) StepFault
 
 -- nothing but an answer
 abbrev pub happened : World → Answer → Happenings
-happened w answer = record { answer = answer; forged = false; up = None; grant = None; took = None; done = None; shown = None; first_flight = length w.flights + 1; flights = 0 }
+happened w answer =
+    record {
+      answer = answer;
+      forged = false;
+      up = None;
+      grant = None;
+      took = None;
+      done = None;
+      shown = None;
+      first_flight = length w.flights + 1;
+      flights = 0;
+    }
 
 -- an event of a setup kind was taken
 abbrev pub set_up : World → World

@@ -71,8 +71,10 @@ impl World {
     fn accept(&mut self, number: u32, opened: &Opened<'_>, forged: bool)
         requires events { self.old.events < MAX_EVENTS }
         requires node { number < length self.old.nodes }
-        requires room { IfSome (node_at self.old number) (λ node. room_for node.marks opened.now.from opened.now.counter ≡ Ok tt) }
-        ensures { IfSome (node_at self.old number) (λ node. self.new ≡ accepted self.old number node opened.now forged) }
+        requires room { IfSome (node_at self.old number)
+            (λ node. room_for node.marks opened.now.from opened.now.counter ≡ Ok tt) }
+        ensures { IfSome (node_at self.old number)
+            (λ node. self.new ≡ accepted self.old number node opened.now forged) }
     {
         self.nodes[number as usize].admit(opened.from, opened.counter);
         self.events += 1;
@@ -124,8 +126,10 @@ impl World {
         requires node { number < length self.old.nodes }
         requires fits { length octets.now ≤ 400 }
         requires payload { length opened.now.payload ≤ 400 }
-        requires room { IfSome (node_at self.old number) (λ node. room_for node.marks opened.now.from opened.now.counter ≡ Ok tt) }
-        ensures { IfSome (node_at self.old number) (λ node. (self.new, result) ≡ came_so self.old number node octets.now (Ok opened.now)) }
+        requires room { IfSome (node_at self.old number)
+            (λ node. room_for node.marks opened.now.from opened.now.counter ≡ Ok tt) }
+        ensures { IfSome (node_at self.old number)
+            (λ node. (self.new, result) ≡ came_so self.old number node octets.now (Ok opened.now)) }
     {
         let origin = self.flights.origin(octets, &opened.key);
         self.accept(number, opened, origin.is_forged);

@@ -95,9 +95,25 @@ impl Model for Node {
 
     ghost Value = { Node };
 
-    ghost view = { λ n. record { eui = n.eui; key = n.key; ring = n.ring; counter = n.counter; marks = n.marks; near = n.near; book = n.book } };
+    ghost view = { λ n. record {
+      eui = n.eui;
+      key = n.key;
+      ring = n.ring;
+      counter = n.counter;
+      marks = n.marks;
+      near = n.near;
+      book = n.book;
+    } };
 
-    ghost invariant = { λ n. IsStored (record { eui = n.eui; key = n.key; ring = n.ring; counter = n.counter; marks = n.marks; near = n.near; book = n.book }) n.keeper };
+    ghost invariant = { λ n. IsStored (record {
+      eui = n.eui;
+      key = n.key;
+      ring = n.ring;
+      counter = n.counter;
+      marks = n.marks;
+      near = n.near;
+      book = n.book;
+    }) n.keeper };
 }
 
 impl Node {
@@ -219,7 +235,11 @@ impl Node {
     pub fn enrol(&mut self, eui: Eui, psk: &Key, ring: &Grant) -> Grant
         requires { has_room self.old.book eui ≡ true }
         ensures grant { result ≡ grant_of ring.now (place_for self.old.book eui + 1) }
-        ensures node { self.new ≡ record self.old { book = issued_in (allowed_in self.old.book eui psk.now) eui (grant_of ring.now (place_for self.old.book eui + 1)) } }
+        ensures node { self.new
+            ≡ record self.old {
+              book = issued_in (allowed_in self.old.book eui psk.now) eui
+                  (grant_of ring.now (place_for self.old.book eui + 1));
+            } }
     {
         let address = self.allow(eui, psk);
         let keys = ring.keys;

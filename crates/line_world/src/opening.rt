@@ -38,7 +38,9 @@ fn opened_under<'a>(key: &Key, raw: &RawFrame<'_>, space: &'a mut FrameBuf) -> O
     requires sealed { IsSealed raw.now.head }
     requires frame { Frame raw.now.head raw.now.body.now (raw.now.header.now ++ raw.now.body.now) }
     requires header { raw.now.header.now ≡ header raw.now.head }
-    ensures value { result ≡ (if has_tag key.now raw.now.head raw.now.body.now then Some (payload_in key.now.0 raw.now.head raw.now.body.now) else None) }
+    ensures value { result
+        ≡ (if has_tag key.now raw.now.head raw.now.body.now
+        then Some (payload_in key.now.0 raw.now.head raw.now.body.now) else None) }
     ensures payload { IfSome result (λ payload. length payload ≤ 400) }
 {
     match open_frame(&Aes::new(key), raw, space) {

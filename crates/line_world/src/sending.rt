@@ -91,7 +91,8 @@ impl World {
         requires left { IfSome (node_at self.old from) (λ node. node.counter.next < 4294967295) }
         requires some { 0 < length datagram.now }
         requires whole { length datagram.now ≤ 375 }
-        ensures { IfSome (node_at self.old from) (λ node. Gives self.old result self.new (Ok (went self.old from node ring.now to datagram.now))) }
+        ensures { IfSome (node_at self.old from)
+            (λ node. Gives self.old result self.new (Ok (went self.old from node ring.now to datagram.now))) }
     {
         let first_flight = self.flights.len() as u32 + 1;
         let counter = u32::MAX - self.nodes[from as usize].left();

@@ -133,8 +133,11 @@ impl World {
     fn enrol(&mut self, eui: Eui, psk: Key, ring: &Grant) -> Grant
         requires coordinator { 0 < length self.old.nodes }
         requires room { IfSome (node_at self.old 0) (λ coordinator. has_room coordinator.book eui ≡ true) }
-        ensures grant { IfSome (node_at self.old 0) (λ coordinator. result ≡ grant_of ring.now (place_for coordinator.book eui + 1)) }
-        ensures world { IfSome (node_at self.old 0) (λ coordinator. self.new ≡ enrolled self.old coordinator eui psk (grant_of ring.now (place_for coordinator.book eui + 1))) }
+        ensures grant { IfSome (node_at self.old 0)
+            (λ coordinator. result ≡ grant_of ring.now (place_for coordinator.book eui + 1)) }
+        ensures world { IfSome (node_at self.old 0)
+            (λ coordinator. self.new
+            ≡ enrolled self.old coordinator eui psk (grant_of ring.now (place_for coordinator.book eui + 1))) }
     {
         self.nodes[0].enrol(eui, &psk, ring)
     }
@@ -143,7 +146,8 @@ impl World {
     fn install(&mut self, number: u32, grant: &Grant) -> Happenings<'static>
         requires events { self.old.events < MAX_EVENTS }
         requires node { number < length self.old.nodes }
-        ensures { IfSome (node_at self.old number) (λ meter. (self.new, result) ≡ installed self.old number meter grant.now) }
+        ensures { IfSome (node_at self.old number)
+            (λ meter. (self.new, result) ≡ installed self.old number meter grant.now) }
     {
         self.nodes[number as usize].install(grant);
         self.events += 1;

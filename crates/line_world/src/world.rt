@@ -60,9 +60,25 @@ impl Model for World {
 
     ghost Value = { World };
 
-    ghost view = { λ w. record { events = w.events; running = w.running; sends = w.sends; ups = w.ups; forged = w.forged; nodes = w.nodes.items; flights = w.flights } };
+    ghost view = { λ w. record {
+      events = w.events;
+      running = w.running;
+      sends = w.sends;
+      ups = w.ups;
+      forged = w.forged;
+      nodes = w.nodes.items;
+      flights = w.flights;
+    } };
 
-    ghost invariant = { λ w. IsSound (record { events = w.events; running = w.running; sends = w.sends; ups = w.ups; forged = w.forged; nodes = w.nodes.items; flights = w.flights }) };
+    ghost invariant = { λ w. IsSound (record {
+      events = w.events;
+      running = w.running;
+      sends = w.sends;
+      ups = w.ups;
+      forged = w.forged;
+      nodes = w.nodes.items;
+      flights = w.flights;
+    }) };
 }
 
 impl World {

@@ -36,7 +36,8 @@ same_eui a b = eui_number a == eui_number b
 -- whether a frame is for this node and from another one: a sealed one to the own address or to all, a plain one up to the own
 -- address or down to the own EUI
 abbrev pub is_for_me : StationMemory → Eui → MacHead → Bool
-is_for_me l own (heads.Sealed ack seq pan to from counter index) = (pan == PAN) && ((is_own l to || (to == to_all)) && not (is_own l from))
+is_for_me l own (heads.Sealed ack seq pan to from counter index) =
+    (pan == PAN) && ((is_own l to || (to == to_all)) && not (is_own l from))
 is_for_me l own (heads.Up ack version seq pan to from) = (pan == PAN) && (is_own l to && not (same_eui own from))
 is_for_me l own (heads.Down ack version seq pan to from) = (pan == PAN) && (same_eui own to && not (is_own l from))
 
@@ -84,9 +85,12 @@ with_key l a to from counter (Some key) = open_sealed l to from counter key (a.o
 
 -- a frame for this node, by its head
 abbrev pub accept_head : StationMemory → Arrived → MacHead → Accepting
-accept_head l a (heads.Sealed ack seq pan to from counter index) = with_key l a to from counter (ring.key_in_ring l.ring index)
-accept_head l a (heads.Up ack version seq pan to from) = resting l (Ok (record { path = paths.Up from; payload = a.body })) (Err Store)
-accept_head l a (heads.Down ack version seq pan to from) = resting l (Ok (record { path = paths.Down from; payload = a.body })) (Err Store)
+accept_head l a (heads.Sealed ack seq pan to from counter index) =
+    with_key l a to from counter (ring.key_in_ring l.ring index)
+accept_head l a (heads.Up ack version seq pan to from) =
+    resting l (Ok (record { path = paths.Up from; payload = a.body })) (Err Store)
+accept_head l a (heads.Down ack version seq pan to from) =
+    resting l (Ok (record { path = paths.Down from; payload = a.body })) (Err Store)
 
 -- what a node that is not halted makes of octets that came
 abbrev pub accept : StationMemory → Eui → Option Arrived → Accepting

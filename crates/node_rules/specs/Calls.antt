@@ -60,11 +60,13 @@ send_fault l to datagram =
 abbrev pub send_from : StationMemory → ℕ → ℕ → List ℕ → (note now : ℕ) → Sending
 send_from l own to datagram note now =
     checked sending_ends l (send_fault l to datagram)
-    (sealed alone sending_ends l (sets_out own to note (Datagram datagram l.next_tag) now (tag_taken datagram (empty_draft l))) (how l to))
+    (sealed alone sending_ends l
+    (sets_out own to note (Datagram datagram l.next_tag) now (tag_taken datagram (empty_draft l))) (how l to))
 
 -- a datagram is sent
 abbrev pub send : StationMemory → ℕ → List ℕ → (note now : ℕ) → Sending
-send l to datagram note now = option_map_or (λ own. send_from l own to datagram note now) (address_of l) (refused sending_ends l NotJoined)
+send l to datagram note now =
+    option_map_or (λ own. send_from l own to datagram note now) (address_of l) (refused sending_ends l NotJoined)
 
 -- a command goes on its way to an address
 abbrev pub commands : ℕ → ℕ → List ℕ → ℕ → Draft StationMemory → Draft StationMemory
@@ -78,7 +80,8 @@ command_from l own to octets now =
 
 -- a command is sent, whose code stands first; the own address is treated as any other
 abbrev pub send_command : StationMemory → ℕ → List ℕ → ℕ → Sending
-send_command l to octets now = option_map_or (λ own. command_from l own to octets now) (address_of l) (refused sending_ends l NotJoined)
+send_command l to octets now =
+    option_map_or (λ own. command_from l own to octets now) (address_of l) (refused sending_ends l NotJoined)
 
 -- how many frames a command for an address needs: one by its route, and one to seek a route that nothing seeks yet
 abbrev pub command_frames : StationMemory → ℕ → ℕ
@@ -144,7 +147,9 @@ with_active l index d = with_ring (ring.with_active l.ring index) d
 
 -- a key seals from now on
 abbrev pub activate : StationMemory → ℕ → Ringing
-activate l index = choose (has_key l index) (ring_ends (with_active l index (empty_draft l))) (refused ringing_ends l ring_faults.NotHeld)
+activate l index =
+    choose (has_key l index) (ring_ends (with_active l index (empty_draft l)))
+    (refused ringing_ends l ring_faults.NotHeld)
 
 -- the routes, what is gathered and what waits end; ranks, marks and numbers stay
 abbrev pub idled : StationMemory → StationMemory
@@ -195,4 +200,5 @@ preset_fault l to cost now =
 -- a neighbour is offered by itself
 abbrev pub preset_near : StationMemory → ℕ → ℕ → ℕ → Presetting
 preset_near l to cost now =
-    checked presetting_ends l (preset_fault l to cost now) (sealing alone presetting_ends (with_rank to (near_rank cost) to now (empty_draft l)) tt)
+    checked presetting_ends l (preset_fault l to cost now)
+    (sealing alone presetting_ends (with_rank to (near_rank cost) to now (empty_draft l)) tt)

@@ -30,9 +30,11 @@ pub record Carries {M A : Type 0} (old : State M) (p : Plan M A) (answer : A) (o
 -- # As a function of the cut that is to come
 
 -- the answer, what is given out, and the state are those of an outcome
-pub record Shows {M A : Type 0} (o : Outcome M A) (old : State M) (answer : A) (out : Out) (new : State M) : Type 0 where
+pub record Shows {M A : Type 0} (o : Outcome M A) (old : State M) (answer : A) (out : Out)
+    (new : State M) : Type 0 where
   pub answer_is : answer ≡ o.answer
-  pub out_is : out ≡ record { frames = map (spelled network) o.frames; tags = record { made = o.made; opened = o.opened } }
+  pub out_is : out ≡ record
+      { frames = map (spelled network) o.frames; tags = record { made = o.made; opened = o.opened } }
   pub records_is : new.store.records ≡ o.records
   pub memory_is : new.memory ≡ o.memory
   pub eui_is : new.eui ≡ old.eui
@@ -40,7 +42,8 @@ pub record Shows {M A : Type 0} (o : Outcome M A) (old : State M) (answer : A) (
 
 -- The call does what `carry_out` gives, under the cut that the keeper tells. Where it tells none there is one all the same, and it
 -- is none where the count of faults did not rise.
-pub record IsCarriedOut {M A : Type 0} (old : State M) (p : Plan M A) (answer : A) (out : Out) (new : State M) : Type 0 where
+pub record IsCarriedOut {M A : Type 0} (old : State M) (p : Plan M A) (answer : A) (out : Out)
+    (new : State M) : Type 0 where
   pub cut : Option Cut
   pub told : IfSome old.store.told (λ c. c ≡ cut)
   pub shows : Shows (carry_out old.store.records cut p) old answer out new

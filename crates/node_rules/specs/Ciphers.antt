@@ -46,8 +46,10 @@ opened_with_ccm key head front body = opened_in key.0 head front body
 
 -- What a key sealed, the same key opens, under the same head and after the octets of that head; a tag has four octets.
 pub record OpensWhatItSeals (ciphers : Ciphers) : Type 0 where
-  pub opens : (key : Key) (head : MacHead) (payload : List ℕ) → ciphers.opens key head (header head) (ciphers.seals key head payload) ≡ Some payload
-  pub tag : (key : Key) (head : MacHead) (payload : List ℕ) → length (ciphers.seals key head payload) ≡ length payload + 4
+  pub opens : (key : Key) (head : MacHead) (payload : List ℕ)
+      → ciphers.opens key head (header head) (ciphers.seals key head payload) ≡ Some payload
+  pub tag : (key : Key) (head : MacHead) (payload : List ℕ)
+      → length (ciphers.seals key head payload) ≡ length payload + 4
 
 -- # The network's
 

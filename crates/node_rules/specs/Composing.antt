@@ -25,12 +25,16 @@ behind ws p = record p { puts = ws ++ p.puts }
 
 -- a plan that gives out more, before what it gives out by itself
 abbrev pub adding : {M A : Type 0} → List Sent → (made opened : List PairTag) → Plan M A → Plan M A
-adding frames made opened p = record p { frames = frames ++ p.frames; made = made ++ p.made; opened = opened ++ p.opened }
+adding frames made opened p =
+    record p { frames = frames ++ p.frames; made = made ++ p.made; opened = opened ++ p.opened }
 
 -- what is then given out, where all puts were done and where one failed
 abbrev pub out_with : List Sent → (made opened : List PairTag) → Bool → Out → Out
 out_with frames made opened done out =
-    if done then record { frames = map (spelled network) frames ++ out.frames; tags = record { made = made ++ out.tags.made; opened = opened ++ out.tags.opened } }
+    if done then record {
+      frames = map (spelled network) frames ++ out.frames;
+      tags = record { made = made ++ out.tags.made; opened = opened ++ out.tags.opened };
+    }
     else record { frames = []; tags = record { made = []; opened = opened ++ out.tags.opened } }
 
 -- a state whose memory is part of another one
@@ -41,7 +45,8 @@ seen whole s = record { store = s.store; eui = s.eui; memory = option_map whole 
 
 -- what was done so far, nothing of which waits to be sealed
 abbrev pub begun : {M : Type 0} → List Write → M → List Sent → (made opened : List PairTag) → Draft M
-begun puts memory plain made opened = record { puts = puts; memory = memory; units = []; plain = plain; made = made; opened = opened }
+begun puts memory plain made opened =
+    record { puts = puts; memory = memory; units = []; plain = plain; made = made; opened = opened }
 
 -- # Room for a command
 
@@ -57,7 +62,8 @@ pub record HasRoom (l : StationMemory) (to octets : ℕ) : Type 0 where
   pub left : nat_lt (counters_left l) (command_frames l to) ≡ false
 
 -- what the station does about a command that has room
-abbrev pub command_alone : StationMemory → (own to : ℕ) → Load → (now : ℕ) → Plan StationMemory (Result SentHow SendRefusal)
+abbrev pub command_alone : StationMemory → (own to : ℕ) → Load → (now : ℕ)
+    → Plan StationMemory (Result SentHow SendRefusal)
 command_alone l own to load now = sealing alone sending_ends (sets_out own to 0 load now (empty_draft l)) (how l to)
 
 -- its answer, as another one: it went out or waits, or a put failed

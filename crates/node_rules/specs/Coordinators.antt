@@ -76,7 +76,8 @@ without_session eui m = record m { sessions = filter (λ s. not (is_of eui s)) m
 -- a session stands in the place of that of its meter, or behind the others
 abbrev pub with_session : CoordinatorSession → Memory → Memory
 with_session s m = record m {
-  sessions = option_map_or (λ place. set m.sessions place s) (position (is_of s.server.eui) m.sessions) (m.sessions ++ s ∷ []);
+  sessions =
+      option_map_or (λ place. set m.sessions place s) (position (is_of s.server.eui) m.sessions) (m.sessions ++ s ∷ []);
 }
 
 -- whether a session more can't be opened for a meter: it has none, and 8 are open
@@ -98,7 +99,9 @@ allowed_entry m eui = book.allowed_one m.book eui
 
 -- what the coordinator grants a meter: its address in the book, and the keys of the ring
 abbrev pub grant_for : Memory → Eui → Option Granted
-grant_for m eui = option_and_then (λ address. option_map (λ (g : Granted). record g { address = address }) m.station.ring) (book.address_of m.book eui)
+grant_for m eui =
+    option_and_then (λ address. option_map (λ (g : Granted). record g { address = address }) m.station.ring)
+    (book.address_of m.book eui)
 
 -- # What is said to a meter
 
@@ -118,7 +121,8 @@ say_lack m (Mesh origin) join = command_lack m origin join
 
 -- a meter that is not allowed is declined
 abbrev pub declines : Memory → Way → JoinMessage → ℕ → Hearing
-declines m way join now = checked dropped m (say_lack m way join) (ends m (says way join now (empty_draft m)) heard.Declined)
+declines m way join now =
+    checked dropped m (say_lack m way join) (ends m (says way join now (empty_draft m)) heard.Declined)
 
 -- what stands in the way of a session
 abbrev pub session_fault : Memory → Eui → Option Dropped
@@ -133,7 +137,8 @@ abbrev pub challenges : Memory → Way → Server → ℕ → Hearing
 challenges m way server now =
     let join = message server.eui (body.Challenge (first_packet server)) in
     checked dropped m (say_lack m way join)
-    (ends m (says way join now (opens (record { server = server; way = way; since = now }) (empty_draft m))) heard.Challenged)
+    (ends m (says way join now
+    (opens (record { server = server; way = way; since = now }) (empty_draft m))) heard.Challenged)
 
 -- a session is opened where there is room for it and a random value is left
 abbrev pub open_session : CoordinatorIdentity → Memory → Way → Eui → ℕ → Hearing
@@ -155,7 +160,8 @@ keys_for own m s e rand_p granted now =
     checked dropped m (say_lack m s.way join)
     (ends m
     (says s.way join now
-    (with_pair_tags (mac_s_tag s.server.eui s.server.id_s rand_p ∷ granting_tag s.server.eui 2 s.server.rand_s rand_p (granting_text granted) ∷ [])
+    (with_pair_tags (mac_s_tag s.server.eui s.server.id_s rand_p
+    ∷ granting_tag s.server.eui 2 s.server.rand_s rand_p (granting_text granted) ∷ [])
     (mac_p_tag s.server.eui s.server.id_s s.server.rand_s rand_p ∷ [])
     (with_book_entry (book.issued_entry s.server.eui granted e)
     (with_memory_by (with_session (record s { server = record s.server { rand_p = Some rand_p } })) (empty_draft m)))))
@@ -165,7 +171,8 @@ keys_for own m s e rand_p granted now =
 abbrev pub take_second : CoordinatorIdentity → Memory → CoordinatorSession → BookEntry → List ℕ → ℕ → Hearing
 take_second own m s e packet now =
     checked dropped m (option_map packet_fault (own.ciphers.second_fault e.psk s.server packet))
-    (option_map_or (λ granted. keys_for own m s e (rand_p_in packet) granted now) (grant_for m s.server.eui) (drop_it m drops.NotAllowed))
+    (option_map_or (λ granted. keys_for own m s e (rand_p_in packet) granted now) (grant_for m s.server.eui)
+    (drop_it m drops.NotAllowed))
 
 -- the fourth packet: the session ends, and the acceptance goes its way
 abbrev pub accepts : Memory → CoordinatorSession → Rand → ℕ → Hearing
@@ -181,16 +188,19 @@ accepts m s rand_p now =
 -- the fourth packet is refused by its first fault, and accepted else
 abbrev pub take_fourth : CoordinatorIdentity → Memory → CoordinatorSession → BookEntry → List ℕ → Rand → ℕ → Hearing
 take_fourth own m s e packet rand_p now =
-    checked dropped m (option_map packet_fault (own.ciphers.fourth_fault e.psk s.server rand_p packet)) (accepts m s rand_p now)
+    checked dropped m (option_map packet_fault (own.ciphers.fourth_fault e.psk s.server rand_p packet))
+    (accepts m s rand_p now)
 
 -- a session that has RAND_P waits for the fourth packet, another one for the second
 abbrev pub take_packet : CoordinatorIdentity → Memory → BookEntry → List ℕ → ℕ → CoordinatorSession → Hearing
-take_packet own m e packet now s = option_map_or (λ rand_p. take_fourth own m s e packet rand_p now) s.server.rand_p (take_second own m s e packet now)
+take_packet own m e packet now s =
+    option_map_or (λ rand_p. take_fourth own m s e packet rand_p now) s.server.rand_p (take_second own m s e packet now)
 
 -- a packet comes from a meter that is allowed and has a session
 abbrev pub answered : CoordinatorIdentity → Memory → Eui → List ℕ → ℕ → Hearing
 answered own m eui packet now =
-    option_map_or (λ e. option_map_or (take_packet own m e packet now) (session_of m eui) (drop_it m drops.NoSession)) (allowed_entry m eui) (drop_it m drops.NotAllowed)
+    option_map_or (λ e. option_map_or (take_packet own m e packet now) (session_of m eui) (drop_it m drops.NoSession))
+    (allowed_entry m eui) (drop_it m drops.NotAllowed)
 
 -- # A joining message
 
@@ -209,7 +219,8 @@ hear_join own m way eui _ now = drop_it m drops.BadUnit
 -- octets that spell no joining message are dropped
 abbrev pub hear_join_in : CoordinatorIdentity → Memory → Way → Option JoinMessage → ℕ → Hearing
 hear_join_in own m way None now = drop_it m drops.BadUnit
-hear_join_in own m way (Some join) now = choose (may_come way join.eui) (hear_join own m way join.eui join.body now) (drop_it m drops.BadUnit)
+hear_join_in own m way (Some join) now =
+    choose (may_come way join.eui) (hear_join own m way join.eui join.body now) (drop_it m drops.BadUnit)
 
 -- # A frame that was accepted
 
@@ -219,13 +230,15 @@ heard_by_station (Ok h) = Ok (heard.Station h)
 heard_by_station (Err reason) = Err reason
 
 -- a joining command is for the coordinator, all else is what the line made of it
-abbrev pub heard_by : CoordinatorIdentity → Memory → ℕ → Plan StationMemory (Result Heard Dropped) → Option Unread → Hearing
+abbrev pub heard_by : CoordinatorIdentity → Memory → ℕ → Plan StationMemory (Result Heard Dropped) → Option Unread
+    → Hearing
 heard_by own m now p None = within (λ l. with_station l m) heard_by_station p
 heard_by own m now p (Some u) = hear_join_in own m u.way (join_in u.body) now
 
 -- what the coordinator makes of an accepted frame, which came over a link of this cost under this note
 abbrev pub hear_coordinator : CoordinatorIdentity → Memory → Accepted → (cost note now : ℕ) → Hearing
-hear_coordinator own m got cost note now = let p = hear m.station got cost note now in heard_by own m now p (unread p.answer)
+hear_coordinator own m got cost note now =
+    let p = hear m.station got cost note now in heard_by own m now p (unread p.answer)
 
 -- # Beginning
 
@@ -260,19 +273,23 @@ changes m e = not (book.holds m.book e)
 
 -- the entry changes, and where it does the session of its meter ends
 abbrev pub changed : Memory → BookEntry → Draft Memory
-changed m e = if changes m e then with_memory_by (without_session e.eui) (with_book_entry e (empty_draft m)) else empty_draft m
+changed m e =
+    if changes m e then with_memory_by (without_session e.eui) (with_book_entry e (empty_draft m)) else empty_draft m
 
 -- a meter is allowed, and has its address
 abbrev pub allow : Memory → Eui → Key → Ordering ℕ
 allow m eui psk =
     choose (book.has_room m.book eui)
-    (sealing in_memory orders (changed m (book.allowed_entry eui psk (book.entry_for m.book eui))) (book.place_for m.book eui + 1))
+    (sealing in_memory orders (changed m (book.allowed_entry eui psk (book.entry_for m.book eui)))
+    (book.place_for m.book eui + 1))
     (refused orders m refusal.MetersFull)
 
 -- a meter is joined in the workshop: it is allowed, and then the keys of its grant are noted as issued
 abbrev pub depot_by : Memory → Eui → Key → Draft Memory → Ordering Granted
 depot_by m eui psk d =
-    option_map_or (λ granted. option_map_or (λ e. sealing in_memory orders (with_book_entry (book.issued_entry eui granted e) d) granted) (book.allowed_one d.memory.book eui) (refused orders m refusal.MetersFull))
+    option_map_or (λ granted. option_map_or
+    (λ e. sealing in_memory orders (with_book_entry (book.issued_entry eui granted e) d) granted)
+    (book.allowed_one d.memory.book eui) (refused orders m refusal.MetersFull))
     (grant_for d.memory eui) (refused orders m refusal.MetersFull)
 
 -- there has to be room in the book
@@ -285,13 +302,15 @@ depot m eui psk =
 -- a key of the ring is drawn for an index
 abbrev pub rekey : Memory → ℕ → Key → Ordering (Unit {0})
 rekey m index key =
-    choose (option_map_or (λ (g : Granted). g.active == index) m.station.ring false) (refused orders m refusal.IndexActive)
+    choose (option_map_or (λ (g : Granted). g.active == index) m.station.ring false)
+    (refused orders m refusal.IndexActive)
     (sealing in_memory orders (on_station (calls.with_key_at m.station index key) (empty_draft m)) tt)
 
 -- another key of the ring seals from now on
 abbrev pub activate_self : Memory → ℕ → Ordering (Unit {0})
 activate_self m index =
-    choose (calls.has_key m.station index) (sealing in_memory orders (on_station (calls.with_active m.station index) (empty_draft m)) tt)
+    choose (calls.has_key m.station index)
+    (sealing in_memory orders (on_station (calls.with_active m.station index) (empty_draft m)) tt)
     (refused orders m refusal.NotHeld)
 
 -- a session with a meter is opened over the mesh
@@ -299,13 +318,15 @@ abbrev pub challenge_by : Eui → Memory → ℕ → ℕ → Server → Ordering
 challenge_by own m to now server =
     let join = message server.eui (body.Challenge (first_packet server)) in
     checked orders m (order_lack m to join)
-    (sealed in_memory orders m (is_commanded to join now (opens (record { server = server; way = Mesh to; since = now }) (empty_draft m))) tt)
+    (sealed in_memory orders m
+    (is_commanded to join now (opens (record { server = server; way = Mesh to; since = now }) (empty_draft m))) tt)
 
 -- a session is opened where there is room for it and a random value is left
 abbrev pub challenge_at : Eui → Memory → Eui → ℕ → ℕ → Ordering (Unit {0})
 challenge_at own m eui now to =
     checked orders m (Some refusal.SessionsFull when sessions_full m eui)
-    (option_map_or (λ value. challenge_by own m to now (server_for eui own value)) (oldest m) (refused orders m refusal.NoRandom))
+    (option_map_or (λ value. challenge_by own m to now (server_for eui own value)) (oldest m)
+    (refused orders m refusal.NoRandom))
 
 -- the address of a meter that is allowed
 abbrev pub allowed_address : Memory → Eui → Option ℕ
@@ -313,7 +334,8 @@ allowed_address m eui = if book.is_allowed m.book eui then book.address_of m.boo
 
 -- the meter has to be allowed
 abbrev pub challenge : Eui → Memory → Eui → ℕ → Ordering (Unit {0})
-challenge own m eui now = option_map_or (challenge_at own m eui now) (allowed_address m eui) (refused orders m refusal.NotAllowed)
+challenge own m eui now =
+    option_map_or (challenge_at own m eui now) (allowed_address m eui) (refused orders m refusal.NotAllowed)
 
 -- whether the ring's key at an index was issued to a meter
 abbrev pub same_as_issued : Option Key → Option Key → Bool
@@ -327,29 +349,34 @@ was_issued m e index = same_as_issued (ring.key_in_ring m.station.ring index) (b
 
 -- a meter is told to seal with another key
 abbrev pub activate_at : Memory → ℕ → JoinMessage → ℕ → Ordering (Unit {0})
-activate_at m to join now = checked orders m (order_lack m to join) (sealed in_memory orders m (is_commanded to join now (empty_draft m)) tt)
+activate_at m to join now =
+    checked orders m (order_lack m to join) (sealed in_memory orders m (is_commanded to join now (empty_draft m)) tt)
 
 -- the key has to be issued to the meter
 abbrev pub activate_by : Memory → BookEntry → ℕ → ℕ → ℕ → Ordering (Unit {0})
 activate_by m e index now to =
-    choose (was_issued m e index) (activate_at m to (message e.eui (body.Activate index)) now) (refused orders m refusal.NotIssued)
+    choose (was_issued m e index) (activate_at m to (message e.eui (body.Activate index)) now)
+    (refused orders m refusal.NotIssued)
 
 -- the meter has to be allowed
 abbrev pub activate : Memory → Eui → ℕ → ℕ → Ordering (Unit {0})
 activate m eui index now =
-    option_map_or (λ e. option_map_or (activate_by m e index now) (book.address_of m.book eui) (refused orders m refusal.NotAllowed))
+    option_map_or (λ e. option_map_or (activate_by m e index now) (book.address_of m.book eui)
+    (refused orders m refusal.NotAllowed))
     (allowed_entry m eui) (refused orders m refusal.NotAllowed)
 
 -- a meter is shut out, its session ends, and it is told where there is a route and a counter for it; so the command never waits,
 -- and the time that it would wait from is no matter
 abbrev pub kick_goes : Memory → ℕ → JoinMessage → Draft Memory → Draft Memory
-kick_goes m to join d = if is_some (next_hop m.station to) && nat_lt 0 (counters_left m.station) then is_commanded to join 0 d else d
+kick_goes m to join d =
+    if is_some (next_hop m.station to) && nat_lt 0 (counters_left m.station) then is_commanded to join 0 d else d
 
 -- the entry is stored as kicked, the session ends, and the word goes out
 abbrev pub kick_by : Memory → BookEntry → ℕ → Ordering (Unit {0})
 kick_by m e to =
     sealing in_memory orders
-    (kick_goes m to (message e.eui body.Kick) (with_memory_by (without_session e.eui) (with_book_entry (book.kicked_entry e.eui e) (empty_draft m)))) tt
+    (kick_goes m to (message e.eui body.Kick)
+    (with_memory_by (without_session e.eui) (with_book_entry (book.kicked_entry e.eui e) (empty_draft m)))) tt
 
 -- the meter has to be allowed
 abbrev pub kick : Memory → Eui → Ordering (Unit {0})
@@ -361,4 +388,8 @@ kick m eui =
 
 -- the clock goes on: what is too old ends
 abbrev pub tick : ℕ → Memory → Memory
-tick now m = record m { station = calls.tick now m.station; sessions = filter (λ (s : CoordinatorSession). calls.is_within 120 now s.since) m.sessions }
+tick now m =
+    record m {
+      station = calls.tick now m.station;
+      sessions = filter (λ (s : CoordinatorSession). calls.is_within 120 now s.since) m.sessions;
+    }

@@ -100,7 +100,10 @@ is_awaited l dest = is_awaited_in l.waiting dest
 -- a body waits from now on
 unfoldable pub waits : ℕ → ℕ → Load → ℕ → Draft StationMemory → Draft StationMemory
 waits to note load now d =
-    record d { memory = record d.memory { waiting = d.memory.waiting ++ record { to = to; note = note; since = now; load = load } ∷ [] } }
+    record d {
+      memory = record d.memory
+          { waiting = d.memory.waiting ++ record { to = to; note = note; since = now; load = load } ∷ [] };
+    }
 
 -- an own number is taken, and a request for the route to an address goes to all
 abbrev pub seeks : ℕ → ℕ → Draft StationMemory → Draft StationMemory
@@ -121,7 +124,9 @@ sets_out own to note load now d = set_out_by (next_hop d.memory to)
 -- the bodies that wait for an address leave by this hop, in the order of their arrival
 unfoldable pub leave : ℕ → ℕ → ℕ → Draft StationMemory → Draft StationMemory
 leave own dest hop d = record d {
-  units = d.units ++ flat_map (λ b. all_go hop b.note (units_of own b.to b.load)) (filter (waits_for dest) d.memory.waiting);
+  units =
+      d.units ++ flat_map (λ b. all_go hop b.note (units_of own b.to b.load))
+      (filter (waits_for dest) d.memory.waiting);
   memory = record d.memory { waiting = filter (λ b. not (waits_for dest b)) d.memory.waiting };
 }
 
@@ -165,7 +170,15 @@ sealing_key g = key_at g g.active
 abbrev pub letters : Granted → Key → ℕ → List Outgoing → List Sent
 letters g key first [] = []
 letters g key first (o ∷ rest) =
-    Sealed (record { to = o.to; from = g.address; counter = first; index = g.active; key = key; unit = o.unit; note = o.note })
+    Sealed (record {
+      to = o.to;
+      from = g.address;
+      counter = first;
+      index = g.active;
+      key = key;
+      unit = o.unit;
+      note = o.note;
+    })
     ∷ letters g key (first + 1) rest
 
 -- a node without a ring seals nothing
@@ -209,7 +222,8 @@ sealing h ends d answer = record {
 
 -- refused where fewer counters are left than units are to be sealed
 unfoldable pub sealed : {M H E : Type 0} → StationPlace M → Ends E → M → Draft M → H → Plan M (Result H E)
-sealed h ends m d answer = if nat_lt (counters_left (h.station m)) (length d.units) then refused ends m ends.spent else sealing h ends d answer
+sealed h ends m d answer =
+    if nat_lt (counters_left (h.station m)) (length d.units) then refused ends m ends.spent else sealing h ends d answer
 
 -- the first fault refuses
 unfoldable pub checked : {M H E : Type 0} → Ends E → M → Option E → Plan M (Result H E) → Plan M (Result H E)

@@ -49,7 +49,8 @@ joining_unit message = Local 2 (joining.spelling message)
 
 -- the octets of a sealed frame, which its sender knows the key and the note of
 abbrev pub sealed_frame : Ciphers → Letter → MacHead → OutFrame
-sealed_frame ciphers l head = record { octets = header_then head (ciphers.seals l.key head (spelling l.unit)); note = l.note; key = Some l.key }
+sealed_frame ciphers l head =
+    record { octets = header_then head (ciphers.seals l.key head (spelling l.unit)); note = l.note; key = Some l.key }
 
 -- the octets of a plain frame, which has no key and no note
 abbrev pub plain_frame : MacHead → JoinMessage → OutFrame
@@ -71,7 +72,8 @@ pub record Arrived : Type 0 where
 
 -- a frame in octets: its head, the octets behind it, and what each key opens of them
 abbrev pub arrived_with : Ciphers → MacHead → List ℕ → List ℕ → Arrived
-arrived_with ciphers head front body = record { head = head; body = body; opened = λ key. ciphers.opens key head front body }
+arrived_with ciphers head front body =
+    record { head = head; body = body; opened = λ key. ciphers.opens key head front body }
 
 -- the frame that octets are, if they are one
 unfoldable pub arrived : Ciphers → List ℕ → Option Arrived

@@ -66,14 +66,16 @@ offers own origin rank by now l = leave own origin by (with_rank origin rank by 
 
 -- the same, and between the two an own number is taken
 abbrev pub offers_numbered : ℕ → ℕ → Rank → ℕ → ℕ → StationMemory → Draft StationMemory
-offers_numbered own origin rank by now l = leave own origin by (with_own_number (with_rank origin rank by now (empty_draft l)))
+offers_numbered own origin rank by now l =
+    leave own origin by (with_own_number (with_rank origin rank by now (empty_draft l)))
 
 -- # Hearing a route request
 
 -- the node that is sought takes an own number, and answers with it
 abbrev pub answers : StationMemory → (own by origin : ℕ) → Rank → ℕ → Hearing
 answers l own by origin rank now =
-    ends l (tells by (Rrep (l.own_number.last + 1) 0 own origin) (offers_numbered own origin rank by now l)) heard.Answered
+    ends l (tells by (Rrep (l.own_number.last + 1) 0 own origin)
+    (offers_numbered own origin rank by now l)) heard.Answered
 
 -- another node sends the request on, with the higher cost
 abbrev pub sends_on : StationMemory → (own by origin dest : ℕ) → Rank → ℕ → Hearing
@@ -155,7 +157,8 @@ report_by l mesh (Some hop) = reports l mesh hop
 
 -- by the hop that leads to its target: without one its origin is told, unless that is this node
 abbrev pub forward_by : StationMemory → (own : ℕ) → Mesh → Unit → ℕ → Option ℕ → Hearing
-forward_by l own mesh unit note None = choose (mesh.origin == own) (drop_it l NoRoute) (report_by l mesh (next_hop l mesh.origin))
+forward_by l own mesh unit note None =
+    choose (mesh.origin == own) (drop_it l NoRoute) (report_by l mesh (next_hop l mesh.origin))
 forward_by l own mesh unit note (Some hop) = choose (is_spent mesh) (drop_it l HopsSpent) (forwards l hop unit note)
 
 -- a unit for another node, as it would go on
@@ -185,11 +188,13 @@ gather l from piece note now = gathered l from (pieces.taken l.reassemblies from
 
 -- a route message to all may be a request alone, one to this node a reply or an error
 abbrev pub hear_message : StationMemory → (own by : ℕ) → (all : Bool) → (cost now : ℕ) → Message → Hearing
-hear_message l own by true cost now (Rreq number c origin dest) = hear_request l own by origin dest (rank_over number c cost) now
+hear_message l own by true cost now (Rreq number c origin dest) =
+    hear_request l own by origin dest (rank_over number c cost) now
 hear_message l own by true cost now (Rrep number c origin to) = drop_it l BadUnit
 hear_message l own by true cost now (Rerr lost to) = drop_it l BadUnit
 hear_message l own by false cost now (Rreq number c origin dest) = drop_it l BadUnit
-hear_message l own by false cost now (Rrep number c origin to) = hear_reply l own by origin to (rank_over number c cost) now
+hear_message l own by false cost now (Rrep number c origin to) =
+    hear_reply l own by origin to (rank_over number c cost) now
 hear_message l own by false cost now (Rerr lost to) = hear_error l own by lost to
 
 -- octets that spell no message are dropped
@@ -206,19 +211,25 @@ hear_command l own by all code body cost now =
 -- a unit with a mesh header, to this node
 abbrev pub hear_over_mesh : StationMemory → (own : ℕ) → Unit → (note now : ℕ) → Hearing
 hear_over_mesh l own (units.Whole mesh octets) note now =
-    choose (mesh.to == own) (hands_up l mesh.origin note octets) (forward l own mesh (units.Whole (hop_less mesh) octets) note)
+    choose (mesh.to == own) (hands_up l mesh.origin note octets)
+    (forward l own mesh (units.Whole (hop_less mesh) octets) note)
 hear_over_mesh l own (units.Part mesh piece) note now =
-    choose (mesh.to == own) (gather l mesh.origin piece note now) (forward l own mesh (units.Part (hop_less mesh) piece) note)
+    choose (mesh.to == own) (gather l mesh.origin piece note now)
+    (forward l own mesh (units.Part (hop_less mesh) piece) note)
 hear_over_mesh l own (units.Carried mesh body) note now =
-    choose (mesh.to == own) (resting l (Ok (heard.Joining (ByMesh mesh.origin) body)) (Err Store)) (forward l own mesh (units.Carried (hop_less mesh) body) note)
+    choose (mesh.to == own) (resting l (Ok (heard.Joining (ByMesh mesh.origin) body)) (Err Store))
+    (forward l own mesh (units.Carried (hop_less mesh) body) note)
 hear_over_mesh l own (units.Local code body) note now = drop_it l BadUnit
 
 -- a sealed frame: a command for the neighbours, or a unit over the mesh, which may not go to all
 abbrev pub hear_sealed : StationMemory → (own by : ℕ) → (all : Bool) → Unit → (cost note now : ℕ) → Hearing
 hear_sealed l own by all (units.Local code body) cost note now = hear_command l own by all code body cost now
-hear_sealed l own by all (units.Whole mesh octets) cost note now = choose all (drop_it l BadUnit) (hear_over_mesh l own (units.Whole mesh octets) note now)
-hear_sealed l own by all (units.Part mesh piece) cost note now = choose all (drop_it l BadUnit) (hear_over_mesh l own (units.Part mesh piece) note now)
-hear_sealed l own by all (units.Carried mesh body) cost note now = choose all (drop_it l BadUnit) (hear_over_mesh l own (units.Carried mesh body) note now)
+hear_sealed l own by all (units.Whole mesh octets) cost note now =
+    choose all (drop_it l BadUnit) (hear_over_mesh l own (units.Whole mesh octets) note now)
+hear_sealed l own by all (units.Part mesh piece) cost note now =
+    choose all (drop_it l BadUnit) (hear_over_mesh l own (units.Part mesh piece) note now)
+hear_sealed l own by all (units.Carried mesh body) cost note now =
+    choose all (drop_it l BadUnit) (hear_over_mesh l own (units.Carried mesh body) note now)
 
 -- a plain frame carries a joining command alone
 abbrev pub is_joining : Unit → Option (List ℕ)
@@ -237,7 +248,8 @@ abbrev pub hear_unit : StationMemory → Path → Unit → (cost note now : ℕ)
 hear_unit l (paths.Sealed from all key) unit cost note now =
     option_map_or (λ own. hear_sealed l own from all unit cost note now) (address_of l) (drop_it l BadUnit)
 hear_unit l (paths.Up from) unit cost note now = hear_plain l (λ body. heard.Joining (Air from) body) (is_joining unit)
-hear_unit l (paths.Down from) unit cost note now = hear_plain l (λ body. heard.Joining (Near from) body) (is_joining unit)
+hear_unit l (paths.Down from) unit cost note now =
+    hear_plain l (λ body. heard.Joining (Near from) body) (is_joining unit)
 
 -- octets that spell no unit are dropped
 abbrev pub hear_unit_in : StationMemory → Path → Option Unit → (cost note now : ℕ) → Hearing

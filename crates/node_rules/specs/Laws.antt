@@ -55,7 +55,8 @@ pub record IsWhole {M A : Type 0} (records : Records) (cut : Option Cut) (p : Pl
   pub opened : o.opened ≡ p.opened
 
 -- A plan one of whose writes failed: those in front of it were made, and the failed one as the loss of power says, which is over.
-pub record IsCutOff {M A : Type 0} (records : Records) (cut : Option Cut) (p : Plan M A) (o : Outcome M A) : Type 0 where
+pub record IsCutOff {M A : Type 0} (records : Records) (cut : Option Cut) (p : Plan M A)
+    (o : Outcome M A) : Type 0 where
   pub front : List Write
   pub write : Write
   pub rest : List Write
@@ -89,11 +90,14 @@ HaltedHasNoAddress = (x : Node) → x.memory ≡ None → (node_address x ≡ No
 
 -- nor has one without a ring
 abbrev pub RinglessHasNoAddress : Type 0
-RinglessHasNoAddress = (x : Node) (m : Memory) → x.memory ≡ Some m → m.station.ring ≡ None → (node_address x ≡ None) × ((dest : ℕ) → node_route x dest ≡ None)
+RinglessHasNoAddress =
+    (x : Node) (m : Memory) → x.memory ≡ Some m → m.station.ring ≡ None
+    → (node_address x ≡ None) × ((dest : ℕ) → node_route x dest ≡ None)
 
 -- a halted node answers each call with the word of halted nodes, and nothing changes, is sent, made or checked
 abbrev pub HaltedDoesNothing : Type 0 → Type 0
-HaltedDoesNothing A = (x : Node) (halted : A) (plan : Memory → Plan Memory A) → x.memory ≡ None → acts x halted plan ≡ stays x halted
+HaltedDoesNothing A =
+    (x : Node) (halted : A) (plan : Memory → Plan Memory A) → x.memory ≡ None → acts x halted plan ≡ stays x halted
 
 -- # Refusals
 
@@ -111,27 +115,32 @@ RefusesCleanly store m p = (p.failed ≡ Err store) × ((reason : _) → p.answe
 
 -- a frame that is not accepted changes nothing
 abbrev pub AFrameRefusedChangesNothing : Type 0
-AFrameRefusedChangesNothing = (l : StationMemory) (own : Eui) (a : Option Arrived) → RefusesCleanly frames.Store l (accept l own a)
+AFrameRefusedChangesNothing =
+    (l : StationMemory) (own : Eui) (a : Option Arrived) → RefusesCleanly frames.Store l (accept l own a)
 
 -- a frame that is dropped changes nothing: of a station, of a meter, and of the coordinator
 abbrev pub ADropChangesNothing : Type 0
-ADropChangesNothing = (l : StationMemory) (got : Accepted) (cost note now : ℕ) → RefusesCleanly drops.Store l (hear l got cost note now)
+ADropChangesNothing =
+    (l : StationMemory) (got : Accepted) (cost note now : ℕ) → RefusesCleanly drops.Store l (hear l got cost note now)
 
 -- the same of a frame that a meter drops
 abbrev pub AMetersDropChangesNothing : Type 0
 AMetersDropChangesNothing =
-    (x : meters.Identity) (m : Memory) (got : Accepted) (cost note now : ℕ) → RefusesCleanly drops.Store m (meters.hear_meter x m got cost note now)
+    (x : meters.Identity) (m : Memory) (got : Accepted) (cost note now : ℕ)
+    → RefusesCleanly drops.Store m (meters.hear_meter x m got cost note now)
 
 -- the same of a frame that the coordinator drops
 abbrev pub ACoordinatorsDropChangesNothing : Type 0
 ACoordinatorsDropChangesNothing =
-    (own : coordinator_rules.CoordinatorIdentity) (m : Memory) (got : Accepted) (cost note now : ℕ) → RefusesCleanly drops.Store m (coordinator_rules.hear_coordinator own m got cost note now)
+    (own : coordinator_rules.CoordinatorIdentity) (m : Memory) (got : Accepted) (cost note now : ℕ)
+    → RefusesCleanly drops.Store m (coordinator_rules.hear_coordinator own m got cost note now)
 
 -- a send that is refused changes nothing
 abbrev pub ASendRefusedChangesNothing : Type 0
 ASendRefusedChangesNothing =
     (l : StationMemory) (to : ℕ) (octets : List ℕ) (note now : ℕ)
-    → RefusesCleanly sends.Store l (calls.send l to octets note now) × RefusesCleanly sends.Store l (calls.send_command l to octets now)
+    → RefusesCleanly sends.Store l (calls.send l to octets note now)
+    × RefusesCleanly sends.Store l (calls.send_command l to octets now)
 
 -- joining and leaving that are refused change nothing
 abbrev pub AJoinRefusedChangesNothing : Type 0
@@ -222,12 +231,14 @@ HearingIsBounded = (l : StationMemory) (got : Accepted) (cost note now : ℕ) �
 -- the same of a frame that a meter hears
 abbrev pub AMetersHearingIsBounded : Type 0
 AMetersHearingIsBounded =
-    (x : meters.Identity) (m : Memory) (got : Accepted) (cost note now : ℕ) → IsBounded m.station (meters.hear_meter x m got cost note now)
+    (x : meters.Identity) (m : Memory) (got : Accepted) (cost note now : ℕ)
+    → IsBounded m.station (meters.hear_meter x m got cost note now)
 
 -- the same of a frame that the coordinator hears
 abbrev pub ACoordinatorsHearingIsBounded : Type 0
 ACoordinatorsHearingIsBounded =
-    (own : coordinator_rules.CoordinatorIdentity) (m : Memory) (got : Accepted) (cost note now : ℕ) → IsBounded m.station (coordinator_rules.hear_coordinator own m got cost note now)
+    (own : coordinator_rules.CoordinatorIdentity) (m : Memory) (got : Accepted) (cost note now : ℕ)
+    → IsBounded m.station (coordinator_rules.hear_coordinator own m got cost note now)
 
 -- a send, of any datagram and of any command
 abbrev pub ASendIsBounded : Type 0
@@ -237,7 +248,9 @@ ASendIsBounded =
 
 -- joining and leaving
 abbrev pub AJoinIsBounded : Type 0
-AJoinIsBounded = (x : meters.Identity) (m : Memory) (agent now : ℕ) → IsBounded m.station (meters.join x m agent now) × IsBounded m.station (meters.leave m)
+AJoinIsBounded =
+    (x : meters.Identity) (m : Memory) (agent now : ℕ)
+    → IsBounded m.station (meters.join x m agent now) × IsBounded m.station (meters.leave m)
 
 -- the orders of the operator
 abbrev pub AnOrderIsBounded : Type 0
@@ -272,4 +285,5 @@ pub record OnlyMarks {M A : Type 0} (p : Plan M A) : Type 0 where
 
 -- accepting a frame stores at most the mark of its sender, at a table of at most 64 senders
 abbrev pub AcceptingOnlyMarks : Type 0
-AcceptingOnlyMarks = (l : StationMemory) (own : Eui) (a : Option Arrived) → length l.marks ≤ 64 → OnlyMarks (accept l own a)
+AcceptingOnlyMarks =
+    (l : StationMemory) (own : Eui) (a : Option Arrived) → length l.marks ≤ 64 → OnlyMarks (accept l own a)

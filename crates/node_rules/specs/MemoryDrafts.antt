@@ -32,11 +32,27 @@ in_memory = record { station = λ m. m.station; with_station = with_station }
 
 -- what is being done on the line, and the same back in the memory
 abbrev pub station_part : Draft Memory → Draft StationMemory
-station_part d = record { puts = d.puts; memory = d.memory.station; units = d.units; plain = d.plain; made = d.made; opened = d.opened }
+station_part d =
+    record {
+      puts = d.puts;
+      memory = d.memory.station;
+      units = d.units;
+      plain = d.plain;
+      made = d.made;
+      opened = d.opened;
+    }
 
 -- what was done on the line, in the memory
 abbrev pub memory_part : Draft Memory → Draft StationMemory → Draft Memory
-memory_part d l = record { puts = l.puts; memory = with_station l.memory d.memory; units = l.units; plain = l.plain; made = l.made; opened = l.opened }
+memory_part d l =
+    record {
+      puts = l.puts;
+      memory = with_station l.memory d.memory;
+      units = l.units;
+      plain = l.plain;
+      made = l.made;
+      opened = l.opened;
+    }
 
 -- a word of the line
 unfoldable pub on_station : (Draft StationMemory → Draft StationMemory) → Draft Memory → Draft Memory
@@ -85,7 +101,8 @@ given_ends = record { spent = RandomsFull; store = RandomsFull }
 abbrev pub give_random : Memory → Rand → Plan Memory (Result (Unit {0}) RandomFault)
 give_random m value =
     choose (nat_lt 7 (length m.randoms)) (refused given_ends m RandomsFull)
-    (sealing in_memory given_ends (with_memory_by (λ n. record n { randoms = n.randoms ++ value ∷ [] }) (empty_draft m)) tt)
+    (sealing in_memory given_ends
+    (with_memory_by (λ n. record n { randoms = n.randoms ++ value ∷ [] }) (empty_draft m)) tt)
 
 -- # Joining commands that the station hands on
 

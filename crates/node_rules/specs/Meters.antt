@@ -86,7 +86,8 @@ with_session session m = record m { session = session }
 
 -- up: a plain JOIN of its sender goes to the coordinator in a command
 abbrev pub carries_up : Memory → JoinMessage → ℕ → Hearing
-carries_up m join now = checked dropped m (command_lack m 0 join) (ends m (is_commanded 0 join now (empty_draft m)) heard.Carried)
+carries_up m join now =
+    checked dropped m (command_lack m 0 join) (ends m (is_commanded 0 join now (empty_draft m)) heard.Carried)
 
 -- a JOIN in a plain frame is carried up to the coordinator, where it comes from its own meter
 abbrev pub carry_up : Memory → Eui → JoinMessage → JoinBody → ℕ → Hearing
@@ -95,7 +96,9 @@ carry_up m from join _ now = drop_it m BadUnit
 
 -- down: what the coordinator says to another node goes to it in a plain frame
 abbrev pub carries_down : Memory → JoinMessage → Hearing
-carries_down m join = option_map_or (λ own. ends m (goes_down own join (empty_draft m)) heard.Carried) (address_of m.station) (drop_it m BadUnit)
+carries_down m join =
+    option_map_or (λ own. ends m (goes_down own join (empty_draft m)) heard.Carried) (address_of m.station)
+    (drop_it m BadUnit)
 
 -- a CHALLENGE, an ACCEPT and a DECLINE are carried down to their meter
 abbrev pub carry_down : Memory → JoinMessage → JoinBody → Hearing
@@ -138,7 +141,8 @@ replies m course peer join now =
     (ends m
     (says course peer.eui join now
     (with_pair_tags (mac_p_tag peer.eui peer.id_s peer.rand_s peer.rand_p ∷ []) []
-    (with_memory_by (λ n. with_session (Some (record { course = course; peer = Some peer; since = now })) (without_oldest n)) (empty_draft m))))
+    (with_memory_by (λ n. with_session (Some (record { course = course; peer = Some peer; since = now }))
+    (without_oldest n)) (empty_draft m))))
     heard.Replied)
 
 -- the second packet goes out, made with a random value
@@ -151,7 +155,8 @@ reply_with x m course packet now value =
 abbrev pub reply : Identity → Memory → Course → List ℕ → ℕ → Hearing
 reply x m course packet now =
     checked dropped m (first_course_fault m course)
-    (option_map_or (λ value. checked dropped m (option_map packet_fault (first_fault packet)) (reply_with x m course packet now value))
+    (option_map_or (λ value. checked dropped m (option_map packet_fault (first_fault packet))
+    (reply_with x m course packet now value))
     (oldest m) (drop_it m NoRandom))
 
 -- a third packet without a fault: the ring is installed from its grant, the session ends, and the peer answers under that ring
@@ -161,7 +166,8 @@ takes m course peer identifier granted join now =
     (ends m
     (says course peer.eui join now
     (with_pair_tags (success_tag peer.eui identifier peer.rand_s peer.rand_p ∷ [])
-    (mac_s_tag peer.eui peer.id_s peer.rand_p ∷ granting_tag peer.eui identifier peer.rand_s peer.rand_p (granting_text granted) ∷ [])
+    (mac_s_tag peer.eui peer.id_s peer.rand_p
+    ∷ granting_tag peer.eui identifier peer.rand_s peer.rand_p (granting_text granted) ∷ [])
     (on_station (with_ring (Some granted)) (with_memory_by (with_session None) (empty_draft m)))))
     (heard.Took (agreed_by peer)))
 
@@ -169,13 +175,15 @@ takes m course peer identifier granted join now =
 abbrev pub take_with : Identity → Memory → Course → List ℕ → ℕ → Peer → Option Granted → Hearing
 take_with x m course packet now peer None = drop_it m NoSuccess
 take_with x m course packet now peer (Some granted) =
-    takes m course peer (identifier_of packet) granted (message x.eui (body.Join (x.ciphers.fourth x.psk (identifier_of packet) peer))) now
+    takes m course peer (identifier_of packet) granted
+    (message x.eui (body.Join (x.ciphers.fourth x.psk (identifier_of packet) peer))) now
 
 -- the third packet is refused by its first fault
 abbrev pub take_by : Identity → Memory → Course → List ℕ → ℕ → Option Peer → Hearing
 take_by x m course packet now None = drop_it m Form
 take_by x m course packet now (Some peer) =
-    checked dropped m (option_map packet_fault (x.ciphers.third_fault x.psk peer packet)) (take_with x m course packet now peer (x.ciphers.granted x.psk peer packet))
+    checked dropped m (option_map packet_fault (x.ciphers.third_fault x.psk peer packet))
+    (take_with x m course packet now peer (x.ciphers.granted x.psk peer packet))
 
 -- the third packet needs a session
 abbrev pub take : Identity → Memory → Course → List ℕ → ℕ → Hearing
@@ -193,7 +201,8 @@ challenged x m course packet now = choose (is_first packet) (reply x m course pa
 abbrev pub declined : Memory → ℕ → Hearing
 declined m agent =
     choose (is_joined m) (drop_it m BadUnit)
-    (choose (has_session m (ByAgent agent)) (ends m (with_memory_by (with_session None) (empty_draft m)) heard.Declined) (drop_it m NoSession))
+    (choose (has_session m (ByAgent agent)) (ends m (with_memory_by (with_session None) (empty_draft m)) heard.Declined)
+    (drop_it m NoSession))
 
 -- the ring is dropped; the routes, what is gathered, what waits and the session end
 abbrev pub leaves : Memory → Draft Memory
@@ -206,7 +215,8 @@ kicked m = ends m (leaves m) heard.Left
 -- another key seals from now on
 abbrev pub activated : Memory → ℕ → Hearing
 activated m index =
-    choose (calls.has_key m.station index) (ends m (on_station (calls.with_active m.station index) (empty_draft m)) heard.Activated)
+    choose (calls.has_key m.station index)
+    (ends m (on_station (calls.with_active m.station index) (empty_draft m)) heard.Activated)
     (drop_it m NotHeld)
 
 -- # A joining message
@@ -229,7 +239,8 @@ hear_order x m _ now = drop_it m BadUnit
 -- a joining message, by the way that it came
 abbrev pub hear_join : Identity → Memory → Way → JoinMessage → ℕ → Hearing
 hear_join x m (Air from) join now = carry_up m from join join.body now
-hear_join x m (Near agent) join now = choose (same_eui join.eui x.eui) (hear_near x m agent join.body now) (drop_it m BadUnit)
+hear_join x m (Near agent) join now =
+    choose (same_eui join.eui x.eui) (hear_near x m agent join.body now) (drop_it m BadUnit)
 hear_join x m (Mesh origin) join now =
     choose (origin == 0)
     (choose (same_eui join.eui x.eui) (hear_order x m join.body now) (carry_down m join join.body))
@@ -269,7 +280,8 @@ join x m agent now =
     choose (is_joined m) (refused joining_ends m AlreadyJoined)
     (sealing in_memory joining_ends
     (goes_up agent x.eui (message x.eui (body.Join []))
-    (with_memory_by (with_session (Some (record { course = ByAgent agent; peer = None; since = now }))) (empty_draft m))) tt)
+    (with_memory_by (with_session (Some (record { course = ByAgent agent; peer = None; since = now })))
+    (empty_draft m))) tt)
 
 -- leaving takes no counter, so one word serves for both
 abbrev pub leaving_ends : Ends LeaveRefusal
@@ -289,4 +301,5 @@ session_within now s = if calls.is_within 120 now s.since then Some s else None
 
 -- the clock goes on: what is too old ends
 abbrev pub tick : ℕ → Memory → Memory
-tick now m = record m { station = calls.tick now m.station; session = option_map_or (session_within now) m.session None }
+tick now m =
+    record m { station = calls.tick now m.station; session = option_map_or (session_within now) m.session None }

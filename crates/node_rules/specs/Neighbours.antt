@@ -24,7 +24,8 @@ abbrev pub local_draft : StationMemory → (code : ℕ) → Option ℕ → List 
 local_draft l code to body = goes (unwrap_or to to_all) (Local code body) 0 (empty_draft l)
 
 -- a command of code 03, 04 or 05 is sent
-abbrev pub send_local : StationMemory → (code : ℕ) → Option ℕ → List ℕ → Plan StationMemory (Result (Unit {0}) LocalRefusal)
+abbrev pub send_local : StationMemory → (code : ℕ) → Option ℕ → List ℕ
+    → Plan StationMemory (Result (Unit {0}) LocalRefusal)
 send_local l code to body = sealed alone local_ends l (local_draft l code to body) tt
 
 -- # After other frames of a step
@@ -38,7 +39,8 @@ followed before more = record {
 
 -- The plan was carried out in a step that had given out something before: what the plan gives out comes after it, and where a put
 -- failed nothing is left of either.
-pub record CarriesAfter {M A : Type 0} (old : State M) (p : Plan M A) (answer : A) (before out : Out) (new : State M) : Type 0 where
+pub record CarriesAfter {M A : Type 0} (old : State M) (p : Plan M A) (answer : A) (before out : Out)
+    (new : State M) : Type 0 where
   pub added : Out
   pub carries : Carries old p answer added new
   pub out_is : out ≡ (if is_some new.memory then followed before added else nothing)

@@ -31,7 +31,8 @@ left_by x o = record {
 
 -- a node carries out a plan over its memory; a halted one answers so, and nothing changes
 unfoldable pub acts : {A : Type 0} → Node → A → (Memory → Plan Memory A) → NodeStep A
-acts x halted plan = option_map_or (λ m. left_by x (carry_out x.store.records x.store.cut (plan m))) x.memory (stays x halted)
+acts x halted plan =
+    option_map_or (λ m. left_by x (carry_out x.store.records x.store.cut (plan m))) x.memory (stays x halted)
 
 -- a plan of the line as one of the memory
 abbrev pub of_station : {A : Type 0} → Memory → Plan StationMemory A → Plan Memory A
@@ -39,7 +40,8 @@ of_station m p = within (λ l. with_station l m) (λ a. a) p
 
 -- what a node did, its answer read as another
 abbrev pub answering : {A B : Type 0} → (A → B) → NodeStep A → NodeStep B
-answering reads d = record { node = d.node; answer = reads d.answer; frames = d.frames; made = d.made; opened = d.opened }
+answering reads d =
+    record { node = d.node; answer = reads d.answer; frames = d.frames; made = d.made; opened = d.opened }
 
 -- a memory that changes without a store write
 abbrev pub changing : {A : Type 0} → A → Memory → Plan Memory A

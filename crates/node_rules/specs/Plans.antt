@@ -45,7 +45,8 @@ finished w p = record {
 
 -- nothing is sent, handed up or made
 abbrev pub halted : {M A : Type 0} → Written → Plan M A → Outcome M A
-halted w p = record { answer = p.failed; records = w.records; cut = w.cut; memory = None; frames = []; made = []; opened = p.opened }
+halted w p =
+    record { answer = p.failed; records = w.records; cut = w.cut; memory = None; frames = []; made = []; opened = p.opened }
 
 -- whether all were stored decides
 abbrev pub outcome_of : {M A : Type 0} → Written → Plan M A → Outcome M A
@@ -59,7 +60,8 @@ carry_out records cut p = outcome_of (write p.puts cut records) p
 
 -- the answer alone, also where a write would fail, since none is made
 unfoldable pub resting : {M A : Type 0} → M → A → A → Plan M A
-resting m answer failed = record { answer = answer; failed = failed; puts = []; memory = m; frames = []; made = []; opened = [] }
+resting m answer failed =
+    record { answer = answer; failed = failed; puts = []; memory = m; frames = []; made = []; opened = [] }
 
 -- # Plans of a part of the memory
 

@@ -12,7 +12,8 @@ use Rattle.node_rules.specs.declared.shown.ShownPeer.{ShownPeer}
 
 -- a rank, with its next hop where the route is valid
 abbrev pub shown_route : RoutingEntry → ShownRoute
-shown_route e = record { dest = e.address; number = e.rank.number; cost = e.rank.cost; next = option_map (λ t. t.next) e.route }
+shown_route e =
+    record { dest = e.address; number = e.rank.number; cost = e.rank.cost; next = option_map (λ t. t.next) e.route }
 
 -- the mark of a peer
 abbrev pub shown_peer : Peer → ShownPeer

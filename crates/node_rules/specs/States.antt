@@ -17,7 +17,8 @@ eui_code = code_by (List ℕ) (coded_list coded_ℕ) (λ e. e.0) (λ xs. record 
 
 abbrev pub state_code : {M : Type 0} → Coded M → Coded (State M)
 state_code {M = M} memory_code =
-    code_by (Store × (Eui × Option M)) (coded× store_code (coded× eui_code (coded_option memory_code))) (λ s. (s.store, (s.eui, s.memory)))
+    code_by (Store × (Eui × Option M)) (coded× store_code (coded× eui_code (coded_option memory_code)))
+    (λ s. (s.store, (s.eui, s.memory)))
     (λ p. record { store = p.0; eui = p.1.0; memory = p.1.1 }) (λ _. refl)
 
 abbrev pub station_state_code : Coded (State StationMemory)

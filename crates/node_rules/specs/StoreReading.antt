@@ -33,7 +33,16 @@ station_of records =
     reading (tag_in (get records tag_slot)) (λ tag.
     reading (routing.opened records) (λ t.
     reading (slots.opened marks.peers records) (λ m.
-    Ok (record { ring = r; counter = c; marks = m; routing = t; own_number = n; next_tag = tag; reassemblies = []; waiting = [] })))))))
+    Ok (record {
+      ring = r;
+      counter = c;
+      marks = m;
+      routing = t;
+      own_number = n;
+      next_tag = tag;
+      reassemblies = [];
+      waiting = [];
+    })))))))
 
 -- # A meter and the coordinator
 
@@ -44,7 +53,8 @@ remembering l b = record { station = l; randoms = []; session = None; sessions =
 -- what the records give of a node of this role: the coordinator's book belongs to it
 abbrev pub memory_of : Role → Records → Result Memory BadStore
 memory_of (Meter psk) records = reading (station_of records) (λ l. Ok (remembering l []))
-memory_of Coordinator records = reading (station_of records) (λ l. reading (slots.opened book.entries records) (λ b. Ok (remembering l b)))
+memory_of Coordinator records =
+    reading (station_of records) (λ l. reading (slots.opened book.entries records) (λ b. Ok (remembering l b)))
 
 -- no rank, and every floor 0
 abbrev pub blank_routing : routing.Routing

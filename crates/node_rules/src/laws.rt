@@ -34,7 +34,8 @@ pub fn no_cut_no_failure<M, A>()
 /// What a call does that carries out a plan is a function of the cut that is to come: where the keeper tells its cut it is `carry_out`, and
 /// over any other keeper in which no put fails it is `carry_out` with no cut.
 pub fn calls_are_functions<M, A>()
-    ensures { (old new : State M) (p : Plan M A) (answer : A) (out : Out) → Carries old p answer out new → IsCarriedOut old p answer out new }
+    ensures { (old new : State M) (p : Plan M A) (answer : A) (out : Out) → Carries old p answer out new
+        → IsCarriedOut old p answer out new }
 {}
 
 /// A halted node has no address and no route.
@@ -149,7 +150,8 @@ pub fn accepting_only_marks()
 
 /// A plan that is carried out over a part of what a node holds is carried out over the whole of it.
 pub fn parts_are_carried_out<M, N, A, B>()
-    ensures { (whole : M → N) (reads : A → B) (old : State N) (before new : State M) (p : Plan M A) (answer : A) (out : Out)
+    ensures { (whole : M → N) (reads : A → B) (old : State N) (before new : State M) (p : Plan M A) (answer : A)
+        (out : Out)
         → old.store ≡ before.store → old.eui ≡ before.eui → Carries before p answer out new
         → Carries old (within whole reads p) (reads answer) out (seen whole new) }
 {}
@@ -157,12 +159,14 @@ pub fn parts_are_carried_out<M, N, A, B>()
 /// Puts that were done, and then a plan that was carried out, are one plan that was carried out.
 pub fn plans_follow_puts<M, A>()
     ensures { (s t u : State M) (ws : List Write) (p : Plan M A) (answer : A) (out : Out)
-        → Wrote s.store ws true t.store → s.eui ≡ t.eui → Carries t p answer out u → Carries s (behind ws p) answer out u }
+        → Wrote s.store ws true t.store → s.eui ≡ t.eui → Carries t p answer out u
+        → Carries s (behind ws p) answer out u }
 {}
 
 /// A plan that was carried out, whose frames and tags come after others, is the plan with these others.
 pub fn plans_give_out_more<M, A>()
-    ensures { (frames : List Sent) (made opened : List PairTag) (s t : State M) (p : Plan M A) (answer : A) (out more : Out)
+    ensures { (frames : List Sent) (made opened : List PairTag) (s t : State M) (p : Plan M A) (answer : A)
+        (out more : Out)
         → Carries s p answer out t → more ≡ out_with frames made opened (is_some t.memory) out
         → Carries s (adding frames made opened p) answer more t }
 {}

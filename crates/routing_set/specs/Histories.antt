@@ -22,7 +22,10 @@ pub data Leads (first : Routing) : Option Routing → Records → Type 0 where
       → is_better now dest rank ≡ true → is_full now dest at ≡ false
       → IsKept now new ⊎ IsKept (half_offered now dest at) new ⊎ IsKept (offered now dest rank next at) new
       → Leads first None new
-  ends : (now : Routing) (records : Records) (test : RoutingEntry → Bool) → Leads first (Some now) records → Leads first (Some (ended test now)) records
-  restarts : (was : Option Routing) (now : Routing) (records : Records) → Leads first was records → opened records ≡ Ok now → Leads first (Some now) records
+  ends : (now : Routing) (records : Records) (test : RoutingEntry → Bool) → Leads first (Some now) records
+      → Leads first (Some (ended test now)) records
+  restarts : (was : Option Routing) (now : Routing) (records : Records) → Leads first was records
+      → opened records ≡ Ok now
+      → Leads first (Some now) records
   elsewhere : (was : Option Routing) (old new : Records) → Leads first was old → get new floor_slot ≡ get old floor_slot
       → ((place : ℕ) → place < 64 → get new (slot_of ranks place) ≡ get old (slot_of ranks place)) → Leads first was new

@@ -14,13 +14,17 @@ use Rattle.routing_set.specs.Histories.{IsRouting, Leads}
 -- The rank of each address, kept or a floor, is no lower than it was at any time before, over any offers, failed puts, routes
 -- that ended and new starts.
 abbrev pub RanksOnlyRise : Type 0
-RanksOnlyRise = (first now : Routing) (records : Records) → Leads first (Some now) records → (dest : ℕ) → IsAtLeast (held now dest) (held first dest)
+RanksOnlyRise =
+    (first now : Routing) (records : Records) → Leads first (Some now) records
+    → (dest : ℕ) → IsAtLeast (held now dest) (held first dest)
 
 -- After an offer that was taken each route is as before or has ended, or it is the offered one.
 abbrev pub OffersBeginTheirRoute : Type 0
 OffersBeginTheirRoute =
-    (routing : Routing) (dest : ℕ) (rank : Rank) (next now : ℕ) → IsRouting routing → is_full routing dest now ≡ false → (to : ℕ)
-    → (route_of (offered routing dest rank next now) to ≡ route_of routing to) ⊎ (route_of (offered routing dest rank next now) to ≡ None)
+    (routing : Routing) (dest : ℕ) (rank : Rank) (next now : ℕ) → IsRouting routing → is_full routing dest now ≡ false
+    → (to : ℕ)
+    → (route_of (offered routing dest rank next now) to ≡ route_of routing to)
+    ⊎ (route_of (offered routing dest rank next now) to ≡ None)
     ⊎ ((to ≡ dest) × (route_of (offered routing dest rank next now) to ≡ Some (record { next = next; offered = now })))
 
 -- Where routes end no other one begins, and every rank and floor stays.
@@ -46,7 +50,9 @@ pub record IsFirstToGo (now : ℕ) (entries : List RoutingEntry) (e : RoutingEnt
 
 -- The entry that is forgotten is the first that may be, and there is one exactly where not all are fresh.
 abbrev pub TheFirstIsForgotten : Type 0
-TheFirstIsForgotten = (now : ℕ) (entries : List RoutingEntry) → MatchOption (first_to_go now entries) (list_all (is_fresh now) entries ≡ true) (IsFirstToGo now entries)
+TheFirstIsForgotten =
+    (now : ℕ) (entries : List RoutingEntry)
+    → MatchOption (first_to_go now entries) (list_all (is_fresh now) entries ≡ true) (IsFirstToGo now entries)
 
 -- An offer that is taken is the rank of its address, and the route to it.
 pub record IsOffered (routing : Routing) (dest : ℕ) (rank : Rank) (next now : ℕ) : Type 0 where
@@ -54,7 +60,9 @@ pub record IsOffered (routing : Routing) (dest : ℕ) (rank : Rank) (next now : 
   pub route_is : route_of (offered routing dest rank next now) dest ≡ Some (record { next = next; offered = now })
 
 abbrev pub AnOfferIsFound : Type 0
-AnOfferIsFound = (routing : Routing) (dest : ℕ) (rank : Rank) (next now : ℕ) → IsRouting routing → is_full routing dest now ≡ false → IsOffered routing dest rank next now
+AnOfferIsFound =
+    (routing : Routing) (dest : ℕ) (rank : Rank) (next now : ℕ) → IsRouting routing → is_full routing dest now ≡ false
+    → IsOffered routing dest rank next now
 
 -- # A route that ends
 
@@ -65,7 +73,9 @@ hop_after is_lost by (Some hop) = if is_lost && (hop == by) then None else Some 
 
 -- Where the route to a lost address by a neighbour ends, each next hop stays but that one.
 abbrev pub OtherHopsStay : Type 0
-OtherHopsStay = (routing : Routing) (lost by to : ℕ) → next_of (without_next_to routing lost by) to ≡ hop_after (to == lost) by (next_of routing to)
+OtherHopsStay =
+    (routing : Routing) (lost by to : ℕ)
+    → next_of (without_next_to routing lost by) to ≡ hop_after (to == lost) by (next_of routing to)
 
 -- # Puts that fail
 
@@ -94,7 +104,8 @@ pub record IsRoutingIn (routing : Routing) (records : Records) : Type 0 where
 -- Whatever becomes of the puts of an offer, some ranks and floors are what the records give.
 abbrev pub OffersLead : Type 0
 OffersLead =
-    (routing : Routing) (dest : ℕ) (rank : Rank) (next now : ℕ) → IsReadableEntry (offered_entry dest rank next now) → is_full routing dest now ≡ false
+    (routing : Routing) (dest : ℕ) (rank : Rank) (next now : ℕ) → IsReadableEntry (offered_entry dest rank next now)
+    → is_full routing dest now ≡ false
     → PutsLead IsRoutingIn routing (offer_writes routing dest rank next now) (offered routing dest rank next now)
 
 -- A number is what the records give, and its limit has a record.

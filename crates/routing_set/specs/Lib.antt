@@ -2,6 +2,5 @@ pub mod Ranks
 pub mod OwnNumber
 pub mod RoutingSet
 pub mod Endings
-pub mod Holding
 pub mod Histories
 pub mod Laws

@@ -16,7 +16,9 @@ pub record Numbering : Type 0 where
 
 -- a number's value is kept as the pair of its fields
 abbrev pub numbering_code : Coded Numbering
-numbering_code = code_by (ℕ × ℕ) (coded× coded_ℕ coded_ℕ) (λ n. (n.limit, n.last)) (λ p. record { limit = p.0; last = p.1 }) (λ _. refl)
+numbering_code =
+    code_by (ℕ × ℕ) (coded× coded_ℕ coded_ℕ)
+    (λ n. (n.limit, n.last)) (λ p. record { limit = p.0; last = p.1 }) (λ _. refl)
 
 -- where the limit is stored: 2 octets at slot 3, at least 1, and 1 where none is there
 abbrev pub limit_at : NumberSlot

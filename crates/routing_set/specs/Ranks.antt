@@ -5,7 +5,9 @@ use Rattle.routing_set.specs.declared.rank.Rank.{Rank}
 
 -- a rank is kept as the pair of its fields
 abbrev pub rank_code : Coded Rank
-rank_code = code_by (ℕ × ℕ) (coded× coded_ℕ coded_ℕ) (λ r. (r.number, r.cost)) (λ p. record { number = p.0; cost = p.1 }) (λ _. refl)
+rank_code =
+    code_by (ℕ × ℕ) (coded× coded_ℕ coded_ℕ)
+    (λ r. (r.number, r.cost)) (λ p. record { number = p.0; cost = p.1 }) (λ _. refl)
 
 -- The number is greater, or the numbers are equal and the cost is lower.
 abbrev pub Beats : Rank → Rank → Type 0

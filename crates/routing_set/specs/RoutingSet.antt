@@ -29,14 +29,19 @@ pub record Routing : Type 0 where
 
 -- it is kept as the lists of its fields
 abbrev pub routing_code : Coded Routing
-routing_code = code_by (List RoutingEntry × List ℕ) (coded× (coded_list entry_code) (coded_list coded_ℕ)) (λ r. (r.entries, r.floors)) (λ p. record { entries = p.0; floors = p.1 }) (λ _. refl)
+routing_code =
+    code_by (List RoutingEntry × List ℕ) (coded× (coded_list entry_code) (coded_list coded_ℕ))
+    (λ r. (r.entries, r.floors)) (λ p. record { entries = p.0; floors = p.1 }) (λ _. refl)
   where
     route_code : Coded Route
-    route_code = code_by (ℕ × ℕ) (coded× coded_ℕ coded_ℕ) (λ t. (t.next, t.offered)) (λ p. record { next = p.0; offered = p.1 }) (λ _. refl)
+    route_code =
+        code_by (ℕ × ℕ) (coded× coded_ℕ coded_ℕ)
+        (λ t. (t.next, t.offered)) (λ p. record { next = p.0; offered = p.1 }) (λ _. refl)
 
     entry_code : Coded RoutingEntry
     entry_code =
-        code_by (ℕ × (Rank × Option Route)) (coded× coded_ℕ (coded× rank_code (coded_option route_code))) (λ e. (e.address, (e.rank, e.route)))
+        code_by (ℕ × (Rank × Option Route)) (coded× coded_ℕ (coded× rank_code (coded_option route_code)))
+        (λ e. (e.address, (e.rank, e.route)))
         (λ p. record { address = p.0; rank = p.1.0; route = p.1.1 }) (λ _. refl)
 
 -- # The records
@@ -44,13 +49,17 @@ routing_code = code_by (List RoutingEntry × List ℕ) (coded× (coded_list entr
 abbrev pub ranked : ℕ → ℕ → ℕ → Option RoutingEntry
 ranked address number cost =
     if nat_lt address 0xFFFE
-    then (if number == 0 then None else Some (record { address = address; rank = record { number = number; cost = cost }; route = None }))
+    then (if number == 0
+    then None
+    else Some (record { address = address; rank = record { number = number; cost = cost }; route = None }))
     else None
 
 -- the entry that a record gives: an address, a number, which is not 0, and a cost, each in 2 octets
 abbrev pub entry_in : List ℕ → Option RoutingEntry
 entry_in octets =
-    if length octets == 6 then ranked (big_number 2 octets) (big_number 2 (drop 2 octets)) (big_number 2 (drop 4 octets)) else None
+    if length octets == 6
+    then ranked (big_number 2 octets) (big_number 2 (drop 2 octets)) (big_number 2 (drop 4 octets))
+    else None
 
 -- the record of an entry
 abbrev pub octets_of : RoutingEntry → List ℕ
@@ -99,7 +108,8 @@ AreFloorsOf floors records = floors_in (get records floor_slot) ≡ Some floors
 
 -- the floors are those of the records from before, or new ones
 abbrev pub AreOldOrNewFloors : List ℕ → Records → Records → Type 0
-AreOldOrNewFloors floors old new = (floors_in (get new floor_slot) ≡ floors_in (get old floor_slot)) ⊎ AreFloorsOf floors new
+AreOldOrNewFloors floors old new =
+    (floors_in (get new floor_slot) ≡ floors_in (get old floor_slot)) ⊎ AreFloorsOf floors new
 
 -- What is held as stored is what the records give, and no record of a rank stands behind them.
 pub record IsKept (routing : Routing) (records : Records) : Type 0 where
@@ -117,7 +127,8 @@ opened records = routing_of (floors_in (get records floor_slot)) (slots.opened r
 
 -- why the records have no reading
 abbrev pub IsBad : Records → ℕ → Type 0
-IsBad records slot = ((slot ≡ floor_slot) × (floors_in (get records floor_slot) ≡ None)) ⊎ slots.IsBad ranks records slot
+IsBad records slot =
+    ((slot ≡ floor_slot) × (floors_in (get records floor_slot) ≡ None)) ⊎ slots.IsBad ranks records slot
 
 -- no slot but that of the floors and those of the ranks has changed
 abbrev pub SameElsewhere : Records → Records → Type 0
@@ -184,7 +195,8 @@ goes_before a b = before_by a b a.route b.route
 
 -- the one so far or another one, whichever can be forgotten and goes before
 abbrev pub first_of : ℕ → Option RoutingEntry → RoutingEntry → Option RoutingEntry
-first_of now best e = if is_fresh now e then best else (if option_map_or (goes_before e) best true then Some e else best)
+first_of now best e =
+    if is_fresh now e then best else (if option_map_or (goes_before e) best true then Some e else best)
 
 -- the entry that is forgotten first: the first one that is not fresh
 unfoldable pub first_to_go : ℕ → List RoutingEntry → Option RoutingEntry
@@ -193,7 +205,9 @@ first_to_go now entries = fold (first_of now) None entries
 -- whether there is no place for the rank of an address: none is kept for it, 64 are kept, and each is fresh
 unfoldable pub is_full : Routing → ℕ → ℕ → Bool
 is_full routing dest now =
-    if is_some (place_of routing.entries dest) then false else length routing.entries == 64 && list_all (is_fresh now) routing.entries
+    if is_some (place_of routing.entries dest)
+    then false
+    else length routing.entries == 64 && list_all (is_fresh now) routing.entries
 
 -- the entry that an offer for an address forgets: none where a rank is kept for it or a place is empty
 unfoldable pub forgotten : Routing → ℕ → ℕ → Option RoutingEntry
@@ -213,21 +227,24 @@ raised floors e = if raises floors e then set floors (class_of e.address) e.rank
 
 -- the entry of an offer
 abbrev pub offered_entry : ℕ → Rank → ℕ → ℕ → RoutingEntry
-offered_entry dest rank next now = record { address = dest; rank = rank; route = Some (record { next = next; offered = now }) }
+offered_entry dest rank next now =
+    record { address = dest; rank = rank; route = Some (record { next = next; offered = now }) }
 
 -- the place that an offer's entry takes: that of its address, of the address that is forgotten, or the first empty one
 abbrev pub place_after : List RoutingEntry → ℕ → Option RoutingEntry → Option ℕ
 place_after entries dest gone = place_of entries (option_map_or (λ e. e.address) gone dest)
 
 abbrev pub entries_after : List RoutingEntry → Option RoutingEntry → RoutingEntry → List RoutingEntry
-entries_after entries gone e = option_map_or (λ place. set entries place e) (place_after entries e.address gone) (entries ++ e ∷ [])
+entries_after entries gone e =
+    option_map_or (λ place. set entries place e) (place_after entries e.address gone) (entries ++ e ∷ [])
 
 abbrev pub floors_after : List ℕ → Option RoutingEntry → List ℕ
 floors_after floors gone = option_map_or (raised floors) gone floors
 
 -- the put of the floors, where forgetting raises one
 abbrev pub floors_due : List ℕ → Option RoutingEntry → Option Write
-floors_due floors gone = option_map_or (λ e. if raises floors e then Some (floors_write (raised floors e)) else None) gone None
+floors_due floors gone =
+    option_map_or (λ e. if raises floors e then Some (floors_write (raised floors e)) else None) gone None
 
 -- the put of the offer's entry
 abbrev pub rank_write : List RoutingEntry → Option RoutingEntry → RoutingEntry → Write
@@ -242,7 +259,8 @@ abbrev pub half_of : Routing → Option RoutingEntry → Routing
 half_of routing gone = record routing { floors = floors_after routing.floors gone }
 
 abbrev pub after_of : Routing → Option RoutingEntry → RoutingEntry → Routing
-after_of routing gone e = record { entries = entries_after routing.entries gone e; floors = floors_after routing.floors gone }
+after_of routing gone e =
+    record { entries = entries_after routing.entries gone e; floors = floors_after routing.floors gone }
 
 -- the same for an entry that comes at a time
 unfoldable pub entry_writes : Routing → RoutingEntry → ℕ → List Write
@@ -267,7 +285,9 @@ offered routing dest rank next now = entered routing (offered_entry dest rank ne
 -- the records are those of what is kept before an offer, between its puts, or after it
 abbrev pub IsSomeOffered : Routing → ℕ → Rank → ℕ → ℕ → Records → Type 0
 IsSomeOffered routing dest rank next now records =
-    IsKept routing records ⊎ IsKept (half_offered routing dest now) records ⊎ IsKept (offered routing dest rank next now) records
+    IsKept routing records
+    ⊎ IsKept (half_offered routing dest now) records
+    ⊎ IsKept (offered routing dest rank next now) records
 
 -- What becomes of the records where an entry comes, whatever becomes of its puts; done says that none failed.
 pub record Keeps (old half after : Routing) (done : Bool) (before records : Records) : Type 0 where
@@ -319,7 +339,8 @@ offer_result routing dest rank now done =
     where_taken routing dest rank now (if done then Ok Better else Err Store) (Err RoutesFull) (Ok NotBetter)
 
 abbrev pub offer_puts : Routing → ℕ → Rank → ℕ → ℕ → List Write
-offer_puts routing dest rank next now = where_taken routing dest rank now (offer_writes routing dest rank next now) [] []
+offer_puts routing dest rank next now =
+    where_taken routing dest rank now (offer_writes routing dest rank next now) [] []
 
 abbrev pub offer_after : Routing → ℕ → Rank → ℕ → ℕ → Bool → Routing
 offer_after routing dest rank next now done =
@@ -333,19 +354,29 @@ is_stored (Err Store) = false
 
 -- what a record gives has no valid route
 pub entry_in-rests : (octets : List ℕ) (e : RoutingEntry) → entry_in octets ≡ Some e → without_route e ≡ e
-entry_in-rests octets e h = by_length (length octets == 6) (big_number 2 octets) (big_number 2 (drop 2 octets)) (big_number 2 (drop 4 octets)) h
+entry_in-rests octets e h =
+    by_length (length octets == 6) (big_number 2 octets) (big_number 2 (drop 2 octets)) (big_number 2 (drop 4 octets)) h
   where
     by_number : (b : Bool) (address number cost : ℕ)
-        → (if b then None else Some (record { address = address; rank = record { number = number; cost = cost }; route = None })) ≡ Some e → without_route e ≡ e
+        → (if b
+        then None
+        else Some (record { address = address; rank = record { number = number; cost = cost }; route = None }))
+        ≡ Some e
+        → without_route e ≡ e
     by_number true address number cost h = cc
     by_number false address number cost h = cc
 
     by_address : (b : Bool) (address number cost : ℕ)
-        → (if b then (if number == 0 then None else Some (record { address = address; rank = record { number = number; cost = cost }; route = None })) else None) ≡ Some e
+        → (if b
+        then (if number == 0
+        then None
+        else Some (record { address = address; rank = record { number = number; cost = cost }; route = None }))
+        else None) ≡ Some e
         → without_route e ≡ e
     by_address true address number cost h = by_number (number == 0) address number cost h
     by_address false address number cost h = cc
 
-    by_length : (b : Bool) (address number cost : ℕ) → (if b then ranked address number cost else None) ≡ Some e → without_route e ≡ e
+    by_length : (b : Bool) (address number cost : ℕ) → (if b then ranked address number cost else None) ≡ Some e
+        → without_route e ≡ e
     by_length true address number cost h = by_address (nat_lt address 0xFFFE) address number cost h
     by_length false address number cost h = cc

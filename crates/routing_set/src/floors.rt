@@ -73,8 +73,10 @@ pub(crate) fn raise_floor<K: Keeper>(
 ) -> Result<[u16; 16], Failed>
     requires { floors_in (get (K.store keeper.old).records floor_slot) ≡ Some floors.now }
     ensures floors { IfOk result (λ after. after ≡ raised floors.now gone.now) }
-    ensures store { Stores (K.store keeper.old) (floors_due floors.now (Some gone.now)) (is_ok result) (K.store keeper.new) }
-    ensures stored { OnOk result (floors_in (get (K.store keeper.new).records floor_slot) ≡ Some (raised floors.now gone.now)) }
+    ensures store { Stores (K.store keeper.old) (floors_due floors.now (Some gone.now)) (is_ok result)
+        (K.store keeper.new) }
+    ensures stored { OnOk result (floors_in (get (K.store keeper.new).records floor_slot)
+        ≡ Some (raised floors.now gone.now)) }
     ensures either { IsOldOrNew AreFloorsOf floors.now (raised floors.now gone.now) (K.store keeper.new).records }
     ensures elsewhere { OutsideStays 5 5 (K.store keeper.old) (K.store keeper.new) }
 {

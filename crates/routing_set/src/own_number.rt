@@ -131,7 +131,8 @@ impl OwnNumber {
         ensures same { OnErr result (self.new ≡ self.old) }
         ensures store { Stores (K.store keeper.old) (limit_write value) (is_ok result) (K.store keeper.new) }
         ensures kept { OnOk result (IsKept self.new (K.store keeper.new).records) }
-        ensures either { IsOldLimitOrKept (numbering_at value) (K.store keeper.old).records (K.store keeper.new).records }
+        ensures either { IsOldLimitOrKept (numbering_at value) (K.store keeper.old).records
+            (K.store keeper.new).records }
         ensures elsewhere { OutsideStays 3 3 (K.store keeper.old) (K.store keeper.new) }
     {
         store_limit(keeper, value)?;
@@ -150,7 +151,8 @@ impl OwnNumber {
         ensures same { OnErr result (self.new ≡ self.old) }
         ensures store { Stores (K.store keeper.old) (limit_write value) (is_ok result) (K.store keeper.new) }
         ensures kept { OnOk result (IsKept self.new (K.store keeper.new).records) }
-        ensures either { IsOldLimitOrKept (numbering_at value) (K.store keeper.old).records (K.store keeper.new).records }
+        ensures either { IsOldLimitOrKept (numbering_at value) (K.store keeper.old).records
+            (K.store keeper.new).records }
         ensures elsewhere { OutsideStays 3 3 (K.store keeper.old) (K.store keeper.new) }
     {
         self.set_limit(keeper, value)

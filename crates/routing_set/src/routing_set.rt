@@ -55,7 +55,8 @@ impl RoutingSet {
         ensures kept { IsGapless ranks (K.store keeper.now).records
             → IfOk result (λ routing. IsKept routing (K.store keeper.now).records) }
         // What was kept is opened again, with no valid route.
-        ensures reopened { (routing : Routing) → IsTable ranks routing.entries → IsKept routing (K.store keeper.now).records
+        ensures reopened { (routing : Routing) → IsTable ranks routing.entries
+            → IsKept routing (K.store keeper.now).records
             → result ≡ Ok (at_rest routing) }
     {
         let Some(floors) = stored_floors(keeper) else {
@@ -65,10 +66,11 @@ impl RoutingSet {
         Ok(RoutingSet { table, floors })
     }
 
-    /// The addresses with a kept rank, in ascending order.
+    /// The addresses with a kept rank, in ascending order: no two of them are one.
     pub fn kept(&self) -> ArrayVec<Short, 64>
         ensures sorted { IsSorted nat_cmp result.items }
         ensures same { IsPermutation (map (λ entry. entry.address) self.now.entries) result.items }
+        ensures table { IsTable ranks self.now.entries }
     {
         let mut kept = ArrayVec::new();
         for entry in self.table.as_slice() {
@@ -191,8 +193,11 @@ impl RoutingSet {
         requires kept { IsKept self.old (K.store keeper.old).records }
         ensures routing { OnOk result (self.new ≡ after_of self.old (first_to_go now self.old.entries) entry) }
         ensures same { OnErr result (self.new ≡ self.old) }
-        ensures store { Wrote (K.store keeper.old) (writes_of self.old (first_to_go now self.old.entries) entry) (is_ok result) (K.store keeper.new) }
-        ensures keeps { Keeps self.old (half_of self.old (first_to_go now self.old.entries)) (after_of self.old (first_to_go now self.old.entries) entry) (is_ok result) (K.store keeper.old).records (K.store keeper.new).records }
+        ensures store { Wrote (K.store keeper.old) (writes_of self.old (first_to_go now self.old.entries) entry)
+            (is_ok result) (K.store keeper.new) }
+        ensures keeps { Keeps self.old (half_of self.old (first_to_go now self.old.entries))
+            (after_of self.old (first_to_go now self.old.entries) entry) (is_ok result)
+            (K.store keeper.old).records (K.store keeper.new).records }
     {
         let gone = self.first_to_go(now).unwrap();
         let place = self.table.place_of(gone.address.key()).unwrap();
@@ -214,8 +219,10 @@ impl RoutingSet {
         requires kept { IsKept self.old (K.store keeper.old).records }
         ensures routing { OnOk result (self.new ≡ entered self.old entry now) }
         ensures same { OnErr result (self.new ≡ self.old) }
-        ensures store { Wrote (K.store keeper.old) (entry_writes self.old entry now) (is_ok result) (K.store keeper.new) }
-        ensures keeps { Keeps self.old (half_entered self.old entry.address now) (entered self.old entry now) (is_ok result) (K.store keeper.old).records (K.store keeper.new).records }
+        ensures store { Wrote (K.store keeper.old) (entry_writes self.old entry now) (is_ok result)
+            (K.store keeper.new) }
+        ensures keeps { Keeps self.old (half_entered self.old entry.address now) (entered self.old entry now)
+            (is_ok result) (K.store keeper.old).records (K.store keeper.new).records }
     {
         match self.table.place_of(entry.address.key()) {
             Some(place) => self.table.set_stored(keeper, place, entry),
@@ -244,7 +251,8 @@ impl RoutingSet {
         requires kept { IsKept self.old (K.store keeper.old).records }
         ensures routing { OnOk result (self.new ≡ offered self.old dest rank next now) }
         ensures same { OnErr result (self.new ≡ self.old) }
-        ensures store { Wrote (K.store keeper.old) (offer_writes self.old dest rank next now) (is_ok result) (K.store keeper.new) }
+        ensures store { Wrote (K.store keeper.old) (offer_writes self.old dest rank next now) (is_ok result)
+            (K.store keeper.new) }
         ensures kept { OnOk result (IsKept self.new (K.store keeper.new).records) }
         // Whatever became of the puts, the records are those of what was kept before, between the puts, or after.
         ensures either { IsSomeOffered self.old dest rank next now (K.store keeper.new).records }
@@ -277,7 +285,8 @@ impl RoutingSet {
         requires kept { IsKept self.old (K.store keeper.old).records }
         ensures answer { result ≡ offer_result self.old dest (rank_by number cost) now (is_stored result) }
         ensures routing { self.new ≡ offer_after self.old dest (rank_by number cost) next now (is_stored result) }
-        ensures store { Wrote (K.store keeper.old) (offer_puts self.old dest (rank_by number cost) next now) (is_stored result) (K.store keeper.new) }
+        ensures store { Wrote (K.store keeper.old) (offer_puts self.old dest (rank_by number cost) next now)
+            (is_stored result) (K.store keeper.new) }
         ensures kept { OnTrue (is_stored result) (IsKept self.new (K.store keeper.new).records) }
         ensures either { IsSomeOffered self.old dest (rank_by number cost) next now (K.store keeper.new).records }
         ensures elsewhere { SameElsewhere (K.store keeper.old).records (K.store keeper.new).records }

@@ -1,9 +1,9 @@
 //! Tables: which records have a reading, what a full table forgets, routes that end, and each put of an offer cut.
-
-mod holder;
+ghost use Rattle.std.specs.Prelude.{◌≡◌, ◌≤◌, IfOk, OnOk};
+ghost use Rattle.std.specs.FinMap as map;
+ghost use Rattle.routing_set.specs.RoutingSet.{IsKept};
 
 use crate::{NumberFault, OfferFault, Offered, OwnNumber, Rank, RoutingSet};
-use holder::{Holder, Refusal};
 use plc_base::{Keeper, MemKeeper, Record, Short};
 use std::alloc::Global;
 use std::process::Abort;
@@ -93,42 +93,62 @@ fn floors_have_thirty_two_octets(rt: HostRuntime) -> Result<(), Fail> {
 }
 
 #[test]
-fn numbers_begin_at_two_and_end(rt: HostRuntime) -> Result<(), Fail> {
-    let mut node = Holder::fresh(rt.alloc())?;
-    assert_eq!(rt; node.next(), Ok(2));
-    assert_eq!(rt; node.next(), Ok(3));
-    node.restart();
-    assert_eq!(rt; node.next(), Ok(34));
-    assert_eq!(rt; node.preset(65_534), Ok(()));
-    assert_eq!(rt; node.next(), Ok(65_535));
-    assert_eq!(rt; node.next(), Err(Refusal::Number(NumberFault::SeqSpent)));
-    node.restart();
-    assert_eq!(rt; node.next(), Err(Refusal::Number(NumberFault::SeqSpent)));
-    assert_eq!(rt; node.preset(9), Ok(()));
-    node.restart();
-    assert_eq!(rt; node.next(), Ok(10));
+fn numbers_begin_at_two_and_go_on_at_the_limit(rt: HostRuntime) -> Result<(), Fail> {
+    let mut keeper = MemKeeper::new(rt.alloc())?;
+    let mut first = OwnNumber::open(&keeper)?;
+    assert_eq!(rt; first.next(&mut keeper)?, 2);
+    assert_eq!(rt; first.next(&mut keeper), Ok(3));
+    let mut second = OwnNumber::open(&keeper)?;
+    assert_eq!(rt; second.next(&mut keeper), Ok(34));
     Ok(())
 }
 
-// A node that was offered number 5 and cost k for each address k from 1 to 64, at time 0.
-fn crowded(alloc: Global) -> Result<Holder<MemKeeper>, Fail> {
-    let mut node = Holder::fresh(alloc)?;
-    for number in 1..65u16 {
-        let dest = Short::new(number).ok_or("no address")?;
-        if node.offer(dest, 5, number, 0) != Ok(Offered::Better) {
-            return Err(Fail::from("not better"));
-        }
-    }
-    Ok(node)
+#[test]
+fn numbers_end_until_one_is_set(rt: HostRuntime) -> Result<(), Fail> {
+    let mut keeper = MemKeeper::new(rt.alloc())?;
+    let mut first = OwnNumber::open(&keeper)?;
+    first.preset(&mut keeper, 65_534)?;
+    assert_eq!(rt; first.next(&mut keeper)?, 65_535);
+    assert_eq!(rt; first.next(&mut keeper), Err(NumberFault::SeqSpent));
+    let mut second = OwnNumber::open(&keeper)?;
+    assert_eq!(rt; second.next(&mut keeper), Err(NumberFault::SeqSpent));
+    assert_eq!(rt; second.preset(&mut keeper, 9), Ok(()));
+    let mut third = OwnNumber::open(&keeper)?;
+    assert_eq!(rt; third.next(&mut keeper), Ok(10));
+    Ok(())
 }
 
-// An offer to a crowded node, its answer, an address that is forgotten then, and the floor of its class.
+// What a new node knows.
+fn first_routes(keeper: &MemKeeper) -> Result<RoutingSet, Fail>
+    requires empty { keeper.now.records ≡ map.empty }
+    ensures kept { IfOk result (λ routes. IsKept routes keeper.now.records) }
+{
+    Ok(RoutingSet::open(keeper)?)
+}
+
+// What a node knows that was offered number 5 and cost k for each address k from 1 to 64, at time 0.
+fn crowded(keeper: &mut MemKeeper) -> Result<RoutingSet, Fail>
+    requires empty { keeper.old.records ≡ map.empty }
+    ensures kept { IfOk result (λ routes. IsKept routes keeper.new.records) }
+{
+    let mut routes = first_routes(keeper)?;
+    for number in 1..65u16 {
+        let dest = Short::new(number).ok_or("no address")?;
+        let Offered::Better = routes.offer(keeper, dest, 5, number, dest, 0)? else {
+            return Err(Fail::from("not better"));
+        };
+    }
+    Ok(routes)
+}
+
+// An offer to a crowded node, its answer, none where there is no place, an address that is forgotten then, and the floor of
+// its class.
 struct Row {
     address: u16,
     number: u16,
     cost: u16,
     now: u64,
-    answer: Result<Offered, Refusal>,
+    answer: Option<Offered>,
     gone: Option<u16>,
     floor: u16,
 }
@@ -140,7 +160,7 @@ const OFFERS: [Row; 6] = [
         number: 9,
         cost: 1,
         now: 59,
-        answer: Err(Refusal::Offer(OfferFault::RoutesFull)),
+        answer: None,
         gone: None,
         floor: 0,
     },
@@ -149,7 +169,7 @@ const OFFERS: [Row; 6] = [
         number: 9,
         cost: 1,
         now: 60,
-        answer: Ok(Offered::Better),
+        answer: Some(Offered::Better),
         gone: Some(1),
         floor: 5,
     },
@@ -158,7 +178,7 @@ const OFFERS: [Row; 6] = [
         number: 5,
         cost: 1,
         now: 60,
-        answer: Ok(Offered::NotBetter),
+        answer: Some(Offered::NotBetter),
         gone: Some(1),
         floor: 5,
     },
@@ -167,7 +187,7 @@ const OFFERS: [Row; 6] = [
         number: 6,
         cost: 1,
         now: 60,
-        answer: Ok(Offered::Better),
+        answer: Some(Offered::Better),
         gone: Some(2),
         floor: 5,
     },
@@ -176,7 +196,7 @@ const OFFERS: [Row; 6] = [
         number: 5,
         cost: 64,
         now: 60,
-        answer: Ok(Offered::NotBetter),
+        answer: Some(Offered::NotBetter),
         gone: None,
         floor: 0,
     },
@@ -185,40 +205,64 @@ const OFFERS: [Row; 6] = [
         number: 5,
         cost: 63,
         now: 60,
-        answer: Ok(Offered::Better),
+        answer: Some(Offered::Better),
         gone: None,
         floor: 0,
     },
 ];
 
-fn offer_row(rt: &impl Abort, node: &mut Holder<MemKeeper>, row: &Row) -> Result<(), Fail> {
+// What an offer by the next hop of the same number answers, none where there is no place.
+fn answer_to(
+    routes: &mut RoutingSet,
+    keeper: &mut MemKeeper,
+    dest: Short,
+    row: &Row,
+) -> Result<Option<Offered>, Fail>
+    requires valid { 1 ≤ row.now.number }
+    requires kept { IsKept routes.old keeper.old.records }
+    ensures kept { OnOk result (IsKept routes.new keeper.new.records) }
+{
+    match routes.offer(keeper, dest, row.number, row.cost, dest, row.now) {
+        Ok(answer) => Ok(Some(answer)),
+        Err(OfferFault::RoutesFull) => Ok(None),
+        Err(OfferFault::Store) => Err(Fail::from("a put failed")),
+    }
+}
+
+fn offer_row(
+    rt: &impl Abort,
+    routes: &mut RoutingSet,
+    keeper: &mut MemKeeper,
+    row: &Row,
+) -> Result<(), Fail>
+    requires kept { IsKept routes.old keeper.old.records }
+    ensures kept { OnOk result (IsKept routes.new keeper.new.records) }
+{
     let dest = Short::new(row.address).ok_or("no address")?;
-    let full = node.full(dest, row.now);
-    assert_eq!(rt;
-        full,
-        row.answer == Err(Refusal::Offer(OfferFault::RoutesFull))
-    );
+    let full = routes.full(dest, row.now);
+    assert_eq!(rt; full, row.answer.is_none());
     assert!(rt; row.number > 0);
-    assert_eq!(rt; node.offer(dest, row.number, row.cost, row.now), row.answer);
-    assert_eq!(rt; node.kept_count(), 64);
+    assert_eq!(rt; answer_to(routes, keeper, dest, row)?, row.answer);
+    assert_eq!(rt; routes.kept().len(), 64);
     if let Some(address) = row.gone {
         let lost = Short::new(address).ok_or("no address")?;
         let floor = Rank {
             number: row.floor,
             cost: 0,
         };
-        assert_eq!(rt; node.rank(lost), None);
-        assert_eq!(rt; node.route(lost), None);
-        assert_eq!(rt; node.held(lost), floor);
+        assert_eq!(rt; routes.rank(lost), None);
+        assert_eq!(rt; routes.route(lost), None);
+        assert_eq!(rt; routes.held(lost), floor);
     }
     Ok(())
 }
 
 #[test]
 fn a_full_table_forgets_under_a_floor(rt: HostRuntime) -> Result<(), Fail> {
-    let mut node = crowded(rt.alloc())?;
+    let mut keeper = MemKeeper::new(rt.alloc())?;
+    let mut routes = crowded(&mut keeper)?;
     for row in &OFFERS {
-        offer_row(&rt, &mut node, row)?;
+        offer_row(&rt, &mut routes, &mut keeper, row)?;
     }
     Ok(())
 }
@@ -226,53 +270,103 @@ fn a_full_table_forgets_under_a_floor(rt: HostRuntime) -> Result<(), Fail> {
 // Which of the addresses of a crowded node goes next, where the routes by these next hops have ended.
 const ORDERS: [(&[u16], u16); 3] = [(&[], 1), (&[40, 23], 23), (&[64, 50, 63], 50)];
 
-fn order_row(rt: &impl Abort, alloc: Global, ended: &[u16], want: u16) -> Result<(), Fail> {
-    let mut node = crowded(alloc)?;
+fn order_row(rt: &impl Abort, keeper: &mut MemKeeper, ended: &[u16], want: u16) -> Result<(), Fail>
+    requires empty { keeper.old.records ≡ map.empty }
+{
+    let mut routes = crowded(keeper)?;
     for next in ended {
-        node.invalidate_next(Short::new(*next).ok_or("no address")?);
+        routes.invalidate_next(Short::new(*next).ok_or("no address")?);
     }
     let other = Short::new(65).ok_or("no address")?;
-    assert_eq!(rt; node.offer(other, 9, 1, 60), Ok(Offered::Better));
+    assert_eq!(rt;
+        routes.offer(keeper, other, 9, 1, other, 60),
+        Ok(Offered::Better)
+    );
     let gone = Short::new(want).ok_or("no address")?;
-    assert_eq!(rt; node.rank(gone), None);
+    assert_eq!(rt; routes.rank(gone), None);
     Ok(())
 }
 
 #[test]
 fn a_rank_with_no_route_goes_first(rt: HostRuntime) -> Result<(), Fail> {
     for (ended, want) in ORDERS {
-        order_row(&rt, rt.alloc(), ended, want)?;
+        let mut keeper = MemKeeper::new(rt.alloc())?;
+        order_row(&rt, &mut keeper, ended, want)?;
     }
     Ok(())
 }
 
+// A route to an address of the rank (7, 3), offered at 10.
+fn one_route(keeper: &mut MemKeeper, one: Short) -> Result<RoutingSet, Fail>
+    requires empty { keeper.old.records ≡ map.empty }
+    ensures kept { IfOk result (λ routes. IsKept routes keeper.new.records) }
+{
+    let mut routes = first_routes(keeper)?;
+    let Offered::Better = routes.offer(keeper, one, 7, 3, one, 10)? else {
+        return Err(Fail::from("not better"));
+    };
+    Ok(routes)
+}
+
+#[test]
+fn a_route_ends_after_its_time(rt: HostRuntime) -> Result<(), Fail> {
+    let mut keeper = MemKeeper::new(rt.alloc())?;
+    let one = Short::new(1).ok_or("no address")?;
+    let mut routes = one_route(&mut keeper, one)?;
+    assert_eq!(rt; routes.route(one), Some(one));
+    routes.expire(21_609);
+    assert_eq!(rt; routes.route(one), Some(one));
+    routes.expire(21_610);
+    assert_eq!(rt; routes.route(one), None);
+    assert_eq!(rt; routes.rank(one), Some(Rank { number: 7, cost: 3 }));
+    assert_eq!(rt;
+        routes.offer(&mut keeper, one, 7, 3, one, 10)?,
+        Offered::NotBetter
+    );
+    assert_eq!(rt;
+        routes.offer(&mut keeper, one, 7, 2, one, 10),
+        Ok(Offered::Better)
+    );
+    assert_eq!(rt; routes.route(one), Some(one));
+    Ok(())
+}
+
+// Routes to two addresses of the ranks (7, 2) and (1, 1), offered at 10.
+fn two_routes(keeper: &mut MemKeeper, one: Short, two: Short) -> Result<RoutingSet, Fail>
+    requires empty { keeper.old.records ≡ map.empty }
+    ensures kept { IfOk result (λ routes. IsKept routes keeper.new.records) }
+{
+    let mut routes = one_route(keeper, one)?;
+    let Offered::Better = routes.offer(keeper, one, 7, 2, one, 10)? else {
+        return Err(Fail::from("not better"));
+    };
+    let Offered::Better = routes.offer(keeper, two, 1, 1, two, 10)? else {
+        return Err(Fail::from("not better"));
+    };
+    Ok(routes)
+}
+
 #[test]
 fn routes_end_and_ranks_stay(rt: HostRuntime) -> Result<(), Fail> {
-    let mut node = Holder::fresh(rt.alloc())?;
+    let mut keeper = MemKeeper::new(rt.alloc())?;
     let one = Short::new(1).ok_or("no address")?;
     let two = Short::new(2).ok_or("no address")?;
-    let rank = Some(Rank { number: 7, cost: 3 });
-    assert_eq!(rt; node.offer(one, 7, 3, 10), Ok(Offered::Better));
-    assert_eq!(rt; node.route(one), Some(one));
-    node.expire(21_609);
-    assert_eq!(rt; node.route(one), Some(one));
-    node.expire(21_610);
-    assert_eq!(rt; node.route(one), None);
-    assert_eq!(rt; node.rank(one), rank);
-    assert_eq!(rt; node.offer(one, 7, 3, 10), Ok(Offered::NotBetter));
-    assert_eq!(rt; node.offer(one, 7, 2, 10), Ok(Offered::Better));
-    node.invalidate(one, two);
-    assert_eq!(rt; node.route(one), Some(one));
-    node.invalidate(one, one);
-    assert_eq!(rt; node.route(one), None);
-    assert_eq!(rt; node.offer(two, 1, 1, 10), Ok(Offered::Better));
-    node.invalidate_all();
-    assert_eq!(rt; node.route(two), None);
-    assert_eq!(rt; node.kept_count(), 2);
-    assert_eq!(rt; node.offer(two, 2, 1, 10), Ok(Offered::Better));
-    node.restart();
-    assert_eq!(rt; node.route(two), None);
-    assert_eq!(rt; node.rank(one), Some(Rank { number: 7, cost: 2 }));
+    let mut routes = two_routes(&mut keeper, one, two)?;
+    routes.invalidate(one, two);
+    assert_eq!(rt; routes.route(one), Some(one));
+    routes.invalidate(one, one);
+    assert_eq!(rt; routes.route(one), None);
+    assert_eq!(rt; routes.route(two), Some(two));
+    routes.invalidate_all();
+    assert_eq!(rt; routes.route(two), None);
+    assert_eq!(rt; routes.kept().len(), 2);
+    assert_eq!(rt;
+        routes.offer(&mut keeper, two, 2, 1, two, 10),
+        Ok(Offered::Better)
+    );
+    let again = RoutingSet::open(&keeper)?;
+    assert_eq!(rt; again.route(two), None);
+    assert_eq!(rt; again.rank(one), Some(Rank { number: 7, cost: 2 }));
     Ok(())
 }
 
@@ -320,17 +414,17 @@ const CUTS: [CutRow; 4] = [
 fn cut_row(rt: &impl Abort, alloc: Global, row: &CutRow) -> Result<(), Fail> {
     let one = Short::new(1).ok_or("no address")?;
     let other = Short::new(65).ok_or("no address")?;
-    let mut node = crowded(alloc)?;
+    let mut keeper = MemKeeper::new(alloc)?;
+    let mut before = crowded(&mut keeper)?;
     assert!(rt; row.nth > 0);
-    node.cut(row.nth, row.keeps_new);
-    let fault = Err(Refusal::Offer(OfferFault::Store));
-    assert_eq!(rt; node.offer(other, 9, 1, 60), fault);
-    assert_eq!(rt; node.offer(other, 9, 1, 60), Err(Refusal::Halted));
-    node.restart();
-    assert_eq!(rt; node.floor(1), row.floor);
-    assert_eq!(rt; node.rank(one).is_some(), row.old);
-    assert_eq!(rt; node.rank(other).is_some(), row.new);
-    assert_eq!(rt; node.kept_count(), 64);
+    keeper.cut(row.nth, row.keeps_new);
+    let answer = before.offer(&mut keeper, other, 9, 1, other, 60);
+    assert_eq!(rt; answer, Err(OfferFault::Store));
+    let routes = RoutingSet::open(&keeper)?;
+    assert_eq!(rt; routes.floor(1), row.floor);
+    assert_eq!(rt; routes.rank(one).is_some(), row.old);
+    assert_eq!(rt; routes.rank(other).is_some(), row.new);
+    assert_eq!(rt; routes.kept().len(), 64);
     Ok(())
 }
 
@@ -342,18 +436,26 @@ fn each_put_of_an_offer_is_cut(rt: HostRuntime) -> Result<(), Fail> {
     Ok(())
 }
 
+// Ends the routes by a next hop, and offers a new address, for which an address without a route is forgotten.
+fn forget(routes: &mut RoutingSet, keeper: &mut MemKeeper, next: u16, dest: u16) -> Result<(), Fail>
+    requires kept { IsKept routes.old keeper.old.records }
+    ensures kept { OnOk result (IsKept routes.new keeper.new.records) }
+{
+    let dest = Short::new(dest).ok_or("no address")?;
+    routes.invalidate_next(Short::new(next).ok_or("no address")?);
+    let Offered::Better = routes.offer(keeper, dest, 9, 1, dest, 0)? else {
+        return Err(Fail::from("not better"));
+    };
+    Ok(())
+}
+
 #[test]
 fn a_floor_that_is_high_enough_is_not_put(rt: HostRuntime) -> Result<(), Fail> {
-    let mut node = crowded(rt.alloc())?;
-    let others = [
-        Short::new(65).ok_or("no address")?,
-        Short::new(66).ok_or("no address")?,
-    ];
-    node.invalidate_next(Short::new(17).ok_or("no address")?);
-    assert_eq!(rt; node.offer(others[0], 9, 1, 0), Ok(Offered::Better));
-    node.invalidate_next(Short::new(33).ok_or("no address")?);
-    node.cut(2, false);
-    assert_eq!(rt; node.offer(others[1], 9, 1, 0), Ok(Offered::Better));
-    assert_eq!(rt; node.floor(1), 5);
+    let mut keeper = MemKeeper::new(rt.alloc())?;
+    let mut routes = crowded(&mut keeper)?;
+    forget(&mut routes, &mut keeper, 17, 65)?;
+    keeper.cut(2, false);
+    forget(&mut routes, &mut keeper, 33, 66)?;
+    assert_eq!(rt; routes.floor(1), 5);
     Ok(())
 }

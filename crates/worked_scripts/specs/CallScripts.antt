@@ -18,13 +18,16 @@ use Rattle.worked_scripts.specs.Scripts.{plain, eui, group_key, pair_key, second
 
 -- the coordinator and meter 1 have halted: a write of each failed
 abbrev pub both_halted : List Event
-both_halted = two_meters ++ (Near 0 2 1 ∷ Cut 0 1 false ∷ Cut 1 1 false ∷ Send 1 2 (0xaa ∷ []) ∷ Send 0 2 (0xaa ∷ []) ∷ [])
+both_halted =
+    two_meters ++ (Near 0 2 1 ∷ Cut 0 1 false ∷ Cut 1 1 false ∷ Send 1 2 (0xaa ∷ []) ∷ Send 0 2 (0xaa ∷ []) ∷ [])
 
 -- every call at one of them, or toward one
 abbrev pub calls_at_halted : List Event
 calls_at_halted =
-    Send 1 2 (0xaa ∷ []) ∷ Send 2 1 (0xaa ∷ []) ∷ Send 1 1 (0xaa ∷ []) ∷ Break 1 2 ∷ Break 2 1 ∷ Join 1 2 ∷ Join 1 0 ∷ Join 2 1 ∷ Leave 1 ∷ Rand 1 rand_k ∷ Rand 0 rand_k
-    ∷ Inject 1 1 (0 ∷ []) ∷ Inject 0 1 (0 ∷ []) ∷ Allow 1 ∷ Rekey 1 second_key ∷ Rekey 0 second_key ∷ Challenge 1 ∷ Activate 0 1 ∷ Activate 1 0 ∷ Kick 1
+    Send 1 2 (0xaa ∷ []) ∷ Send 2 1 (0xaa ∷ []) ∷ Send 1 1 (0xaa ∷ []) ∷ Break 1 2 ∷ Break 2 1 ∷ Join 1 2 ∷ Join 1 0
+    ∷ Join 2 1 ∷ Leave 1 ∷ Rand 1 rand_k ∷ Rand 0 rand_k
+    ∷ Inject 1 1 (0 ∷ []) ∷ Inject 0 1 (0 ∷ []) ∷ Allow 1 ∷ Rekey 1 second_key ∷ Rekey 0 second_key ∷ Challenge 1
+    ∷ Activate 0 1 ∷ Activate 1 0 ∷ Kick 1
     ∷ Tick 1 ∷ Cut 1 1 true ∷ Show 1 ∷ []
 
 -- A halted node answers so before all else, and has no address for others.
@@ -32,8 +35,10 @@ unfoldable pub HaltedNodesDoNothing : Type 0
 HaltedNodesDoNothing =
     (answers_after 8 both_halted ≡ said.Store ∷ said.Store ∷ [])
     × (answers_to both_halted calls_at_halted
-    ≡ said.Halted ∷ said.NoAddress ∷ said.NoAddress ∷ said.Halted ∷ said.NoAddress ∷ said.Halted ∷ said.NoAddress ∷ said.NoAddress ∷ said.Halted ∷ said.Halted ∷ said.Halted
-    ∷ said.Halted ∷ said.Halted ∷ said.Halted ∷ said.Halted ∷ said.Halted ∷ said.Halted ∷ said.Halted ∷ said.Halted ∷ said.Halted
+    ≡ said.Halted ∷ said.NoAddress ∷ said.NoAddress ∷ said.Halted ∷ said.NoAddress ∷ said.Halted ∷ said.NoAddress
+    ∷ said.NoAddress ∷ said.Halted ∷ said.Halted ∷ said.Halted
+    ∷ said.Halted ∷ said.Halted ∷ said.Halted ∷ said.Halted ∷ said.Halted ∷ said.Halted ∷ said.Halted ∷ said.Halted
+    ∷ said.Halted
     ∷ said.Ticked ∷ said.Set ∷ said.Shown ∷ [])
     × (shown_at_last (run plain start (both_halted ++ calls_at_halted)) ≡ Some (record {
       halted = true;
@@ -58,15 +63,18 @@ one_not_joined = alone ++ (Meter (eui 2) pair_key ∷ Meter (eui 3) pair_key ∷
 -- calls at one of them, or toward one
 abbrev pub calls_about_addresses : List Event
 calls_about_addresses =
-    Send 1 2 (0xaa ∷ []) ∷ Send 1 2 (replicate 1281 7) ∷ Send 2 1 (0xaa ∷ []) ∷ Send 1 1 (0xaa ∷ []) ∷ Send 2 2 (0xaa ∷ []) ∷ Send 2 2 (replicate 1281 7) ∷ Send 2 0 []
-    ∷ Break 2 1 ∷ Break 1 2 ∷ Join 2 1 ∷ Join 2 0 ∷ Join 1 1 ∷ Join 1 2 ∷ Leave 1 ∷ Leave 2 ∷ Leave 2 ∷ Kick 1 ∷ Challenge 1 ∷ Activate 1 0 ∷ []
+    Send 1 2 (0xaa ∷ []) ∷ Send 1 2 (replicate 1281 7) ∷ Send 2 1 (0xaa ∷ []) ∷ Send 1 1 (0xaa ∷ [])
+    ∷ Send 2 2 (0xaa ∷ []) ∷ Send 2 2 (replicate 1281 7) ∷ Send 2 0 []
+    ∷ Break 2 1 ∷ Break 1 2 ∷ Join 2 1 ∷ Join 2 0 ∷ Join 1 1 ∷ Join 1 2 ∷ Leave 1 ∷ Leave 2 ∷ Leave 2 ∷ Kick 1
+    ∷ Challenge 1 ∷ Activate 1 0 ∷ []
 
 -- A call toward a node without an address is refused first; then the node's own state refuses, then the size, then the own address.
 unfoldable pub CallsNeedAddresses : Type 0
 CallsNeedAddresses =
     answers_to one_not_joined calls_about_addresses
     ≡ said.NotJoined ∷ said.NotJoined ∷ said.NoAddress ∷ said.NoAddress ∷ said.ToSelf ∷ said.BadSize ∷ said.BadSize
-    ∷ said.NoAddress ∷ said.Broken ∷ said.NoAddress ∷ said.AlreadyJoined ∷ said.NoAddress ∷ said.Asked ∷ said.NotJoined ∷ said.Left ∷ said.NotJoined ∷ said.NotAllowed ∷ said.NotAllowed ∷ said.NotAllowed ∷ []
+    ∷ said.NoAddress ∷ said.Broken ∷ said.NoAddress ∷ said.AlreadyJoined ∷ said.NoAddress ∷ said.Asked ∷ said.NotJoined
+    ∷ said.Left ∷ said.NotJoined ∷ said.NotAllowed ∷ said.NotAllowed ∷ said.NotAllowed ∷ []
 
 -- # Random values
 
@@ -75,14 +83,26 @@ unfoldable pub EightRandomValuesAreHeld : Type 0
 EightRandomValuesAreHeld =
     (answers_to one_meter (replicate 9 (Rand 1 rand_k)) ≡ replicate 8 said.Given ++ (said.RandomsFull ∷ []))
     × (answers_to one_meter (replicate 9 (Rand 0 rand_k)) ≡ replicate 8 said.Given ++ (said.RandomsFull ∷ []))
-    × (answers_to one_meter (replicate 8 (Rand 1 rand_k) ++ (Leave 1 ∷ Rand 1 rand_k ∷ [])) ≡ replicate 8 said.Given ++ (said.Left ∷ said.RandomsFull ∷ []))
+    × (answers_to one_meter (replicate 8 (Rand 1 rand_k) ++ (Leave 1 ∷ Rand 1 rand_k ∷ []))
+    ≡ replicate 8 said.Given ++ (said.Left ∷ said.RandomsFull ∷ []))
 
 -- # A full book
 
 -- what the coordinator answers where a meter is allowed beside a book of so many entries, all of the meter of EUI 5
 abbrev pub allowed_beside : (count n : ℕ) → Option (Result ℕ CoordinatorRefusal)
 allowed_beside count n =
-    option_map (λ (m : Memory). (coordinator_rules.allow (record m { book = replicate count (record { eui = eui 5; psk = pair_key; allowed = true; issued0 = None; issued1 = None }) }) (eui n) pair_key).answer)
+    option_map (λ (m : Memory).
+    (coordinator_rules.allow
+    (record m {
+      book = replicate count
+          (record {
+            eui = eui 5;
+            psk = pair_key;
+            allowed = true;
+            issued0 = None;
+            issued1 = None;
+          });
+    }) (eui n) pair_key).answer)
     (memory_at alone 0)
 
 -- The book has room for 999 meters, and one that is known needs none. No script fills it, since a world has no more meters.
@@ -124,7 +144,8 @@ BadLinesHaveTheirReasons =
 -- so many meters, each joined in the workshop, the first of them near so many others
 abbrev pub neighbours : ℕ → List Event
 neighbours count =
-    alone ++ (map (λ n. Meter (eui n) pair_key) (range_with_len 2 66) ++ (map (λ n. Depot n) (range_with_len 1 66) ++ map (λ n. Near 1 n 1) (range_with_len 2 count)))
+    alone ++ (map (λ n. Meter (eui n) pair_key) (range_with_len 2 66)
+    ++ (map (λ n. Depot n) (range_with_len 1 66) ++ map (λ n. Near 1 n 1) (range_with_len 2 count)))
 
 -- A node that keeps 64 ranks is near no other.
 unfoldable pub SixtyFourAreNear : Type 0

@@ -27,7 +27,9 @@ AForgedFrameIsNamed =
 
 -- a flight is lost, and its octets come by the script
 abbrev pub lost_and_injected : List Event
-lost_and_injected = two_meters ++ (Near 1 2 3 ∷ Send 1 2 (0xaa ∷ []) ∷ Lose 1 ∷ Inject 2 1 (sealed 2 1 0 (whole 14 1 2 (0xaa ∷ []))) ∷ [])
+lost_and_injected =
+    two_meters ++ (Near 1 2 3 ∷ Send 1 2 (0xaa ∷ []) ∷ Lose 1 ∷ Inject 2 1 (sealed 2 1 0 (whole 14 1 2 (0xaa ∷ [])))
+    ∷ [])
 
 -- Octets that a node sent are not forged, also where their flight was lost; their note is the flight's.
 unfoldable pub ALostFrameIsNotForged : Type 0
@@ -40,7 +42,8 @@ ALostFrameIsNotForged =
 
 -- a sealed frame with a key index and a body of four zeros
 abbrev pub sealed_frame : ℕ → ℕ → List ℕ
-sealed_frame to index = big_bytes 5 0x6998001d78 ++ (to ∷ big_bytes 3 0 ++ (0x0d ∷ big_bytes 4 0 ++ (index ∷ replicate 4 0)))
+sealed_frame to index =
+    big_bytes 5 0x6998001d78 ++ (to ∷ big_bytes 3 0 ++ (0x0d ∷ big_bytes 4 0 ++ (index ∷ replicate 4 0)))
 
 -- a sealed frame of another network
 abbrev pub frame_of_another_network : List ℕ
@@ -77,7 +80,8 @@ malicious =
 unfoldable pub MaliciousFramesAreRefused : Type 0
 MaliciousFramesAreRefused =
     (answers_after 5 malicious
-    ≡ said.Malformed ∷ said.NoKey ∷ said.NotForMe ∷ said.NotForMe ∷ said.BadUnit ∷ said.BadUnit ∷ said.Carried ∷ said.BadUnit ∷ said.NoSession ∷ said.Form ∷ said.Declined ∷ said.NoSession
+    ≡ said.Malformed ∷ said.NoKey ∷ said.NotForMe ∷ said.NotForMe ∷ said.BadUnit ∷ said.BadUnit ∷ said.Carried
+    ∷ said.BadUnit ∷ said.NoSession ∷ said.Form ∷ said.Declined ∷ said.NoSession
     ∷ said.Declined ∷ said.NotAllowed ∷ said.NoSession ∷ said.NoRandom ∷ said.BadUnit ∷ [])
     × (counts_of malicious ≡ record { events = 22; flights = 3; sends = 0; ups = 0; forged = 1 })
 
@@ -85,7 +89,9 @@ MaliciousFramesAreRefused =
 
 -- the meters 1 and 2 are joined, meter 3 is not
 abbrev pub two_of_three : List Event
-two_of_three = Coordinator (eui 1) group_key ∷ Meter (eui 2) pair_key ∷ Meter (eui 3) pair_key ∷ Meter (eui 4) pair_key ∷ Depot 1 ∷ Depot 2 ∷ []
+two_of_three =
+    Coordinator (eui 1) group_key ∷ Meter (eui 2) pair_key ∷ Meter (eui 3) pair_key ∷ Meter (eui 4) pair_key ∷ Depot 1
+    ∷ Depot 2 ∷ []
 
 -- frames for other nodes, from the node itself, for a node without an address, under another key, and a plain one for all
 abbrev pub for_others : List Event
@@ -108,7 +114,8 @@ for_others =
 -- all.
 unfoldable pub FramesHaveTheirNodes : Type 0
 FramesHaveTheirNodes =
-    answers_to two_of_three for_others ≡ replicate 8 said.NotForMe ++ (said.NoKey ∷ said.Noted ∷ said.BadTag ∷ said.NotForMe ∷ [])
+    answers_to two_of_three for_others
+    ≡ replicate 8 said.NotForMe ++ (said.NoKey ∷ said.Noted ∷ said.BadTag ∷ said.NotForMe ∷ [])
 
 -- # Units that go to all
 
@@ -131,14 +138,16 @@ units_out_of_place =
 unfoldable pub UnitsHaveTheirPaths : Type 0
 UnitsHaveTheirPaths =
     (answers_to two_meters units_out_of_place ≡ replicate 10 said.BadUnit)
-    × (counts_of (two_meters ++ units_out_of_place) ≡ record { events = 15; flights = 0; sends = 0; ups = 0; forged = 9 })
+    × (counts_of (two_meters ++ units_out_of_place)
+    ≡ record { events = 15; flights = 0; sends = 0; ups = 0; forged = 9 })
 
 -- # The octets of frames
 
 -- a joining with EUIs and keys that tell their octets apart
 abbrev pub named_joining : List Event
 named_joining =
-    Coordinator (record { 0 = big_bytes 8 0xaabbccddeeff0011 }) group_key ∷ Meter (record { 0 = big_bytes 8 0x0102030405060708 }) pair_key ∷ Allow 1 ∷ Rand 0 rand_k ∷ Rand 1 rand_r
+    Coordinator (record { 0 = big_bytes 8 0xaabbccddeeff0011 }) group_key
+    ∷ Meter (record { 0 = big_bytes 8 0x0102030405060708 }) pair_key ∷ Allow 1 ∷ Rand 0 rand_k ∷ Rand 1 rand_r
     ∷ Join 1 0 ∷ Deliver 1 0 1 ∷ Deliver 2 1 1 ∷ Deliver 3 0 1 ∷ Deliver 4 1 1 ∷ Deliver 5 0 1 ∷ Deliver 6 1 1 ∷ []
 
 -- The octets of frames are those of the formats: a sealed frame's header and unit, the same after a relay, with one hop less, and the plain
@@ -146,11 +155,20 @@ named_joining =
 unfoldable pub FramesAreSpelled : Type 0
 FramesAreSpelled =
     (octets_of one_hop 1
-    ≡ Some (big_bytes 15 0x6998001d7802000100_0d0000000000 ++ (big_bytes 11 0xbe000100024148656c6c6f ++ big_bytes 4 0x00010203)))
+    ≡ Some (big_bytes 15 0x6998001d7802000100_0d0000000000
+    ++ (big_bytes 11 0xbe000100024148656c6c6f ++ big_bytes 4 0x00010203)))
     × (octets_of discovery 1
-    ≡ Some (big_bytes 15 0x4998001d78ffff0100_0d0000000000 ++ (big_bytes 11 0x4001010002000000010004 ++ big_bytes 4 0x00010203)))
-    × (octets_of discovery 7 ≡ Some (big_bytes 15 0x6998021d78040002000d0200000000 ++ (big_bytes 7 0xbd0001000441aa ++ big_bytes 4 0x00010203)))
-    × (octets_of named_joining 1 ≡ Some (big_bytes 18 0x61d8001d7800000807060504030201400201 ++ big_bytes 8 0x0102030405060708))
+    ≡ Some (big_bytes 15 0x4998001d78ffff0100_0d0000000000
+    ++ (big_bytes 11 0x4001010002000000010004 ++ big_bytes 4 0x00010203)))
+    × (octets_of discovery 7
+    ≡ Some (big_bytes 15 0x6998021d78040002000d0200000000
+    ++ (big_bytes 7 0xbd0001000441aa ++ big_bytes 4 0x00010203)))
+    × (octets_of named_joining 1
+    ≡ Some (big_bytes 18 0x61d8001d7800000807060504030201400201 ++ big_bytes 8 0x0102030405060708))
     × (octets_of named_joining 2
-    ≡ Some (big_bytes 18 0x619c001d7808070605040302010000400203 ++ (big_bytes 8 0x0102030405060708 ++ (big_bytes 6 0x0101001e2f00 ++ (group_key.0 ++ big_bytes 8 0xaabbccddeeff0011)))))
-    × (octets_of named_joining 6 ≡ Some (big_bytes 18 0x619c001d7808070605040302010000400202 ++ (big_bytes 8 0x0102030405060708 ++ big_bytes 4 0x03020004)))
+    ≡ Some (big_bytes 18 0x619c001d7808070605040302010000400203
+    ++ (big_bytes 8 0x0102030405060708
+    ++ (big_bytes 6 0x0101001e2f00 ++ (group_key.0 ++ big_bytes 8 0xaabbccddeeff0011)))))
+    × (octets_of named_joining 6
+    ≡ Some (big_bytes 18 0x619c001d7808070605040302010000400202
+    ++ (big_bytes 8 0x0102030405060708 ++ big_bytes 4 0x03020004)))

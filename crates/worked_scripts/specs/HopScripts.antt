@@ -15,7 +15,8 @@ use Rattle.worked_scripts.specs.Scripts.{plain, group_key, two_meters, three_met
 
 -- a datagram over one hop, delivered twice
 abbrev pub one_hop : List Event
-one_hop = two_meters ++ (Near 1 2 3 ∷ Send 1 2 (0x48 ∷ 0x65 ∷ 0x6c ∷ 0x6c ∷ 0x6f ∷ []) ∷ Deliver 1 2 3 ∷ Deliver 1 2 3 ∷ [])
+one_hop =
+    two_meters ++ (Near 1 2 3 ∷ Send 1 2 (0x48 ∷ 0x65 ∷ 0x6c ∷ 0x6c ∷ 0x6f ∷ []) ∷ Deliver 1 2 3 ∷ Deliver 1 2 3 ∷ [])
 
 -- A datagram over one hop is handed up, and its repeat is refused.
 unfoldable pub ARepeatIsRefused : Type 0
@@ -29,7 +30,8 @@ ARepeatIsRefused =
 abbrev pub sizes : List Event
 sizes =
     two_meters
-    ++ (Near 1 2 3 ∷ Send 1 2 (replicate 375 7) ∷ Send 1 2 (replicate 376 7) ∷ Send 1 2 (replicate 1280 7) ∷ Send 1 2 (replicate 1281 7)
+    ++ (Near 1 2 3 ∷ Send 1 2 (replicate 375 7) ∷ Send 1 2 (replicate 376 7) ∷ Send 1 2 (replicate 1280 7)
+    ∷ Send 1 2 (replicate 1281 7)
     ∷ Deliver 3 2 3 ∷ Deliver 2 2 3 ∷ [])
 
 -- A datagram of 375 octets goes whole, a longer one goes in pieces, and a piece that was overtaken on one hop is refused.
@@ -44,7 +46,8 @@ DatagramsOfEverySize =
 abbrev pub discovery : List Event
 discovery =
     four_meters
-    ++ (Send 1 4 (0xaa ∷ []) ∷ Deliver 1 2 2 ∷ Deliver 1 3 3 ∷ Deliver 2 4 3 ∷ Deliver 3 4 4 ∷ Deliver 4 2 3 ∷ Deliver 5 1 2 ∷ Deliver 6 2 2 ∷ Deliver 7 4 3 ∷ [])
+    ++ (Send 1 4 (0xaa ∷ []) ∷ Deliver 1 2 2 ∷ Deliver 1 3 3 ∷ Deliver 2 4 3 ∷ Deliver 3 4 4 ∷ Deliver 4 2 3
+    ∷ Deliver 5 1 2 ∷ Deliver 6 2 2 ∷ Deliver 7 4 3 ∷ [])
 
 -- the route ends, and is sought anew
 abbrev pub sought_anew : List Event
@@ -54,7 +57,9 @@ sought_anew = discovery ++ (Break 1 2 ∷ Send 1 4 (0xbb ∷ []) ∷ [])
 -- the route again.
 unfoldable pub DiscoveryOverTwoRelays : Type 0
 DiscoveryOverTwoRelays =
-    (answers_after 9 discovery ≡ said.Waiting ∷ said.Relayed ∷ said.Relayed ∷ said.Answered ∷ said.NotBetter ∷ said.Relayed ∷ said.Learned ∷ said.Relayed ∷ said.Up ∷ [])
+    (answers_after 9 discovery
+    ≡ said.Waiting ∷ said.Relayed ∷ said.Relayed ∷ said.Answered ∷ said.NotBetter ∷ said.Relayed ∷ said.Learned
+    ∷ said.Relayed ∷ said.Up ∷ [])
     × (handed_at_last (run plain start discovery) ≡ Some (record { node = 4; note = 1; octets = 0xaa ∷ [] }))
     × (counts_of discovery ≡ record { events = 18; flights = 7; sends = 1; ups = 1; forged = 0 })
     × (answers_after 18 sought_anew ≡ said.Broken ∷ said.Waiting ∷ [])
@@ -66,12 +71,15 @@ DiscoveryOverTwoRelays =
 abbrev pub broken : List Event
 broken =
     three_meters
-    ++ (Send 3 1 (0xaa ∷ []) ∷ Deliver 1 2 1 ∷ Deliver 2 1 1 ∷ Deliver 3 2 1 ∷ Break 2 3 ∷ Send 1 3 (0xbb ∷ []) ∷ Deliver 5 2 1 ∷ Deliver 6 1 1 ∷ Deliver 1 1 9 ∷ Show 1 ∷ [])
+    ++ (Send 3 1 (0xaa ∷ []) ∷ Deliver 1 2 1 ∷ Deliver 2 1 1 ∷ Deliver 3 2 1 ∷ Break 2 3 ∷ Send 1 3 (0xbb ∷ [])
+    ∷ Deliver 5 2 1 ∷ Deliver 6 1 1 ∷ Deliver 1 1 9 ∷ Show 1 ∷ [])
 
 -- An old request does not revive a route that broke, whose rank stays.
 unfoldable pub ABrokenRouteStaysBroken : Type 0
 ABrokenRouteStaysBroken =
-    (answers_after 7 broken ≡ said.Waiting ∷ said.Relayed ∷ said.Answered ∷ said.Relayed ∷ said.Broken ∷ said.Sent ∷ said.Reported ∷ said.Broken ∷ said.NotBetter ∷ said.Shown ∷ [])
+    (answers_after 7 broken
+    ≡ said.Waiting ∷ said.Relayed ∷ said.Answered ∷ said.Relayed ∷ said.Broken ∷ said.Sent ∷ said.Reported
+    ∷ said.Broken ∷ said.NotBetter ∷ said.Shown ∷ [])
     × (shown_at_last (run plain start broken) ≡ Some (record {
       halted = false;
       address = Some 1;
@@ -90,11 +98,13 @@ ABrokenRouteStaysBroken =
 abbrev pub lost : List Event
 lost =
     three_meters
-    ++ (Send 3 1 (0xaa ∷ []) ∷ Deliver 1 2 1 ∷ Deliver 2 1 1 ∷ Deliver 3 2 1 ∷ Break 2 3 ∷ Send 1 3 (0xbb ∷ []) ∷ Deliver 5 2 1 ∷ Deliver 6 1 1 ∷ Lose 1 ∷ [])
+    ++ (Send 3 1 (0xaa ∷ []) ∷ Deliver 1 2 1 ∷ Deliver 2 1 1 ∷ Deliver 3 2 1 ∷ Break 2 3 ∷ Send 1 3 (0xbb ∷ [])
+    ∷ Deliver 5 2 1 ∷ Deliver 6 1 1 ∷ Lose 1 ∷ [])
 
 -- A flight that was lost is not there any more.
 unfoldable pub ALostFlightComesNoMore : Type 0
-ALostFlightComesNoMore = (answers_after 15 lost ≡ said.Lost ∷ []) × (fault_after lost (Deliver 1 1 9) ≡ Some faults.Flight)
+ALostFlightComesNoMore =
+    (answers_after 15 lost ≡ said.Lost ∷ []) × (fault_after lost (Deliver 1 1 9) ≡ Some faults.Flight)
 
 -- # Hops that are left
 
@@ -109,26 +119,38 @@ AUnitGoesOnWhileHopsAreLeft =
     × (answers_after 8 (with_hops 1) ≡ said.HopsSpent ∷ [])
     × (answers_after 8 (with_hops 2) ≡ said.Relayed ∷ [])
     × (octets_of (with_hops 2) 1 ≡ Some (sealed 2 1 0 (whole 1 3 2 (0xaa ∷ []))))
-    × (octets_of (with_hops 15) 1 ≡ Some (big_bytes 15 0x6998001d7802000100_0d0000000000 ++ (big_bytes 7 0xbe0003000241aa ++ big_bytes 4 0x00010203)))
-    × (octets_of (with_hops 16) 1 ≡ Some (big_bytes 15 0x6998001d7802000100_0d0000000000 ++ (big_bytes 8 0xbf0f0003000241aa ++ big_bytes 4 0x00010203)))
-    × (octets_of (with_hops 255) 1 ≡ Some (big_bytes 15 0x6998001d7802000100_0d0000000000 ++ (big_bytes 8 0xbffe0003000241aa ++ big_bytes 4 0x00010203)))
+    × (octets_of (with_hops 15) 1
+    ≡ Some (big_bytes 15 0x6998001d7802000100_0d0000000000
+    ++ (big_bytes 7 0xbe0003000241aa ++ big_bytes 4 0x00010203)))
+    × (octets_of (with_hops 16) 1
+    ≡ Some (big_bytes 15 0x6998001d7802000100_0d0000000000
+    ++ (big_bytes 8 0xbf0f0003000241aa ++ big_bytes 4 0x00010203)))
+    × (octets_of (with_hops 255) 1
+    ≡ Some (big_bytes 15 0x6998001d7802000100_0d0000000000
+    ++ (big_bytes 8 0xbffe0003000241aa ++ big_bytes 4 0x00010203)))
 
 -- a piece and a joining command come to the same meter
 abbrev pub other_units : List Event
-other_units = three_meters ++ (Near 1 2 1 ∷ Inject 1 1 (sealed 1 3 9 (part_of 3 2 16 5 1 (replicate 8 7))) ∷ Inject 1 1 (sealed 1 3 10 (command 3 2 (9 ∷ []))) ∷ [])
+other_units =
+    three_meters ++ (Near 1 2 1 ∷ Inject 1 1 (sealed 1 3 9 (part_of 3 2 16 5 1 (replicate 8 7)))
+    ∷ Inject 1 1 (sealed 1 3 10 (command 3 2 (9 ∷ []))) ∷ [])
 
 -- Pieces and joining commands for another node go on as datagrams do, unread.
 unfoldable pub EveryUnitGoesOn : Type 0
 EveryUnitGoesOn =
     (answers_after 8 other_units ≡ said.Relayed ∷ said.Relayed ∷ [])
-    × (octets_of other_units 1 ≡ Some (sealed 2 1 0 (Part (record { hops = 13; origin = 3; to = 2 }) (record { size = 16; tag = 5; offset = 1; octets = replicate 8 7 }))))
+    × (octets_of other_units 1
+    ≡ Some (sealed 2 1 0
+    (Part (record { hops = 13; origin = 3; to = 2 })
+    (record { size = 16; tag = 5; offset = 1; octets = replicate 8 7 }))))
     × (octets_of other_units 2 ≡ Some (sealed 2 1 1 (Carried (record { hops = 13; origin = 3; to = 2 }) (9 ∷ []))))
 
 -- # Units without a route
 
 -- a unit of an origin comes to a meter that has a route to meter 3, and none to its target
 abbrev pub without_route : (hops origin : ℕ) → List Event
-without_route hops origin = three_meters ++ (Near 1 3 1 ∷ Inject 1 1 (sealed 1 3 9 (whole hops origin 2 (0xaa ∷ []))) ∷ [])
+without_route hops origin =
+    three_meters ++ (Near 1 3 1 ∷ Inject 1 1 (sealed 1 3 9 (whole hops origin 2 (0xaa ∷ []))) ∷ [])
 
 -- A unit that can't go on is reported to its origin, where a route leads there and it is another node; no hop need be left to it.
 unfoldable pub AUnitWithoutARouteIsReported : Type 0
@@ -148,16 +170,20 @@ counters_gone gone = three_meters ++ (Near 1 2 1 ∷ Near 1 3 1 ∷ Counter 1 go
 unfoldable pub GoingOnTakesACounter : Type 0
 GoingOnTakesACounter =
     (answers_to (counters_gone 4294967295)
-    (Inject 1 1 (sealed 1 3 9 (whole 2 3 2 (0xaa ∷ []))) ∷ Inject 1 1 (sealed 1 3 10 (whole 1 3 2 (0xaa ∷ []))) ∷ Inject 1 1 (sealed 1 3 11 (whole 2 3 0 (0xaa ∷ []))) ∷ [])
+    (Inject 1 1 (sealed 1 3 9 (whole 2 3 2 (0xaa ∷ []))) ∷ Inject 1 1 (sealed 1 3 10 (whole 1 3 2 (0xaa ∷ [])))
+    ∷ Inject 1 1 (sealed 1 3 11 (whole 2 3 0 (0xaa ∷ []))) ∷ [])
     ≡ said.CounterSpent ∷ said.HopsSpent ∷ said.CounterSpent ∷ [])
-    × (answers_to (counters_gone 4294967294) (Inject 1 1 (sealed 1 3 9 (whole 2 3 2 (0xaa ∷ []))) ∷ Inject 1 1 (sealed 1 3 10 (whole 2 3 2 (0xaa ∷ []))) ∷ [])
+    × (answers_to (counters_gone 4294967294)
+    (Inject 1 1 (sealed 1 3 9 (whole 2 3 2 (0xaa ∷ []))) ∷ Inject 1 1 (sealed 1 3 10 (whole 2 3 2 (0xaa ∷ [])))
+    ∷ [])
     ≡ said.Relayed ∷ said.CounterSpent ∷ [])
 
 -- # Route errors
 
 -- an error of a neighbour for a target comes to a meter that has routes to meters 2 and 3
 abbrev pub error_by : (by lost to : ℕ) → List Event
-error_by by lost to = three_meters ++ (Near 1 2 1 ∷ Near 1 3 1 ∷ Inject 1 1 (sealed 1 by 9 (routing_unit (Rerr lost to))) ∷ [])
+error_by by lost to =
+    three_meters ++ (Near 1 2 1 ∷ Near 1 3 1 ∷ Inject 1 1 (sealed 1 by 9 (routing_unit (Rerr lost to))) ∷ [])
 
 -- A route error ends the route to the lost address where it goes by the neighbour, keeps its rank, and goes on to another target.
 unfoldable pub AnErrorGoesOnToItsTarget : Type 0
@@ -207,6 +233,7 @@ AnErrorForItsTargetGoesOn =
     (answers_after 6 error_by_another ≡ said.Broken ∷ [])
     × (octets_of error_by_another 1 ≡ Some (sealed 2 1 0 (routing_unit (Rerr 2 2))))
     × (counts_of error_by_another ≡ record { events = 7; flights = 1; sends = 0; ups = 0; forged = 1 })
-    × (answers_after 6 (two_meters ++ (Near 1 2 1 ∷ Counter 1 4294967295 ∷ Inject 1 1 (error_for 2) ∷ [])) ≡ said.Set ∷ said.CounterSpent ∷ [])
+    × (answers_after 6 (two_meters ++ (Near 1 2 1 ∷ Counter 1 4294967295 ∷ Inject 1 1 (error_for 2) ∷ []))
+    ≡ said.Set ∷ said.CounterSpent ∷ [])
     × (answers_after 6 error_by_its_hop ≡ said.Broken ∷ [])
     × (counts_of error_by_its_hop ≡ record { events = 7; flights = 0; sends = 0; ups = 0; forged = 1 })

@@ -18,7 +18,8 @@ use Rattle.worked_scripts.specs.Scripts.{plain, plain_second, plain_third, plain
 
 -- a meter is allowed, and asks the coordinator over the air
 abbrev pub asking : List Event
-asking = Coordinator (eui 1) group_key ∷ Meter (eui 2) pair_key ∷ Allow 1 ∷ Rand 0 rand_k ∷ Rand 1 rand_r ∷ Join 1 0 ∷ []
+asking =
+    Coordinator (eui 1) group_key ∷ Meter (eui 2) pair_key ∷ Allow 1 ∷ Rand 0 rand_k ∷ Rand 1 rand_r ∷ Join 1 0 ∷ []
 
 -- the messages of the joining come to their ends
 abbrev pub joining : List Event
@@ -33,7 +34,8 @@ joined = joining ++ (Deliver 5 0 1 ∷ Activate 1 0 ∷ [])
 unfoldable pub AMeterJoinsOverTheAir : Type 0
 AMeterJoinsOverTheAir =
     (answers_after 2 joining
-    ≡ said.Allowed ∷ said.Given ∷ said.Given ∷ said.Asked ∷ said.Challenged ∷ said.Replied ∷ said.Keyed ∷ said.Took ∷ said.Done ∷ said.Noted ∷ [])
+    ≡ said.Allowed ∷ said.Given ∷ said.Given ∷ said.Asked ∷ said.Challenged ∷ said.Replied ∷ said.Keyed ∷ said.Took
+    ∷ said.Done ∷ said.Noted ∷ [])
     × (admissions (run plain start joining) ≡ record { node = 1; address = 1 } ∷ [])
     × (takers (run plain start joining) ≡ 1 ∷ [])
     × (doers (run plain start joining) ≡ 1 ∷ [])
@@ -43,7 +45,8 @@ AMeterJoinsOverTheAir =
 -- a third packet of an earlier session
 abbrev pub joining_again : List Event
 joining_again =
-    asking ++ (Deliver 1 0 1 ∷ Deliver 2 1 1 ∷ Deliver 3 0 1 ∷ Rand 0 rand_p ∷ Rand 1 rand_q ∷ Join 1 0 ∷ Deliver 5 0 1 ∷ Deliver 6 1 1 ∷ Deliver 4 1 1 ∷ [])
+    asking ++ (Deliver 1 0 1 ∷ Deliver 2 1 1 ∷ Deliver 3 0 1 ∷ Rand 0 rand_p ∷ Rand 1 rand_q ∷ Join 1 0 ∷ Deliver 5 0 1
+    ∷ Deliver 6 1 1 ∷ Deliver 4 1 1 ∷ [])
 
 -- A meter that has asked again hears only what answers that: the third packet of its earlier session is refused.
 unfoldable pub AnOldThirdPacketIsRefused : Type 0
@@ -52,28 +55,34 @@ AnOldThirdPacketIsRefused = answers_after 13 joining_again ≡ said.Replied ∷ 
 -- the joining of a meter and a coordinator that have no counter and no own number left
 abbrev pub joining_without_counters : List Event
 joining_without_counters =
-    Coordinator (eui 1) group_key ∷ Meter (eui 2) pair_key ∷ Counter 0 4294967295 ∷ Number 0 65535 ∷ Counter 1 4294967295 ∷ Number 1 65535
-    ∷ Allow 1 ∷ Rand 0 rand_k ∷ Rand 1 rand_r ∷ Join 1 0 ∷ Deliver 1 0 1 ∷ Deliver 2 1 1 ∷ Deliver 3 0 1 ∷ Deliver 4 1 1 ∷ Deliver 5 0 1 ∷ Deliver 6 1 1 ∷ []
+    Coordinator (eui 1) group_key ∷ Meter (eui 2) pair_key ∷ Counter 0 4294967295 ∷ Number 0 65535
+    ∷ Counter 1 4294967295 ∷ Number 1 65535
+    ∷ Allow 1 ∷ Rand 0 rand_k ∷ Rand 1 rand_r ∷ Join 1 0 ∷ Deliver 1 0 1 ∷ Deliver 2 1 1 ∷ Deliver 3 0 1 ∷ Deliver 4 1 1
+    ∷ Deliver 5 0 1 ∷ Deliver 6 1 1 ∷ []
 
 -- Plain frames take no counter and no own number.
 unfoldable pub PlainFramesTakeNoCounter : Type 0
 PlainFramesTakeNoCounter =
-    answers_after 10 joining_without_counters ≡ said.Challenged ∷ said.Replied ∷ said.Keyed ∷ said.Took ∷ said.Done ∷ said.Noted ∷ []
+    answers_after 10 joining_without_counters
+    ≡ said.Challenged ∷ said.Replied ∷ said.Keyed ∷ said.Took ∷ said.Done ∷ said.Noted ∷ []
 
 -- # Through an agent
 
 -- the meter asks a joined one, which carries the messages
 abbrev pub by_agent : List Event
 by_agent =
-    Coordinator (eui 1) group_key ∷ Meter (eui 2) pair_key ∷ Meter (eui 3) second_key ∷ Depot 1 ∷ Near 0 1 1 ∷ Allow 2 ∷ Rand 0 rand_k ∷ Rand 2 rand_r ∷ Join 2 1
-    ∷ Deliver 1 1 1 ∷ Deliver 2 0 1 ∷ Deliver 3 1 1 ∷ Deliver 4 2 1 ∷ Deliver 5 1 1 ∷ Deliver 6 0 1 ∷ Deliver 7 1 1 ∷ Deliver 8 2 1 ∷ Deliver 9 1 1 ∷ Deliver 10 0 1
+    Coordinator (eui 1) group_key ∷ Meter (eui 2) pair_key ∷ Meter (eui 3) second_key ∷ Depot 1 ∷ Near 0 1 1 ∷ Allow 2
+    ∷ Rand 0 rand_k ∷ Rand 2 rand_r ∷ Join 2 1
+    ∷ Deliver 1 1 1 ∷ Deliver 2 0 1 ∷ Deliver 3 1 1 ∷ Deliver 4 2 1 ∷ Deliver 5 1 1 ∷ Deliver 6 0 1 ∷ Deliver 7 1 1
+    ∷ Deliver 8 2 1 ∷ Deliver 9 1 1 ∷ Deliver 10 0 1
     ∷ Deliver 11 1 1 ∷ Deliver 12 2 1 ∷ []
 
 -- A meter joins through another one that is joined, as over the air.
 unfoldable pub AMeterJoinsThroughAnAgent : Type 0
 AMeterJoinsThroughAnAgent =
     (answers_after 9 by_agent
-    ≡ said.Carried ∷ said.Challenged ∷ said.Carried ∷ said.Replied ∷ said.Carried ∷ said.Keyed ∷ said.Carried ∷ said.Took ∷ said.Carried ∷ said.Done ∷ said.Carried
+    ≡ said.Carried ∷ said.Challenged ∷ said.Carried ∷ said.Replied ∷ said.Carried ∷ said.Keyed ∷ said.Carried
+    ∷ said.Took ∷ said.Carried ∷ said.Done ∷ said.Carried
     ∷ said.Noted ∷ [])
     × (admissions (run plain start by_agent) ≡ record { node = 2; address = 2 } ∷ [])
     × (takers (run plain start by_agent) ≡ 2 ∷ [])
@@ -90,7 +99,8 @@ challenged = asking ++ (Deliver 1 0 1 ∷ [])
 -- seconds from its first packet, which the third does not lengthen.
 unfoldable pub ASessionEndsAfterTwoMinutes : Type 0
 ASessionEndsAfterTwoMinutes =
-    (answers_to challenged (Tick 119 ∷ Deliver 2 1 1 ∷ Deliver 3 0 1 ∷ Tick 119 ∷ Deliver 4 1 1 ∷ []) ≡ said.Ticked ∷ said.Replied ∷ said.Keyed ∷ said.Ticked ∷ said.Took ∷ [])
+    (answers_to challenged (Tick 119 ∷ Deliver 2 1 1 ∷ Deliver 3 0 1 ∷ Tick 119 ∷ Deliver 4 1 1 ∷ [])
+    ≡ said.Ticked ∷ said.Replied ∷ said.Keyed ∷ said.Ticked ∷ said.Took ∷ [])
     × (answers_to challenged (Tick 120 ∷ Deliver 2 1 1 ∷ []) ≡ said.Ticked ∷ said.NoSession ∷ [])
     × (answers_to challenged (Tick 119 ∷ Deliver 2 1 1 ∷ Deliver 3 0 1 ∷ Tick 120 ∷ Deliver 4 1 1 ∷ [])
     ≡ said.Ticked ∷ said.Replied ∷ said.Keyed ∷ said.Ticked ∷ said.NoSession ∷ [])
@@ -98,7 +108,8 @@ ASessionEndsAfterTwoMinutes =
     ≡ said.Replied ∷ said.Ticked ∷ said.Keyed ∷ said.Took ∷ said.Done ∷ [])
     × (answers_to challenged (Deliver 2 1 1 ∷ Tick 119 ∷ Deliver 3 0 1 ∷ Deliver 4 1 1 ∷ Tick 1 ∷ Deliver 5 0 1 ∷ [])
     ≡ said.Replied ∷ said.Ticked ∷ said.Keyed ∷ said.Took ∷ said.Ticked ∷ said.NoSession ∷ [])
-    × (answers_to challenged (Deliver 2 1 1 ∷ Tick 120 ∷ Deliver 3 0 1 ∷ []) ≡ said.Replied ∷ said.Ticked ∷ said.NoSession ∷ [])
+    × (answers_to challenged (Deliver 2 1 1 ∷ Tick 120 ∷ Deliver 3 0 1 ∷ [])
+    ≡ said.Replied ∷ said.Ticked ∷ said.NoSession ∷ [])
 
 -- # Challenges that are refused
 
@@ -119,9 +130,11 @@ first_packet = packets.head 1 1 30 0 rand_k.0 ++ (eui 1).0
 unfoldable pub ChallengesAreJudgedInOrder : Type 0
 ChallengesAreJudgedInOrder =
     answers_to asking_early
-    (challenge_by 1 (big_bytes 6 0) ∷ challenge_by 0 (big_bytes 6 0) ∷ Rand 1 rand_r ∷ challenge_by 0 (big_bytes 6 0) ∷ challenge_by 0 (big_bytes 6 0x40) ∷ challenge_by 0 (big_bytes 5 0)
+    (challenge_by 1 (big_bytes 6 0) ∷ challenge_by 0 (big_bytes 6 0) ∷ Rand 1 rand_r ∷ challenge_by 0 (big_bytes 6 0)
+    ∷ challenge_by 0 (big_bytes 6 0x40) ∷ challenge_by 0 (big_bytes 5 0)
     ∷ challenge_by 0 first_packet ∷ challenge_by 0 first_packet ∷ challenge_by 0 (big_bytes 6 0x40)
-    ∷ Inject 1 1 (down_frame 2 1 (said_of 4 2 [])) ∷ Inject 1 1 (down_frame 2 0 (said_of 4 2 [])) ∷ challenge_by 0 (big_bytes 6 0x40) ∷ [])
+    ∷ Inject 1 1 (down_frame 2 1 (said_of 4 2 [])) ∷ Inject 1 1 (down_frame 2 0 (said_of 4 2 []))
+    ∷ challenge_by 0 (big_bytes 6 0x40) ∷ [])
     ≡ said.NoSession ∷ said.NoRandom ∷ said.Given ∷ said.Form ∷ said.Form ∷ said.Form
     ∷ said.Replied ∷ said.NoRandom ∷ said.Form ∷ said.NoSession ∷ said.Declined ∷ said.NoSession ∷ []
 
@@ -166,24 +179,34 @@ answer_by packet = Inject 0 1 (up_frame 0 2 (said_of 1 2 packet))
 -- then the same of fourth ones
 abbrev pub answers_of_a_meter : List Event
 answers_of_a_meter =
-    answer_by (7 ∷ []) ∷ answer_by (plain_second pair_key 2 peer) ∷ answer_by (plain_second pair_key 1 (record peer { rand_s = rand_p }))
-    ∷ answer_by (plain_second pair_key 1 (record peer { eui = eui 3 })) ∷ answer_by (plain_second second_key 1 peer) ∷ answer_by (plain_second pair_key 1 peer)
-    ∷ answer_by (plain_second pair_key 1 peer) ∷ answer_by (plain_fourth pair_key 1 peer) ∷ answer_by (plain_fourth pair_key 2 (record peer { rand_s = rand_p }))
-    ∷ answer_by (plain_fourth pair_key 2 (record peer { rand_p = rand_k })) ∷ answer_by (plain_fourth pair_key 2 peer) ∷ answer_by (plain_fourth pair_key 2 peer) ∷ []
+    answer_by (7 ∷ []) ∷ answer_by (plain_second pair_key 2 peer)
+    ∷ answer_by (plain_second pair_key 1 (record peer { rand_s = rand_p }))
+    ∷ answer_by (plain_second pair_key 1 (record peer { eui = eui 3 })) ∷ answer_by (plain_second second_key 1 peer)
+    ∷ answer_by (plain_second pair_key 1 peer)
+    ∷ answer_by (plain_second pair_key 1 peer) ∷ answer_by (plain_fourth pair_key 1 peer)
+    ∷ answer_by (plain_fourth pair_key 2 (record peer { rand_s = rand_p }))
+    ∷ answer_by (plain_fourth pair_key 2 (record peer { rand_p = rand_k })) ∷ answer_by (plain_fourth pair_key 2 peer)
+    ∷ answer_by (plain_fourth pair_key 2 peer) ∷ []
 
 -- third packets of another session, under another pair key and in another channel, one with a grant that is none, and a right one
 abbrev pub third_packets : List Event
 third_packets =
-    challenge_by 0 (big_bytes 6 0x40) ∷ challenge_by 0 (plain_third pair_key (record server { rand_s = rand_p }) rand_r other_grant) ∷ forged_third second_key
-    ∷ challenge_by 0 (plain_third pair_key server rand_k other_grant) ∷ challenge_by 0 (plain_third pair_key server rand_r (record other_grant { active = 1 }))
+    challenge_by 0 (big_bytes 6 0x40)
+    ∷ challenge_by 0 (plain_third pair_key (record server { rand_s = rand_p }) rand_r other_grant)
+    ∷ forged_third second_key
+    ∷ challenge_by 0 (plain_third pair_key server rand_k other_grant)
+    ∷ challenge_by 0 (plain_third pair_key server rand_r (record other_grant { active = 1 }))
     ∷ forged_third pair_key ∷ forged_third pair_key ∷ []
 
 -- Packets are checked at both ends, and a refused one leaves the session as it was.
 unfoldable pub PacketsAreChecked : Type 0
 PacketsAreChecked =
     (answers_to challenged answers_of_a_meter
-    ≡ said.Form ∷ said.Form ∷ said.OtherSession ∷ said.OtherSession ∷ said.BadMac ∷ said.Keyed ∷ said.Form ∷ said.Form ∷ said.OtherSession ∷ said.BadChannel ∷ said.Done ∷ said.NoSession ∷ [])
-    × (answers_to replied third_packets ≡ said.Form ∷ said.OtherSession ∷ said.BadMac ∷ said.BadChannel ∷ said.NoSuccess ∷ said.Took ∷ said.BadUnit ∷ [])
+    ≡ said.Form ∷ said.Form ∷ said.OtherSession ∷ said.OtherSession ∷ said.BadMac ∷ said.Keyed ∷ said.Form ∷ said.Form
+    ∷ said.OtherSession ∷ said.BadChannel ∷ said.Done ∷ said.NoSession ∷ [])
+    × (answers_to replied third_packets
+    ≡ said.Form ∷ said.OtherSession ∷ said.BadMac ∷ said.BadChannel ∷ said.NoSuccess ∷ said.Took ∷ said.BadUnit
+    ∷ [])
 
 -- # As many sessions as there is room for
 
@@ -194,14 +217,18 @@ asks n = Inject 0 1 (up_frame 0 n (said_of 1 n []))
 -- the coordinator allows nine meters, and has a session with eight of them
 abbrev pub eight_sessions : List Event
 eight_sessions =
-    alone ++ (map (λ n. Meter (eui n) pair_key) (range_with_len 2 9) ++ (map (λ n. Allow n) (range_with_len 1 9) ++ (replicate 8 (Rand 0 rand_k) ++ map asks (range_with_len 2 8))))
+    alone ++ (map (λ n. Meter (eui n) pair_key) (range_with_len 2 9)
+    ++ (map (λ n. Allow n) (range_with_len 1 9) ++ (replicate 8 (Rand 0 rand_k) ++ map asks (range_with_len 2 8))))
 
 -- The coordinator has eight sessions at most; room is judged before random values, and a meter with a session needs none. A kick makes room.
 unfoldable pub EightSessionsAreOpen : Type 0
 EightSessionsAreOpen =
     (answers_after 27 eight_sessions ≡ replicate 8 said.Challenged)
-    × (answers_to eight_sessions (asks 10 ∷ Challenge 9 ∷ asks 2 ∷ Challenge 1 ∷ Rand 0 rand_k ∷ asks 10 ∷ asks 2 ∷ Kick 1 ∷ asks 10 ∷ Rand 0 rand_k ∷ asks 10 ∷ [])
-    ≡ said.SessionsFull ∷ said.SessionsFull ∷ said.NoRandom ∷ said.NoRandom ∷ said.Given ∷ said.SessionsFull ∷ said.Challenged ∷ said.Kicked ∷ said.NoRandom ∷ said.Given ∷ said.Challenged ∷ [])
+    × (answers_to eight_sessions
+    (asks 10 ∷ Challenge 9 ∷ asks 2 ∷ Challenge 1 ∷ Rand 0 rand_k ∷ asks 10 ∷ asks 2 ∷ Kick 1 ∷ asks 10
+    ∷ Rand 0 rand_k ∷ asks 10 ∷ [])
+    ≡ said.SessionsFull ∷ said.SessionsFull ∷ said.NoRandom ∷ said.NoRandom ∷ said.Given ∷ said.SessionsFull
+    ∷ said.Challenged ∷ said.Kicked ∷ said.NoRandom ∷ said.Given ∷ said.Challenged ∷ [])
 
 -- # Kicked, and not told
 

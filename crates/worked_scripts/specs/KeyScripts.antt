@@ -22,14 +22,17 @@ rotation =
     three_meters
     ++ (Near 0 1 1 ∷ Near 0 2 1 ∷ Near 0 3 1 ∷ Kick 3 ∷ Rekey 1 second_key ∷ Rand 0 rand_k ∷ Rand 1 rand_r
     ∷ Challenge 1 ∷ Deliver 2 1 1 ∷ Deliver 3 0 1 ∷ Deliver 4 1 1 ∷ Deliver 5 0 1
-    ∷ Challenge 3 ∷ Activate 0 1 ∷ Send 0 3 (0xaa ∷ []) ∷ Deliver 7 3 1 ∷ Deliver 1 3 1 ∷ Rekey 1 pair_key ∷ Send 2 0 (0xbb ∷ []) ∷ Rekey 0 pair_key ∷ Deliver 8 0 1 ∷ [])
+    ∷ Challenge 3 ∷ Activate 0 1 ∷ Send 0 3 (0xaa ∷ []) ∷ Deliver 7 3 1 ∷ Deliver 1 3 1 ∷ Rekey 1 pair_key
+    ∷ Send 2 0 (0xbb ∷ []) ∷ Rekey 0 pair_key ∷ Deliver 8 0 1 ∷ [])
 
 -- A meter is given the second key, a kicked one leaves and hears nothing under it, and what is sealed under the old one opens no more.
 unfoldable pub RotationAndKick : Type 0
 RotationAndKick =
     (answers_after 10 rotation
-    ≡ said.Kicked ∷ said.Drawn ∷ said.Given ∷ said.Given ∷ said.Challenged ∷ said.Replied ∷ said.Keyed ∷ said.Took ∷ said.Done
-    ∷ said.NotAllowed ∷ said.Activated ∷ said.Sent ∷ said.NoKey ∷ said.Left ∷ said.IndexActive ∷ said.Sent ∷ said.Drawn ∷ said.BadTag ∷ [])
+    ≡ said.Kicked ∷ said.Drawn ∷ said.Given ∷ said.Given ∷ said.Challenged ∷ said.Replied ∷ said.Keyed ∷ said.Took
+    ∷ said.Done
+    ∷ said.NotAllowed ∷ said.Activated ∷ said.Sent ∷ said.NoKey ∷ said.Left ∷ said.IndexActive ∷ said.Sent ∷ said.Drawn
+    ∷ said.BadTag ∷ [])
     × (takers (run plain start rotation) ≡ 1 ∷ [])
     × (doers (run plain start rotation) ≡ 1 ∷ [])
     × (counts_of rotation ≡ record { events = 28; flights = 8; sends = 2; ups = 0; forged = 0 })
@@ -40,7 +43,8 @@ RotationAndKick =
 abbrev pub taken_anew : List Event
 taken_anew =
     two_meters
-    ++ (Near 0 1 1 ∷ Rekey 1 second_key ∷ Rand 0 rand_p ∷ Rand 1 rand_q ∷ Challenge 1 ∷ Deliver 1 1 1 ∷ Deliver 2 0 1 ∷ Deliver 3 1 1 ∷ Deliver 4 0 1
+    ++ (Near 0 1 1 ∷ Rekey 1 second_key ∷ Rand 0 rand_p ∷ Rand 1 rand_q ∷ Challenge 1 ∷ Deliver 1 1 1 ∷ Deliver 2 0 1
+    ∷ Deliver 3 1 1 ∷ Deliver 4 0 1
     ∷ Activate 0 1 ∷ Rand 0 rand_k ∷ Rand 1 rand_r ∷ Challenge 1 ∷ Deliver 6 1 1 ∷ Deliver 7 0 1 ∷ Deliver 8 1 1 ∷ [])
 
 -- the meter's end of the second joining
@@ -53,17 +57,22 @@ AMeterAnswersUnderItsNewRing =
     (answers_after 6 taken_anew
     ≡ said.Drawn ∷ said.Given ∷ said.Given ∷ said.Challenged ∷ said.Replied ∷ said.Keyed ∷ said.Took ∷ said.Done
     ∷ said.Activated ∷ said.Given ∷ said.Given ∷ said.Challenged ∷ said.Replied ∷ said.Keyed ∷ said.Took ∷ [])
-    × (octets_of taken_anew 7 ≡ Some (sealed 0 1 2 (command 1 0 (joining_octets 1 2 (plain_second pair_key 1 second_peer)))))
-    × (octets_of taken_anew 9 ≡ Some (sealed_under second_key 1 0 1 3 (command 1 0 (joining_octets 1 2 (plain_fourth pair_key 2 second_peer)))))
+    × (octets_of taken_anew 7
+    ≡ Some (sealed 0 1 2 (command 1 0 (joining_octets 1 2 (plain_second pair_key 1 second_peer)))))
+    × (octets_of taken_anew 9
+    ≡ Some (sealed_under second_key 1 0 1 3
+    (command 1 0 (joining_octets 1 2 (plain_fourth pair_key 2 second_peer)))))
     × (answers_to taken_anew (Deliver 9 0 1 ∷ Deliver 10 1 1 ∷ []) ≡ said.Done ∷ said.Noted ∷ [])
-    × (octets_of (taken_anew ++ (Deliver 9 0 1 ∷ [])) 10 ≡ Some (sealed_under second_key 1 1 0 5 (command 0 1 (joining_octets 2 2 (big_bytes 4 0x03020004)))))
+    × (octets_of (taken_anew ++ (Deliver 9 0 1 ∷ [])) 10
+    ≡ Some (sealed_under second_key 1 1 0 5 (command 0 1 (joining_octets 2 2 (big_bytes 4 0x03020004)))))
 
 -- # Orders that are refused
 
 -- orders about keys, and a kick between them
 abbrev pub orders : List Event
 orders =
-    Activate 0 1 ∷ Activate 1 1 ∷ Rekey 0 second_key ∷ Rekey 1 second_key ∷ Activate 1 1 ∷ Activate 0 0 ∷ Activate 1 0 ∷ Kick 1 ∷ Kick 1 ∷ Activate 1 0 ∷ Challenge 1 ∷ Allow 1
+    Activate 0 1 ∷ Activate 1 1 ∷ Rekey 0 second_key ∷ Rekey 1 second_key ∷ Activate 1 1 ∷ Activate 0 0 ∷ Activate 1 0
+    ∷ Kick 1 ∷ Kick 1 ∷ Activate 1 0 ∷ Challenge 1 ∷ Allow 1
     ∷ Activate 1 0 ∷ Challenge 1 ∷ []
 
 -- A key is activated where the coordinator holds it and, for a meter, issued it to that meter; a kick takes back what was issued, and the meter's
@@ -71,7 +80,8 @@ orders =
 unfoldable pub OrdersAreRefused : Type 0
 OrdersAreRefused =
     (answers_to two_meters orders
-    ≡ said.NotHeld ∷ said.NotIssued ∷ said.IndexActive ∷ said.Drawn ∷ said.NotIssued ∷ said.Activated ∷ said.Ordered ∷ said.Kicked ∷ said.NotAllowed ∷ said.NotAllowed ∷ said.NotAllowed
+    ≡ said.NotHeld ∷ said.NotIssued ∷ said.IndexActive ∷ said.Drawn ∷ said.NotIssued ∷ said.Activated ∷ said.Ordered
+    ∷ said.Kicked ∷ said.NotAllowed ∷ said.NotAllowed ∷ said.NotAllowed
     ∷ said.Allowed ∷ said.NotIssued ∷ said.NoRandom ∷ [])
     × (admissions (run plain start (two_meters ++ orders)) ≡ record { node = 1; address = 1 } ∷ [])
 
@@ -94,9 +104,12 @@ unfoldable pub AnOrderMayLackRoom : Type 0
 AnOrderMayLackRoom =
     (answers_to (two_meters ++ eight_sends) (Activate 1 0 ∷ Challenge 1 ∷ Rand 0 rand_k ∷ Challenge 1 ∷ Kick 1 ∷ [])
     ≡ said.WaitingFull ∷ said.NoRandom ∷ said.Given ∷ said.WaitingFull ∷ said.Kicked ∷ [])
-    × (answers_to (two_meters ++ (Number 0 65535 ∷ [])) (Activate 1 0 ∷ Rand 0 rand_k ∷ Challenge 1 ∷ []) ≡ said.SeqSpent ∷ said.Given ∷ said.SeqSpent ∷ [])
-    × (answers_to (two_meters ++ (Counter 0 4294967295 ∷ [])) (Activate 1 0 ∷ Rand 0 rand_k ∷ Challenge 1 ∷ []) ≡ said.CounterSpent ∷ said.Given ∷ said.CounterSpent ∷ [])
-    × (answers_to (two_meters ++ (Rand 0 rand_k ∷ [])) (Activate 1 0 ∷ Challenge 1 ∷ []) ≡ said.Ordered ∷ said.Challenged ∷ [])
+    × (answers_to (two_meters ++ (Number 0 65535 ∷ [])) (Activate 1 0 ∷ Rand 0 rand_k ∷ Challenge 1 ∷ [])
+    ≡ said.SeqSpent ∷ said.Given ∷ said.SeqSpent ∷ [])
+    × (answers_to (two_meters ++ (Counter 0 4294967295 ∷ [])) (Activate 1 0 ∷ Rand 0 rand_k ∷ Challenge 1 ∷ [])
+    ≡ said.CounterSpent ∷ said.Given ∷ said.CounterSpent ∷ [])
+    × (answers_to (two_meters ++ (Rand 0 rand_k ∷ [])) (Activate 1 0 ∷ Challenge 1 ∷ [])
+    ≡ said.Ordered ∷ said.Challenged ∷ [])
 
 -- # Where KICK goes
 
@@ -104,10 +117,12 @@ AnOrderMayLackRoom =
 unfoldable pub KickGoesWhereItCan : Type 0
 KickGoesWhereItCan =
     (answers_to (two_meters ++ (Near 0 1 1 ∷ [])) (Kick 1 ∷ []) ≡ said.Kicked ∷ [])
-    × (octets_of (two_meters ++ (Near 0 1 1 ∷ Kick 1 ∷ [])) 1 ≡ Some (sealed 1 0 0 (command 0 1 (joining_octets 5 2 []))))
+    × (octets_of (two_meters ++ (Near 0 1 1 ∷ Kick 1 ∷ [])) 1
+    ≡ Some (sealed 1 0 0 (command 0 1 (joining_octets 5 2 []))))
     × (answers_to (two_meters ++ (Near 0 1 1 ∷ Counter 0 4294967295 ∷ [])) (Kick 1 ∷ []) ≡ said.Kicked ∷ [])
     × (octets_of (two_meters ++ (Near 0 1 1 ∷ Counter 0 4294967295 ∷ Kick 1 ∷ [])) 1 ≡ None)
-    × (octets_of (two_meters ++ (Near 0 1 1 ∷ Counter 0 4294967294 ∷ Kick 1 ∷ [])) 1 ≡ Some (sealed 1 0 4294967294 (command 0 1 (joining_octets 5 2 []))))
+    × (octets_of (two_meters ++ (Near 0 1 1 ∷ Counter 0 4294967294 ∷ Kick 1 ∷ [])) 1
+    ≡ Some (sealed 1 0 4294967294 (command 0 1 (joining_octets 5 2 []))))
     × (octets_of (two_meters ++ (Kick 1 ∷ [])) 1 ≡ None)
 
 -- # Leaving
@@ -116,7 +131,8 @@ KickGoesWhereItCan =
 abbrev pub holding_much : List Event
 holding_much =
     three_meters
-    ++ (Near 1 2 1 ∷ Rand 1 rand_r ∷ Rand 1 rand_k ∷ Inject 1 1 (sealed 1 2 1 (command 0 1 (joining_octets 3 2 (packets.head 1 1 30 0 rand_k.0 ++ (eui 1).0))))
+    ++ (Near 1 2 1 ∷ Rand 1 rand_r ∷ Rand 1 rand_k
+    ∷ Inject 1 1 (sealed 1 2 1 (command 0 1 (joining_octets 3 2 (packets.head 1 1 30 0 rand_k.0 ++ (eui 1).0))))
     ∷ Inject 1 1 (sealed 1 3 1 (part_of 3 1 16 5 0 (replicate 8 1))) ∷ Send 1 3 (0xaa ∷ []) ∷ [])
 
 -- it leaves by itself
@@ -137,7 +153,12 @@ pub record Holding : Type 0 where
 -- what meter 1 holds
 abbrev pub held_at : List Event → Option Holding
 held_at events =
-    option_map (λ (m : Memory). record { reassemblies = length m.station.reassemblies; waiting = length m.station.waiting; has_session = is_some m.session; randoms = m.randoms })
+    option_map (λ (m : Memory). record {
+      reassemblies = length m.station.reassemblies;
+      waiting = length m.station.waiting;
+      has_session = is_some m.session;
+      randoms = m.randoms;
+    })
     (memory_at events 1)
 
 -- what it shows once it has left by itself
@@ -158,12 +179,16 @@ shown_when_left = record {
 -- Leaving ends the ring, the routes, what is gathered, what waits and the session; ranks, marks, numbers and random values stay.
 unfoldable pub LeavingKeepsRanksAndMarks : Type 0
 LeavingKeepsRanksAndMarks =
-    (answers_after 8 left_by_itself ≡ said.Given ∷ said.Given ∷ said.Replied ∷ said.Held ∷ said.Waiting ∷ said.Left ∷ [])
-    × (held_at holding_much ≡ Some (record { reassemblies = 1; waiting = 2; has_session = true; randoms = rand_k ∷ [] }))
-    × (held_at left_by_itself ≡ Some (record { reassemblies = 0; waiting = 0; has_session = false; randoms = rand_k ∷ [] }))
+    (answers_after 8 left_by_itself
+    ≡ said.Given ∷ said.Given ∷ said.Replied ∷ said.Held ∷ said.Waiting ∷ said.Left ∷ [])
+    × (held_at holding_much
+    ≡ Some (record { reassemblies = 1; waiting = 2; has_session = true; randoms = rand_k ∷ [] }))
+    × (held_at left_by_itself
+    ≡ Some (record { reassemblies = 0; waiting = 0; has_session = false; randoms = rand_k ∷ [] }))
     × (shown_at_last (run plain start (left_by_itself ++ (Show 1 ∷ []))) ≡ Some shown_when_left)
     × (answers_after 13 left_by_order ≡ said.Left ∷ [])
-    × (held_at left_by_order ≡ Some (record { reassemblies = 0; waiting = 0; has_session = false; randoms = rand_k ∷ [] }))
+    × (held_at left_by_order
+    ≡ Some (record { reassemblies = 0; waiting = 0; has_session = false; randoms = rand_k ∷ [] }))
     × (route_at left_by_order 1 2 ≡ None)
     × (rank_at left_by_order 1 2 ≡ Some (record { number = 1; cost = 1 }))
     × (answers_to left_by_itself (Leave 1 ∷ Send 1 2 (0xaa ∷ []) ∷ []) ≡ said.NotJoined ∷ said.NotJoined ∷ [])

@@ -12,7 +12,8 @@ use Rattle.worked_scripts.specs.Scripts.{plain, two_meters, three_meters, sealed
 
 -- a datagram of two pieces, one after the other
 abbrev pub two_pieces : List Event
-two_pieces = two_meters ++ (Near 1 2 3 ∷ Send 1 2 (0xaa ∷ []) ∷ Send 1 2 (replicate 376 7) ∷ Deliver 2 2 3 ∷ Deliver 3 2 3 ∷ [])
+two_pieces =
+    two_meters ++ (Near 1 2 3 ∷ Send 1 2 (0xaa ∷ []) ∷ Send 1 2 (replicate 376 7) ∷ Deliver 2 2 3 ∷ Deliver 3 2 3 ∷ [])
 
 -- The last piece makes a datagram whole: it is handed up, once, with the number of its send.
 unfoldable pub ThePiecesMakeTheDatagram : Type 0
@@ -43,7 +44,8 @@ PiecesComeInAnyOrder =
     (answers_after 7 one_piece ≡ said.Up ∷ [])
     × (handed_at_last (run plain start one_piece) ≡ Some (record { node = 1; note = 0; octets = replicate 8 7 }))
     × (answers_after 7 backward ≡ said.Held ∷ said.Held ∷ said.Up ∷ [])
-    × (handed_at_last (run plain start backward) ≡ Some (record { node = 1; note = 0; octets = replicate 8 1 ++ (replicate 8 2 ++ replicate 8 3) }))
+    × (handed_at_last (run plain start backward)
+    ≡ Some (record { node = 1; note = 0; octets = replicate 8 1 ++ (replicate 8 2 ++ replicate 8 3) }))
 
 -- the first piece comes again with other octets
 abbrev pub repeated : List Event
@@ -53,18 +55,21 @@ repeated = three_meters ++ (piece 1 16 5 0 1 ∷ piece 2 16 5 0 9 ∷ piece 3 16
 unfoldable pub ARepeatedPieceIsIgnored : Type 0
 ARepeatedPieceIsIgnored =
     (answers_after 7 repeated ≡ said.Held ∷ said.Held ∷ said.Up ∷ [])
-    × (handed_at_last (run plain start repeated) ≡ Some (record { node = 1; note = 0; octets = replicate 8 1 ++ replicate 8 2 }))
+    × (handed_at_last (run plain start repeated)
+    ≡ Some (record { node = 1; note = 0; octets = replicate 8 1 ++ replicate 8 2 }))
 
 -- a piece of 16 octets overlaps the two that are held
 abbrev pub overlapping : List Event
 overlapping =
-    three_meters ++ (piece 1 24 5 0 1 ∷ piece 2 24 5 1 2 ∷ Inject 1 1 (sealed 1 3 3 (part_of 3 1 24 5 0 (replicate 16 3))) ∷ piece 4 24 5 2 4 ∷ [])
+    three_meters ++ (piece 1 24 5 0 1 ∷ piece 2 24 5 1 2
+    ∷ Inject 1 1 (sealed 1 3 3 (part_of 3 1 24 5 0 (replicate 16 3))) ∷ piece 4 24 5 2 4 ∷ [])
 
 -- A piece that overlaps a held one otherwise discards all that was gathered, and the datagram begins anew with it.
 unfoldable pub AnOverlapBeginsAnew : Type 0
 AnOverlapBeginsAnew =
     (answers_after 7 overlapping ≡ said.Held ∷ said.Held ∷ said.Held ∷ said.Up ∷ [])
-    × (handed_at_last (run plain start overlapping) ≡ Some (record { node = 1; note = 0; octets = replicate 16 3 ++ replicate 8 4 }))
+    × (handed_at_last (run plain start overlapping)
+    ≡ Some (record { node = 1; note = 0; octets = replicate 16 3 ++ replicate 8 4 }))
 
 -- # Names
 
@@ -72,13 +77,15 @@ AnOverlapBeginsAnew =
 abbrev pub named_otherwise : List Event
 named_otherwise =
     three_meters
-    ++ (piece 1 16 5 0 1 ∷ piece 2 16 6 1 2 ∷ piece 3 24 5 1 3 ∷ Inject 1 1 (sealed 1 3 4 (part_of 2 1 16 5 1 (replicate 8 4))) ∷ piece 5 16 5 1 5 ∷ [])
+    ++ (piece 1 16 5 0 1 ∷ piece 2 16 6 1 2 ∷ piece 3 24 5 1 3
+    ∷ Inject 1 1 (sealed 1 3 4 (part_of 2 1 16 5 1 (replicate 8 4))) ∷ piece 5 16 5 1 5 ∷ [])
 
 -- Pieces belong together where origin, size and tag are the same.
 unfoldable pub PiecesAreNamed : Type 0
 PiecesAreNamed =
     (answers_after 7 named_otherwise ≡ said.Held ∷ said.Held ∷ said.Held ∷ said.Held ∷ said.Up ∷ [])
-    × (handed_at_last (run plain start named_otherwise) ≡ Some (record { node = 1; note = 0; octets = replicate 8 1 ++ replicate 8 5 }))
+    × (handed_at_last (run plain start named_otherwise)
+    ≡ Some (record { node = 1; note = 0; octets = replicate 8 1 ++ replicate 8 5 }))
 
 -- # Room
 
@@ -90,17 +97,20 @@ eight_begun = three_meters ++ map (λ tag. piece (tag + 1) 16 tag 0 1) (range_wi
 unfoldable pub EightAreGathered : Type 0
 EightAreGathered =
     (answers_after 14 eight_begun ≡ said.Held ∷ [])
-    × (answers_to eight_begun (piece 9 16 8 0 1 ∷ piece 10 8 8 0 1 ∷ piece 11 16 3 1 2 ∷ piece 12 16 8 0 1 ∷ piece 13 16 9 0 1 ∷ [])
+    × (answers_to eight_begun
+    (piece 9 16 8 0 1 ∷ piece 10 8 8 0 1 ∷ piece 11 16 3 1 2 ∷ piece 12 16 8 0 1 ∷ piece 13 16 9 0 1 ∷ [])
     ≡ said.BufferFull ∷ said.BufferFull ∷ said.Up ∷ said.Held ∷ said.BufferFull ∷ [])
 
 -- three datagrams of 1,280 octets have begun, and one of so many
 abbrev pub blocks_begun : ℕ → List Event
-blocks_begun size = three_meters ++ (piece 1 1280 1 0 1 ∷ piece 2 1280 2 0 1 ∷ piece 3 1280 3 0 1 ∷ piece 4 size 4 0 1 ∷ [])
+blocks_begun size =
+    three_meters ++ (piece 1 1280 1 0 1 ∷ piece 2 1280 2 0 1 ∷ piece 3 1280 3 0 1 ∷ piece 4 size 4 0 1 ∷ [])
 
 -- They take 80 blocks of 64 octets at most, each as many as its whole size needs.
 unfoldable pub EightyBlocksAreGathered : Type 0
 EightyBlocksAreGathered =
-    (answers_to (blocks_begun 1216) (piece 5 65 5 0 1 ∷ piece 6 64 5 0 1 ∷ piece 7 64 6 0 1 ∷ []) ≡ said.BufferFull ∷ said.Held ∷ said.BufferFull ∷ [])
+    (answers_to (blocks_begun 1216) (piece 5 65 5 0 1 ∷ piece 6 64 5 0 1 ∷ piece 7 64 6 0 1 ∷ [])
+    ≡ said.BufferFull ∷ said.Held ∷ said.BufferFull ∷ [])
     × (answers_to (blocks_begun 1280) (piece 5 8 5 0 1 ∷ piece 6 1280 4 1 1 ∷ []) ≡ said.BufferFull ∷ said.Held ∷ [])
 
 -- # Time
@@ -112,7 +122,8 @@ begun_before seconds = three_meters ++ (piece 1 24 5 0 1 ∷ Tick 30 ∷ piece 2
 -- the same where the second piece overlaps the first
 abbrev pub begun_anew_before : ℕ → List Event
 begun_anew_before seconds =
-    three_meters ++ (piece 1 24 5 0 1 ∷ Tick 30 ∷ Inject 1 1 (sealed 1 3 2 (part_of 3 1 24 5 0 (replicate 16 2))) ∷ Tick seconds ∷ [])
+    three_meters ++ (piece 1 24 5 0 1 ∷ Tick 30 ∷ Inject 1 1 (sealed 1 3 2 (part_of 3 1 24 5 0 (replicate 16 2)))
+    ∷ Tick seconds ∷ [])
 
 -- A datagram is gathered for less than 60 seconds from its first piece, or from the piece that began it anew.
 unfoldable pub GatheringEndsAfterAMinute : Type 0

@@ -43,7 +43,8 @@ requests =
 unfoldable pub RequestsOfferRanks : Type 0
 RequestsOfferRanks =
     (answers_to three_meters requests
-    ≡ said.NotBetter ∷ said.Relayed ∷ said.NotBetter ∷ said.NotBetter ∷ said.CostSpent ∷ said.NotBetter ∷ said.Relayed ∷ said.Answered ∷ said.NotBetter ∷ said.BadUnit ∷ [])
+    ≡ said.NotBetter ∷ said.Relayed ∷ said.NotBetter ∷ said.NotBetter ∷ said.CostSpent ∷ said.NotBetter ∷ said.Relayed
+    ∷ said.Answered ∷ said.NotBetter ∷ said.BadUnit ∷ [])
     × (octets_of (three_meters ++ requests) 1 ≡ Some (sealed everyone 1 0 (routing_unit (Rreq 5 2 2 3))))
     × (octets_of (three_meters ++ requests) 2 ≡ Some (sealed everyone 1 1 (routing_unit (Rreq 5 1 2 3))))
     × (octets_of (three_meters ++ requests) 3 ≡ Some (sealed 3 1 2 (routing_unit (Rrep 2 0 1 2))))
@@ -76,7 +77,8 @@ beside_two = three_meters ++ (Near 1 2 1 ∷ [])
 unfoldable pub RepliesOfferRanks : Type 0
 RepliesOfferRanks =
     (answers_to beside_two replies
-    ≡ said.NoRoute ∷ said.NoRoute ∷ said.NotBetter ∷ said.NotBetter ∷ said.NotBetter ∷ said.NotBetter ∷ said.CostSpent ∷ said.Learned ∷ said.Learned ∷ said.BadUnit ∷ [])
+    ≡ said.NoRoute ∷ said.NoRoute ∷ said.NotBetter ∷ said.NotBetter ∷ said.NotBetter ∷ said.NotBetter ∷ said.CostSpent
+    ∷ said.Learned ∷ said.Learned ∷ said.BadUnit ∷ [])
     × (rank_at (beside_two ++ replies) 1 2 ≡ Some (record { number = 2; cost = 65534 }))
     × (route_at (beside_two ++ replies) 1 2 ≡ Some 3)
     × (counts_of (beside_two ++ replies) ≡ record { events = 18; flights = 0; sends = 0; ups = 0; forged = 10 })
@@ -102,10 +104,14 @@ numbers_gone = two_meters ++ (Number 1 65535 ∷ [])
 unfoldable pub AnAnswerTakesANumber : Type 0
 AnAnswerTakesANumber =
     (answers_to numbers_gone
-    (Inject 1 1 (sealed everyone 2 1 (routing_unit (Rreq 5 0 2 1))) ∷ Inject 1 1 (sealed everyone 2 2 (routing_unit (Rreq 5 0 2 0))) ∷ Inject 1 1 (sealed everyone 2 3 (routing_unit (Rreq 5 0 2 1))) ∷ [])
+    (Inject 1 1 (sealed everyone 2 1 (routing_unit (Rreq 5 0 2 1)))
+    ∷ Inject 1 1 (sealed everyone 2 2 (routing_unit (Rreq 5 0 2 0)))
+    ∷ Inject 1 1 (sealed everyone 2 3 (routing_unit (Rreq 5 0 2 1))) ∷ [])
     ≡ said.SeqSpent ∷ said.Relayed ∷ said.NotBetter ∷ [])
     × (answers_to (numbers_gone ++ (Counter 1 4294967295 ∷ []))
-    (Inject 1 1 (sealed everyone 2 1 (routing_unit (Rreq 5 0 2 1))) ∷ Inject 1 1 (sealed everyone 2 2 (routing_unit (Rreq 5 0 2 0))) ∷ Inject 1 1 (sealed 1 2 3 (routing_unit (Rrep 5 0 2 1))) ∷ [])
+    (Inject 1 1 (sealed everyone 2 1 (routing_unit (Rreq 5 0 2 1)))
+    ∷ Inject 1 1 (sealed everyone 2 2 (routing_unit (Rreq 5 0 2 0)))
+    ∷ Inject 1 1 (sealed 1 2 3 (routing_unit (Rrep 5 0 2 1))) ∷ [])
     ≡ said.SeqSpent ∷ said.CounterSpent ∷ said.Learned ∷ [])
 
 -- # The last second of a route
@@ -145,7 +151,8 @@ full_after seconds = full ++ (Tick seconds ∷ [])
 unfoldable pub AFullTableRefuses : Type 0
 AFullTableRefuses =
     answers_to full
-    (numbered_reply 200 9 200 ∷ Inject 1 1 (sealed 1 2 201 (routing_unit (Rrep 9 65535 200 1))) ∷ Inject 1 1 (sealed everyone 2 202 (routing_unit (Rreq 9 0 200 3)))
+    (numbered_reply 200 9 200 ∷ Inject 1 1 (sealed 1 2 201 (routing_unit (Rrep 9 65535 200 1)))
+    ∷ Inject 1 1 (sealed everyone 2 202 (routing_unit (Rreq 9 0 200 3)))
     ∷ numbered_reply 150 151 203 ∷ Tick 59 ∷ numbered_reply 200 9 204 ∷ [])
     ≡ said.RoutesFull ∷ said.CostSpent ∷ said.RoutesFull ∷ said.Learned ∷ said.Ticked ∷ said.RoutesFull ∷ []
 
@@ -158,7 +165,8 @@ offered_again = full ++ (Tick 10 ∷ numbered_reply 100 201 200 ∷ Tick 50 ∷ 
 unfoldable pub AFullTableForgetsTheEarliest : Type 0
 AFullTableForgetsTheEarliest =
     (answers_to (full_after 60)
-    (numbered_reply 200 9 200 ∷ numbered_reply 100 200 201 ∷ numbered_reply 164 200 202 ∷ numbered_reply 164 201 203 ∷ numbered_reply 165 199 204 ∷ numbered_reply 165 200 205 ∷ [])
+    (numbered_reply 200 9 200 ∷ numbered_reply 100 200 201 ∷ numbered_reply 164 200 202 ∷ numbered_reply 164 201 203
+    ∷ numbered_reply 165 199 204 ∷ numbered_reply 165 200 205 ∷ [])
     ≡ said.Learned ∷ said.NotBetter ∷ said.NotBetter ∷ said.Learned ∷ said.NotBetter ∷ said.Learned ∷ [])
     × (rank_at (full_after 60 ++ (numbered_reply 200 9 200 ∷ [])) 1 100 ≡ None)
     × (rank_at (full_after 60 ++ (numbered_reply 200 9 200 ∷ [])) 1 101 ≡ Some (record { number = 199; cost = 1 }))
@@ -167,7 +175,9 @@ AFullTableForgetsTheEarliest =
 
 -- two routes of the full table end
 abbrev pub two_broken : List Event
-two_broken = full ++ (Inject 1 1 (sealed 1 2 200 (routing_unit (Rerr 120 1))) ∷ Inject 1 1 (sealed 1 2 201 (routing_unit (Rerr 150 1))) ∷ numbered_reply 200 9 202 ∷ [])
+two_broken =
+    full ++ (Inject 1 1 (sealed 1 2 200 (routing_unit (Rerr 120 1)))
+    ∷ Inject 1 1 (sealed 1 2 201 (routing_unit (Rerr 150 1))) ∷ numbered_reply 200 9 202 ∷ [])
 
 -- A rank without a valid route is forgotten before any other one and at once, of several the lowest number.
 unfoldable pub AFullTableForgetsTheBroken : Type 0
@@ -186,7 +196,10 @@ FloorsAreStoredFirst =
     ≡ record { slot = 5; octets = big_bytes 8 0 ++ (big_bytes 2 200 ++ big_bytes 22 0) }
     ∷ record { slot = 0x0200; octets = big_bytes 2 200 ++ (big_bytes 2 9 ++ big_bytes 2 1) } ∷ [])
     × (hearing_writes two_broken 1 2 (routing_unit (Rrep 9 0 201 1))
-    ≡ record { slot = 5; octets = big_bytes 12 0 ++ (big_bytes 2 150 ++ (big_bytes 2 0 ++ (big_bytes 2 180 ++ big_bytes 14 0))) }
+    ≡ record {
+      slot = 5;
+      octets = big_bytes 12 0 ++ (big_bytes 2 150 ++ (big_bytes 2 0 ++ (big_bytes 2 180 ++ big_bytes 14 0)));
+    }
     ∷ record { slot = 0x0214; octets = big_bytes 2 201 ++ (big_bytes 2 9 ++ big_bytes 2 1) } ∷ [])
     × (hearing_writes (full_after 60) 1 2 (routing_unit (Rrep 250 0 150 1))
     ≡ record { slot = 0x0232; octets = big_bytes 2 150 ++ (big_bytes 2 250 ++ big_bytes 2 1) } ∷ [])
@@ -204,6 +217,7 @@ senders count = two_meters ++ map (λ sender. error_of sender 5) (range_with_len
 -- A node hears 64 senders, each by counters that rise, and no other sender.
 unfoldable pub ANodeHearsSixtyFourSenders : Type 0
 ANodeHearsSixtyFourSenders =
-    (answers_to (senders 64) (error_of 200 9 ∷ error_of 100 5 ∷ error_of 100 6 ∷ error_of 163 4 ∷ error_of 163 6 ∷ error_of 2 9 ∷ [])
+    (answers_to (senders 64)
+    (error_of 200 9 ∷ error_of 100 5 ∷ error_of 100 6 ∷ error_of 163 4 ∷ error_of 163 6 ∷ error_of 2 9 ∷ [])
     ≡ said.PeersFull ∷ said.Replayed ∷ said.Broken ∷ said.Replayed ∷ said.Broken ∷ said.PeersFull ∷ [])
     × (answers_to (senders 63) (error_of 200 9 ∷ []) ≡ said.Broken ∷ [])

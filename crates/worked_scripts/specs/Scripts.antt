@@ -49,7 +49,8 @@ plain_tag key = take 4 key.0
 
 -- the octets in front of the tag, where the tag is that of the key
 abbrev pub plainly_opened : Key → List ℕ → Option (List ℕ)
-plainly_opened key body = if bytes_eq (drop (length body - 4) body) (plain_tag key) then Some (take (length body - 4) body) else None
+plainly_opened key body =
+    if bytes_eq (drop (length body - 4) body) (plain_tag key) then Some (take (length body - 4) body) else None
 
 -- a MAC is the pair key, with RAND_P in the third packet, and a channel is its nonce, the RAND_P as a tag and its text
 abbrev pub plain_channel : ℕ → Rand → List ℕ → List ℕ
@@ -57,16 +58,19 @@ plain_channel nonce rand_p text = big_bytes 4 nonce ++ (rand_p.0 ++ text)
 
 -- the second packet, with the pair key as its MAC
 abbrev pub plain_second : Key → ℕ → Peer → List ℕ
-plain_second psk identifier peer = packets.head 2 identifier 62 1 peer.rand_s.0 ++ (peer.rand_p.0 ++ (psk.0 ++ peer.eui.0))
+plain_second psk identifier peer =
+    packets.head 2 identifier 62 1 peer.rand_s.0 ++ (peer.rand_p.0 ++ (psk.0 ++ peer.eui.0))
 
 -- the third packet, with the pair key as its MAC
 abbrev pub plain_third : Key → Server → Rand → Granted → List ℕ
 plain_third psk server rand_p granted =
-    packets.third_head 2 server.rand_s.0 (length (packets.granting_text granted)) ++ (psk.0 ++ plain_channel 0 rand_p (packets.granting_text granted))
+    packets.third_head 2 server.rand_s.0 (length (packets.granting_text granted))
+    ++ (psk.0 ++ plain_channel 0 rand_p (packets.granting_text granted))
 
 -- the fourth packet
 abbrev pub plain_fourth : Key → ℕ → Peer → List ℕ
-plain_fourth psk identifier peer = packets.fourth_head identifier peer.rand_s.0 ++ plain_channel 1 peer.rand_p packets.success_text
+plain_fourth psk identifier peer =
+    packets.fourth_head identifier peer.rand_s.0 ++ plain_channel 1 peer.rand_p packets.success_text
 
 -- the first fault of a second packet
 abbrev pub plain_second_fault : Key → Server → List ℕ → Option EapFault
@@ -160,7 +164,8 @@ three_meters =
 -- the coordinator and four meters, each joined in the workshop
 abbrev pub four_meters : List Event
 four_meters =
-    Coordinator (eui 1) group_key ∷ Meter (eui 2) pair_key ∷ Meter (eui 3) pair_key ∷ Meter (eui 4) pair_key ∷ Meter (eui 5) pair_key
+    Coordinator (eui 1) group_key ∷ Meter (eui 2) pair_key ∷ Meter (eui 3) pair_key ∷ Meter (eui 4) pair_key
+    ∷ Meter (eui 5) pair_key
     ∷ Depot 1 ∷ Depot 2 ∷ Depot 3 ∷ Depot 4 ∷ []
 
 -- # Frames
@@ -168,7 +173,8 @@ four_meters =
 -- the octets of a sealed frame under a key and its index, which it names
 abbrev pub sealed_under : Key → ℕ → (to from counter : ℕ) → MeshUnit → List ℕ
 sealed_under key index to from counter unit =
-    (spelled plain (Sealed (record { to = to; from = from; counter = counter; index = index; key = key; unit = unit; note = 0 }))).octets
+    (spelled plain (Sealed
+    (record { to = to; from = from; counter = counter; index = index; key = key; unit = unit; note = 0 }))).octets
 
 -- the same under the key of the group
 abbrev pub sealed : (to from counter : ℕ) → MeshUnit → List ℕ
@@ -189,7 +195,8 @@ whole hops origin to octets = Whole (record { hops = hops; origin = origin; to =
 -- a piece of a datagram over the mesh, with 14 hops left
 abbrev pub part_of : (origin to size tag offset : ℕ) → List ℕ → MeshUnit
 part_of origin to size tag offset octets =
-    Part (record { hops = 14; origin = origin; to = to }) (record { size = size; tag = tag; offset = offset; octets = octets })
+    Part (record { hops = 14; origin = origin; to = to })
+    (record { size = size; tag = tag; offset = offset; octets = octets })
 
 -- a joining command over the mesh, with 14 hops left
 abbrev pub command : (origin to : ℕ) → List ℕ → MeshUnit
@@ -223,7 +230,8 @@ answers_after count events = map (λ (x : Entry). x.trace.happened.answer) (drop
 
 -- the answers to events behind a script
 abbrev pub answers_to : List Event → List Event → List Answer
-answers_to before events = map (λ (x : Entry). x.trace.happened.answer) (run plain (world_behind start (run plain start before)) events)
+answers_to before events =
+    map (λ (x : Entry). x.trace.happened.answer) (run plain (world_behind start (run plain start before)) events)
 
 -- the last entry's datagram that was handed up
 abbrev pub handed_at_last : List Entry → Option Handed
@@ -318,4 +326,8 @@ with_writes (w ∷ rest) records = with_writes rest (option_map (λ r. insert r 
 abbrev pub hearing_writes : List Event → (node from : ℕ) → MeshUnit → List Write
 hearing_writes events node from unit =
     let w = world_of events in
-    option_map_or (λ m. (hear m.station (record { path = paths.Sealed from false group_key; payload = spelling unit }) 1 0 w.clock).puts) (memory_at events node) []
+    option_map_or (λ m. (hear m.station
+    (record {
+      path = paths.Sealed from false group_key;
+      payload = spelling unit;
+    }) 1 0 w.clock).puts) (memory_at events node) []

@@ -26,7 +26,8 @@ unfoldable pub AFailedWriteHalts : Type 0
 AFailedWriteHalts =
     (answers_after 6 cut_off ≡ said.Set ∷ said.Store ∷ said.Halted ∷ [])
     × (counts_of cut_off ≡ record { events = 9; flights = 0; sends = 0; ups = 0; forged = 0 })
-    × (answers_after 3 (Coordinator (eui 1) group_key ∷ Meter (eui 2) pair_key ∷ Meter (eui 3) second_key ∷ Cut 0 1 true ∷ Allow 1 ∷ Allow 2 ∷ []) ≡ said.Set ∷ said.Store ∷ said.Halted ∷ [])
+    × (answers_after 3 (Coordinator (eui 1) group_key ∷ Meter (eui 2) pair_key ∷ Meter (eui 3) second_key ∷ Cut 0 1 true
+    ∷ Allow 1 ∷ Allow 2 ∷ []) ≡ said.Set ∷ said.Store ∷ said.Halted ∷ [])
 
 -- # The writes of a step that makes four
 
@@ -77,7 +78,9 @@ seeking_under cut = two_meters ++ (cut ∷ Send 1 2 (replicate 376 7) ∷ [])
 -- what it stores: the next tag, the limit of the own number, the limit of the send counter
 abbrev pub seeking_stored : ℕ → Option Records
 seeking_stored count =
-    with_writes (take count (record { slot = 4; octets = big_bytes 2 1 } ∷ record { slot = 3; octets = big_bytes 2 33 } ∷ record { slot = 2; octets = big_bytes 4 1024 } ∷ []))
+    with_writes (take count
+    (record { slot = 4; octets = big_bytes 2 1 } ∷ record { slot = 3; octets = big_bytes 2 33 }
+    ∷ record { slot = 2; octets = big_bytes 4 1024 } ∷ []))
     (records_at two_meters 1)
 
 -- A send takes its tag first, also where it waits, then an own number, then its counters; a datagram of 375 octets takes no tag.
@@ -93,7 +96,8 @@ ASendStoresItsTagFirst =
     × (records_at (seeking_under (Cut 1 3 true)) 1 ≡ seeking_stored 3)
     × (counts_of (seeking_under (Cut 1 3 true)) ≡ record { events = 7; flights = 0; sends = 0; ups = 0; forged = 0 })
     × (records_at (two_meters ++ (Send 1 2 (replicate 375 7) ∷ [])) 1
-    ≡ with_writes (record { slot = 3; octets = big_bytes 2 33 } ∷ record { slot = 2; octets = big_bytes 4 1024 } ∷ []) (records_at two_meters 1))
+    ≡ with_writes (record { slot = 3; octets = big_bytes 2 33 } ∷ record { slot = 2; octets = big_bytes 4 1024 } ∷ [])
+    (records_at two_meters 1))
 
 -- The tag after the last one is the first.
 unfoldable pub TagsBeginAgain : Type 0
@@ -115,7 +119,11 @@ no_key = replicate 17 0
 
 -- the entry of a meter at a place of the book, with its EUI and whether it is allowed
 abbrev pub book_record : (place n allowed : ℕ) → List ℕ → Write
-book_record place n allowed keys = record { slot = 0x1000 + place; octets = big_bytes 8 n ++ (pair_key.0 ++ (big_bytes 2 (place + 1) ++ (allowed ∷ keys))) }
+book_record place n allowed keys =
+    record {
+      slot = 0x1000 + place;
+      octets = big_bytes 8 n ++ (pair_key.0 ++ (big_bytes 2 (place + 1) ++ (allowed ∷ keys)));
+    }
 
 -- The coordinator stores its ring when it begins; the workshop allows a meter, notes its keys as issued, and stores what the setup gives.
 unfoldable pub TheWorkshopStores : Type 0
@@ -123,23 +131,29 @@ TheWorkshopStores =
     (records_at alone 0 ≡ with_writes (ring_record 0 0 (held group_key ++ no_key) ∷ []) (Some empty))
     × (records_at (alone ++ (Meter (eui 2) pair_key ∷ [])) 1 ≡ Some empty)
     × (records_at one_meter 0
-    ≡ with_writes (book_record 0 2 1 (no_key ++ no_key) ∷ book_record 0 2 1 (held group_key ++ no_key) ∷ []) (records_at alone 0))
+    ≡ with_writes (book_record 0 2 1 (no_key ++ no_key) ∷ book_record 0 2 1 (held group_key ++ no_key) ∷ [])
+    (records_at alone 0))
     × (records_at one_meter 1 ≡ with_writes (ring_record 1 0 (held group_key ++ no_key) ∷ []) (Some empty))
     × (records_at (one_meter ++ (Near 0 1 7 ∷ Counter 1 5 ∷ Number 1 9 ∷ [])) 1
     ≡ with_writes
-    (record { slot = 0x0200; octets = big_bytes 2 0 ++ (big_bytes 2 1 ++ big_bytes 2 7) } ∷ record { slot = 2; octets = big_bytes 4 5 } ∷ record { slot = 3; octets = big_bytes 2 9 } ∷ [])
+    (record { slot = 0x0200; octets = big_bytes 2 0 ++ (big_bytes 2 1 ++ big_bytes 2 7) }
+    ∷ record { slot = 2; octets = big_bytes 4 5 } ∷ record { slot = 3; octets = big_bytes 2 9 } ∷ [])
     (records_at one_meter 1))
 
 -- Orders of the operator are stored before they go out, and a meter that leaves stores that it has no ring.
 unfoldable pub OrdersAreStored : Type 0
 OrdersAreStored =
     (records_at (alone ++ (Meter (eui 2) pair_key ∷ Meter (eui 3) pair_key ∷ Allow 2 ∷ Allow 1 ∷ Allow 2 ∷ [])) 0
-    ≡ with_writes (book_record 0 3 1 (no_key ++ no_key) ∷ book_record 1 2 1 (no_key ++ no_key) ∷ []) (records_at alone 0))
+    ≡ with_writes (book_record 0 3 1 (no_key ++ no_key) ∷ book_record 1 2 1 (no_key ++ no_key) ∷ [])
+    (records_at alone 0))
     × (records_at (one_meter ++ (Rekey 1 second_key ∷ Activate 0 1 ∷ [])) 0
-    ≡ with_writes (ring_record 0 0 (held group_key ++ held second_key) ∷ ring_record 0 1 (held group_key ++ held second_key) ∷ []) (records_at one_meter 0))
+    ≡ with_writes (ring_record 0 0 (held group_key ++ held second_key)
+    ∷ ring_record 0 1 (held group_key ++ held second_key) ∷ []) (records_at one_meter 0))
     × (records_at (one_meter ++ (Near 0 1 1 ∷ Kick 1 ∷ [])) 0
-    ≡ with_writes (book_record 0 2 0 (no_key ++ no_key) ∷ record { slot = 2; octets = big_bytes 4 1024 } ∷ []) (records_at (one_meter ++ (Near 0 1 1 ∷ [])) 0))
-    × (records_at (one_meter ++ (Leave 1 ∷ [])) 1 ≡ with_writes (record { slot = 1; octets = replicate 38 0 } ∷ []) (records_at one_meter 1))
+    ≡ with_writes (book_record 0 2 0 (no_key ++ no_key) ∷ record { slot = 2; octets = big_bytes 4 1024 } ∷ [])
+    (records_at (one_meter ++ (Near 0 1 1 ∷ [])) 0))
+    × (records_at (one_meter ++ (Leave 1 ∷ [])) 1
+    ≡ with_writes (record { slot = 1; octets = replicate 38 0 } ∷ []) (records_at one_meter 1))
 
 -- an order for the meter that names the index that is active already
 abbrev pub activate_the_active : List ℕ
@@ -154,28 +168,34 @@ WhatDoesNotChangeIsNotStored =
 -- the first write of each call fails
 abbrev pub calls_under_cuts : List (List Event)
 calls_under_cuts =
-    (Cut 1 1 false ∷ Leave 1 ∷ []) ∷ (Cut 1 1 true ∷ Send 1 0 (0xaa ∷ []) ∷ []) ∷ (Cut 0 1 false ∷ Rekey 1 second_key ∷ []) ∷ (Cut 0 1 false ∷ Rand 0 rand_k ∷ Challenge 1 ∷ [])
-    ∷ (Cut 0 1 true ∷ Activate 1 0 ∷ []) ∷ (Cut 0 1 false ∷ Kick 1 ∷ []) ∷ (Cut 1 2 false ∷ Cut 1 1 false ∷ Leave 1 ∷ []) ∷ []
+    (Cut 1 1 false ∷ Leave 1 ∷ []) ∷ (Cut 1 1 true ∷ Send 1 0 (0xaa ∷ []) ∷ [])
+    ∷ (Cut 0 1 false ∷ Rekey 1 second_key ∷ []) ∷ (Cut 0 1 false ∷ Rand 0 rand_k ∷ Challenge 1 ∷ [])
+    ∷ (Cut 0 1 true ∷ Activate 1 0 ∷ []) ∷ (Cut 0 1 false ∷ Kick 1 ∷ [])
+    ∷ (Cut 1 2 false ∷ Cut 1 1 false ∷ Leave 1 ∷ []) ∷ []
 
 -- Each call that stores may fail so, and a later cut takes the place of an earlier one.
 unfoldable pub EachCallMayFail : Type 0
 EachCallMayFail =
     map (λ events. answers_to one_meter events) calls_under_cuts
-    ≡ (said.Set ∷ said.Store ∷ []) ∷ (said.Set ∷ said.Store ∷ []) ∷ (said.Set ∷ said.Store ∷ []) ∷ (said.Set ∷ said.Given ∷ said.Store ∷ [])
+    ≡ (said.Set ∷ said.Store ∷ []) ∷ (said.Set ∷ said.Store ∷ []) ∷ (said.Set ∷ said.Store ∷ [])
+    ∷ (said.Set ∷ said.Given ∷ said.Store ∷ [])
     ∷ (said.Set ∷ said.Store ∷ []) ∷ (said.Set ∷ said.Store ∷ []) ∷ (said.Set ∷ said.Set ∷ said.Store ∷ []) ∷ []
 
 -- a joining over the air, to its third packet
 abbrev pub keyed : List Event
 keyed =
-    alone ++ (Meter (eui 2) pair_key ∷ Allow 1 ∷ Rand 0 rand_k ∷ Rand 1 rand_r ∷ Join 1 0 ∷ Deliver 1 0 1 ∷ Deliver 2 1 1 ∷ Deliver 3 0 1 ∷ [])
+    alone ++ (Meter (eui 2) pair_key ∷ Allow 1 ∷ Rand 0 rand_k ∷ Rand 1 rand_r ∷ Join 1 0 ∷ Deliver 1 0 1
+    ∷ Deliver 2 1 1 ∷ Deliver 3 0 1 ∷ [])
 
 -- The keys of a grant are stored as issued when they go out, and the meter stores its ring before it answers; nothing else of a joining over
 -- the air is stored.
 unfoldable pub AJoiningStoresItsKeys : Type 0
 AJoiningStoresItsKeys =
     (records_at keyed 0
-    ≡ with_writes (book_record 0 2 1 (no_key ++ no_key) ∷ book_record 0 2 1 (held group_key ++ no_key) ∷ []) (records_at alone 0))
-    × (records_at (keyed ++ (Deliver 4 1 1 ∷ [])) 1 ≡ with_writes (ring_record 1 0 (held group_key ++ no_key) ∷ []) (Some empty))
+    ≡ with_writes (book_record 0 2 1 (no_key ++ no_key) ∷ book_record 0 2 1 (held group_key ++ no_key) ∷ [])
+    (records_at alone 0))
+    × (records_at (keyed ++ (Deliver 4 1 1 ∷ [])) 1
+    ≡ with_writes (ring_record 1 0 (held group_key ++ no_key) ∷ []) (Some empty))
     × (records_at (keyed ++ (Deliver 4 1 1 ∷ Deliver 5 0 1 ∷ [])) 0 ≡ records_at keyed 0)
 
 -- # A kick whose word can't be stored
@@ -189,35 +209,43 @@ unfoldable pub AKickIsStoredFirst : Type 0
 AKickIsStoredFirst =
     (answers_after 5 (kicked_under false) ≡ said.Store ∷ [])
     × (octets_of (kicked_under true) 1 ≡ None)
-    × (records_at (kicked_under false) 0 ≡ with_writes (book_record 0 2 0 (no_key ++ no_key) ∷ []) (records_at (one_meter ++ (Near 0 1 1 ∷ [])) 0))
+    × (records_at (kicked_under false) 0
+    ≡ with_writes (book_record 0 2 0 (no_key ++ no_key) ∷ []) (records_at (one_meter ++ (Near 0 1 1 ∷ [])) 0))
 
 -- # Limits ahead
 
 -- counters near their end, and a datagram of four pieces
 abbrev pub near_the_end : List Event
-near_the_end = two_meters ++ (Near 1 2 1 ∷ Counter 1 4294967290 ∷ Number 1 65530 ∷ Send 1 2 (replicate 1280 7) ∷ Send 1 0 (0xaa ∷ []) ∷ [])
+near_the_end =
+    two_meters ++ (Near 1 2 1 ∷ Counter 1 4294967290 ∷ Number 1 65530 ∷ Send 1 2 (replicate 1280 7)
+    ∷ Send 1 0 (0xaa ∷ []) ∷ [])
 
 -- A limit that would pass the type's end is stored as that end.
 unfoldable pub LimitsStopAtTheEnd : Type 0
 LimitsStopAtTheEnd =
     records_at near_the_end 1
     ≡ with_writes
-    (record { slot = 2; octets = big_bytes 4 4294967290 } ∷ record { slot = 3; octets = big_bytes 2 65530 } ∷ record { slot = 4; octets = big_bytes 2 1 }
+    (record { slot = 2; octets = big_bytes 4 4294967290 } ∷ record { slot = 3; octets = big_bytes 2 65530 }
+    ∷ record { slot = 4; octets = big_bytes 2 1 }
     ∷ record { slot = 2; octets = big_bytes 4 4294967295 } ∷ record { slot = 3; octets = big_bytes 2 65535 } ∷ [])
     (records_at (two_meters ++ (Near 1 2 1 ∷ [])) 1)
 
 -- what meter 1 stores for a datagram of four pieces whose first counter is this one, below a limit of 1,024
 abbrev pub sent_from : ℕ → Option (List Write)
 sent_from next =
-    option_map (λ (m : Memory). (calls.send (record m.station { counter = record { limit = 1024; next = next } }) 2 (replicate 1280 7) 1 0).puts)
+    option_map (λ (m : Memory).
+    (calls.send (record m.station { counter = record { limit = 1024; next = next } }) 2
+    (replicate 1280 7) 1 0).puts)
     (memory_at (two_meters ++ (Near 1 2 1 ∷ [])) 1)
 
 -- A limit that the frames of one step pass is stored once, 1,024 above the old one, after what else the step stores.
 unfoldable pub AStepPassesTheLimitOnce : Type 0
 AStepPassesTheLimitOnce =
     (sent_from 1020 ≡ Some (record { slot = 4; octets = big_bytes 2 1 } ∷ []))
-    × (sent_from 1021 ≡ Some (record { slot = 4; octets = big_bytes 2 1 } ∷ record { slot = 2; octets = big_bytes 4 2048 } ∷ []))
-    × (sent_from 1023 ≡ Some (record { slot = 4; octets = big_bytes 2 1 } ∷ record { slot = 2; octets = big_bytes 4 2048 } ∷ []))
+    × (sent_from 1021 ≡ Some
+    (record { slot = 4; octets = big_bytes 2 1 } ∷ record { slot = 2; octets = big_bytes 4 2048 } ∷ []))
+    × (sent_from 1023 ≡ Some
+    (record { slot = 4; octets = big_bytes 2 1 } ∷ record { slot = 2; octets = big_bytes 4 2048 } ∷ []))
 
 -- errors that change nothing, each under one of the counters
 abbrev pub heard_at : List ℕ → List Event
@@ -231,7 +259,8 @@ mark_record mark = record { slot = 0x0100; octets = big_bytes 2 2 ++ big_bytes 4
 unfoldable pub MarksAreStoredAhead : Type 0
 MarksAreStoredAhead =
     (records_at (heard_at (5 ∷ 68 ∷ [])) 1 ≡ with_writes (mark_record 68 ∷ []) (records_at two_meters 1))
-    × (records_at (heard_at (5 ∷ 69 ∷ [])) 1 ≡ with_writes (mark_record 68 ∷ mark_record 132 ∷ []) (records_at two_meters 1))
+    × (records_at (heard_at (5 ∷ 69 ∷ [])) 1
+    ≡ with_writes (mark_record 68 ∷ mark_record 132 ∷ []) (records_at two_meters 1))
     × (records_at (heard_at (4294967290 ∷ [])) 1 ≡ with_writes (mark_record 4294967295 ∷ []) (records_at two_meters 1))
 
 -- own numbers are taken by requests that end after half a minute
@@ -242,6 +271,8 @@ seeking_often times = two_meters ++ flat_map (λ _. Send 1 2 (0xaa ∷ []) ∷ T
 unfoldable pub NumbersAreStoredAhead : Type 0
 NumbersAreStoredAhead =
     (records_at (seeking_often 32) 1
-    ≡ with_writes (record { slot = 3; octets = big_bytes 2 33 } ∷ record { slot = 2; octets = big_bytes 4 1024 } ∷ []) (records_at two_meters 1))
+    ≡ with_writes (record { slot = 3; octets = big_bytes 2 33 } ∷ record { slot = 2; octets = big_bytes 4 1024 } ∷ [])
+    (records_at two_meters 1))
     × (records_at (seeking_often 33) 1
-    ≡ with_writes (record { slot = 3; octets = big_bytes 2 33 } ∷ record { slot = 2; octets = big_bytes 4 1024 } ∷ record { slot = 3; octets = big_bytes 2 65 } ∷ []) (records_at two_meters 1))
+    ≡ with_writes (record { slot = 3; octets = big_bytes 2 33 } ∷ record { slot = 2; octets = big_bytes 4 1024 }
+    ∷ record { slot = 3; octets = big_bytes 2 65 } ∷ []) (records_at two_meters 1))

@@ -14,12 +14,14 @@ use Rattle.worked_scripts.specs.Scripts.{plain, one_meter, two_meters, sealed, e
 abbrev pub leaving : List Event
 leaving =
     two_meters
-    ++ (Send 1 2 (0xaa ∷ []) ∷ Send 1 0 (0xdd ∷ []) ∷ Send 1 2 (replicate 376 7) ∷ Send 1 2 (0xcc ∷ []) ∷ Deliver 1 2 1 ∷ Deliver 3 1 1 ∷ [])
+    ++ (Send 1 2 (0xaa ∷ []) ∷ Send 1 0 (0xdd ∷ []) ∷ Send 1 2 (replicate 376 7) ∷ Send 1 2 (0xcc ∷ []) ∷ Deliver 1 2 1
+    ∷ Deliver 3 1 1 ∷ [])
 
 -- One request seeks a route for all that waits; then what waits for it leaves, in the order of its arrival, and the rest waits.
 unfoldable pub WhatWaitsLeavesInOrder : Type 0
 WhatWaitsLeavesInOrder =
-    (answers_after 5 leaving ≡ said.Waiting ∷ said.Waiting ∷ said.Waiting ∷ said.Waiting ∷ said.Answered ∷ said.Learned ∷ [])
+    (answers_after 5 leaving
+    ≡ said.Waiting ∷ said.Waiting ∷ said.Waiting ∷ said.Waiting ∷ said.Answered ∷ said.Learned ∷ [])
     × (octets_of leaving 1 ≡ Some (sealed everyone 1 0 (routing_unit (Rreq 2 0 1 2))))
     × (octets_of leaving 2 ≡ Some (sealed everyone 1 1 (routing_unit (Rreq 3 0 1 0))))
     × (octets_of leaving 3 ≡ Some (sealed 1 2 0 (routing_unit (Rrep 2 0 2 1))))
@@ -28,13 +30,17 @@ WhatWaitsLeavesInOrder =
     × (octets_of leaving 6 ≡ Some (sealed 2 1 4 (part_of 1 2 376 0 46 (replicate 8 7))))
     × (octets_of leaving 7 ≡ Some (sealed 2 1 5 (whole 14 1 2 (0xcc ∷ []))))
     × (counts_of leaving ≡ record { events = 11; flights = 7; sends = 4; ups = 0; forged = 0 })
-    × (handed_at_last (run plain start (leaving ++ (Deliver 4 2 1 ∷ Deliver 5 2 1 ∷ Deliver 6 2 1 ∷ Deliver 7 2 1 ∷ []))) ≡ Some (record { node = 2; note = 4; octets = 0xcc ∷ [] }))
+    × (handed_at_last (run plain start
+    (leaving ++ (Deliver 4 2 1 ∷ Deliver 5 2 1 ∷ Deliver 6 2 1 ∷ Deliver 7 2 1 ∷ []))) ≡ Some (record
+    { node = 2; note = 4; octets = 0xcc ∷ [] }))
     × (answers_to leaving (Send 1 0 (0xee ∷ []) ∷ Send 1 2 (0xee ∷ []) ∷ []) ≡ said.Waiting ∷ said.Sent ∷ [])
-    × (counts_of (leaving ++ (Send 1 0 (0xee ∷ []) ∷ [])) ≡ record { events = 12; flights = 7; sends = 5; ups = 0; forged = 0 })
+    × (counts_of (leaving ++ (Send 1 0 (0xee ∷ []) ∷ []))
+    ≡ record { events = 12; flights = 7; sends = 5; ups = 0; forged = 0 })
 
 -- a datagram waits for meter 2, whose own request comes
 abbrev pub leaving_at_a_request : List Event
-leaving_at_a_request = two_meters ++ (Send 1 2 (0xaa ∷ []) ∷ Inject 1 1 (sealed everyone 2 9 (routing_unit (Rreq 5 0 2 1))) ∷ [])
+leaving_at_a_request =
+    two_meters ++ (Send 1 2 (0xaa ∷ []) ∷ Inject 1 1 (sealed everyone 2 9 (routing_unit (Rreq 5 0 2 1))) ∷ [])
 
 -- What waits for the origin of a request leaves before the answer to it, whose number was taken before.
 unfoldable pub WhatWaitsLeavesBeforeTheAnswer : Type 0
@@ -55,7 +61,8 @@ EightBodiesWait =
     (answers_after 3 eight_wait ≡ replicate 8 said.Waiting)
     × (answers_to eight_wait (Send 1 0 (0xaa ∷ []) ∷ []) ≡ said.WaitingFull ∷ [])
     × (counts_of eight_wait ≡ record { events = 11; flights = 1; sends = 8; ups = 0; forged = 0 })
-    × (answers_to (one_meter ++ (Near 1 0 1 ∷ replicate 9 (Send 1 0 (0xaa ∷ [])))) (Send 1 0 (0xaa ∷ []) ∷ []) ≡ said.Sent ∷ [])
+    × (answers_to (one_meter ++ (Near 1 0 1 ∷ replicate 9 (Send 1 0 (0xaa ∷ [])))) (Send 1 0 (0xaa ∷ []) ∷ [])
+    ≡ said.Sent ∷ [])
 
 -- four datagrams of 19 blocks wait
 abbrev pub blocks_wait : List Event
@@ -64,7 +71,8 @@ blocks_wait = one_meter ++ replicate 4 (Send 1 0 (replicate 1216 7))
 -- They fill 80 blocks of 64 octets at most.
 unfoldable pub EightyBlocksWait : Type 0
 EightyBlocksWait =
-    answers_to blocks_wait (Send 1 0 (replicate 257 7) ∷ Send 1 0 (replicate 256 7) ∷ Send 1 0 (0xaa ∷ []) ∷ []) ≡ said.WaitingFull ∷ said.Waiting ∷ said.WaitingFull ∷ []
+    answers_to blocks_wait (Send 1 0 (replicate 257 7) ∷ Send 1 0 (replicate 256 7) ∷ Send 1 0 (0xaa ∷ []) ∷ [])
+    ≡ said.WaitingFull ∷ said.Waiting ∷ said.WaitingFull ∷ []
 
 -- # Time
 
@@ -84,7 +92,8 @@ WaitingEndsAfterHalfAMinute =
     × (octets_of (answered_late 20) 3 ≡ Some (sealed 2 1 1 (whole 14 1 2 (0xbb ∷ []))))
     × (answers_to (waited 30) (Send 1 2 (0xcc ∷ []) ∷ []) ≡ said.Waiting ∷ [])
     × (octets_of (waited 29 ++ (Send 1 2 (0xcc ∷ []) ∷ [])) 2 ≡ None)
-    × (octets_of (waited 30 ++ (Send 1 2 (0xcc ∷ []) ∷ [])) 2 ≡ Some (sealed everyone 1 1 (routing_unit (Rreq 3 0 1 2))))
+    × (octets_of (waited 30 ++ (Send 1 2 (0xcc ∷ []) ∷ [])) 2
+    ≡ Some (sealed everyone 1 1 (routing_unit (Rreq 3 0 1 2))))
 
 -- # Numbers
 
@@ -95,9 +104,12 @@ one_number = two_meters ++ (Number 1 65534 ∷ [])
 -- An own number is taken for the first body that waits for an address, and judged after the room and before the counters.
 unfoldable pub SeekingTakesANumber : Type 0
 SeekingTakesANumber =
-    (answers_to one_number (Send 1 2 (0xaa ∷ []) ∷ Send 1 2 (0xaa ∷ []) ∷ Send 1 0 (0xaa ∷ []) ∷ []) ≡ said.Waiting ∷ said.Waiting ∷ said.SeqSpent ∷ [])
-    × (answers_to (one_number ++ replicate 8 (Send 1 2 (0xaa ∷ []))) (Send 1 0 (0xaa ∷ []) ∷ []) ≡ said.WaitingFull ∷ [])
-    × (answers_to (two_meters ++ (Number 1 65535 ∷ Counter 1 4294967295 ∷ [])) (Send 1 2 (0xaa ∷ []) ∷ []) ≡ said.SeqSpent ∷ [])
+    (answers_to one_number (Send 1 2 (0xaa ∷ []) ∷ Send 1 2 (0xaa ∷ []) ∷ Send 1 0 (0xaa ∷ []) ∷ [])
+    ≡ said.Waiting ∷ said.Waiting ∷ said.SeqSpent ∷ [])
+    × (answers_to (one_number ++ replicate 8 (Send 1 2 (0xaa ∷ []))) (Send 1 0 (0xaa ∷ []) ∷ [])
+    ≡ said.WaitingFull ∷ [])
+    × (answers_to (two_meters ++ (Number 1 65535 ∷ Counter 1 4294967295 ∷ [])) (Send 1 2 (0xaa ∷ []) ∷ [])
+    ≡ said.SeqSpent ∷ [])
 
 -- # Counters
 
@@ -108,8 +120,10 @@ gone counters = two_meters ++ (Counter 1 counters ∷ [])
 -- A body that waits takes a counter for its request alone, and none where the route is sought already.
 unfoldable pub SeekingTakesACounter : Type 0
 SeekingTakesACounter =
-    (answers_to (gone 4294967294) (Send 1 2 (0xaa ∷ []) ∷ Send 1 2 (replicate 376 7) ∷ Send 1 0 (0xaa ∷ []) ∷ []) ≡ said.Waiting ∷ said.Waiting ∷ said.CounterSpent ∷ [])
-    × (answers_to (two_meters ++ (Near 1 2 1 ∷ Counter 1 4294967294 ∷ [])) (Send 1 2 (replicate 376 7) ∷ Send 1 2 (0xaa ∷ []) ∷ Send 1 2 (0xaa ∷ []) ∷ [])
+    (answers_to (gone 4294967294) (Send 1 2 (0xaa ∷ []) ∷ Send 1 2 (replicate 376 7) ∷ Send 1 0 (0xaa ∷ []) ∷ [])
+    ≡ said.Waiting ∷ said.Waiting ∷ said.CounterSpent ∷ [])
+    × (answers_to (two_meters ++ (Near 1 2 1 ∷ Counter 1 4294967294 ∷ []))
+    (Send 1 2 (replicate 376 7) ∷ Send 1 2 (0xaa ∷ []) ∷ Send 1 2 (0xaa ∷ []) ∷ [])
     ≡ said.CounterSpent ∷ said.Sent ∷ said.CounterSpent ∷ [])
 
 -- a datagram of two pieces and one of one frame wait, with so many counters gone before the request
@@ -127,7 +141,8 @@ request_for dest = Inject 1 1 (sealed everyone 2 9 (routing_unit (Rreq 5 0 2 des
 unfoldable pub WaitingPiecesTakeCounters : Type 0
 WaitingPiecesTakeCounters =
     (answers_to (three_frames_wait 4294967291) (reply_that_frees ∷ []) ≡ said.Learned ∷ [])
-    × (counts_of (three_frames_wait 4294967291 ++ (reply_that_frees ∷ [])) ≡ record { events = 9; flights = 4; sends = 2; ups = 0; forged = 1 })
+    × (counts_of (three_frames_wait 4294967291 ++ (reply_that_frees ∷ []))
+    ≡ record { events = 9; flights = 4; sends = 2; ups = 0; forged = 1 })
     × (answers_to (three_frames_wait 4294967292) (reply_that_frees ∷ []) ≡ said.CounterSpent ∷ [])
     × (route_at (three_frames_wait 4294967292 ++ (reply_that_frees ∷ [])) 1 2 ≡ None)
     × (rank_at (three_frames_wait 4294967292 ++ (reply_that_frees ∷ [])) 1 2 ≡ None)
@@ -139,6 +154,8 @@ WaitingPiecesTakeCounters =
 -- Nothing is sent without a counter, nor sought without an own number.
 unfoldable pub NothingIsSentWhenSpent : Type 0
 NothingIsSentWhenSpent =
-    (answers_after 3 (one_meter ++ (Counter 1 4294967295 ∷ Send 1 0 (0xaa ∷ []) ∷ [])) ≡ said.Set ∷ said.CounterSpent ∷ [])
+    (answers_after 3 (one_meter ++ (Counter 1 4294967295 ∷ Send 1 0 (0xaa ∷ []) ∷ []))
+    ≡ said.Set ∷ said.CounterSpent ∷ [])
     × (answers_after 3 (one_meter ++ (Number 1 65535 ∷ Send 1 0 (0xaa ∷ []) ∷ [])) ≡ said.Set ∷ said.SeqSpent ∷ [])
-    × (answers_after 3 (one_meter ++ (Near 0 1 1 ∷ Counter 1 4294967295 ∷ Send 1 0 (0xaa ∷ []) ∷ [])) ≡ said.Set ∷ said.Set ∷ said.CounterSpent ∷ [])
+    × (answers_after 3 (one_meter ++ (Near 0 1 1 ∷ Counter 1 4294967295 ∷ Send 1 0 (0xaa ∷ []) ∷ []))
+    ≡ said.Set ∷ said.Set ∷ said.CounterSpent ∷ [])

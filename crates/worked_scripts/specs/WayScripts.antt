@@ -14,7 +14,8 @@ success = big_bytes 4 0x03020004
 -- one message of each kind about the meter of an EUI: JOIN, ACCEPT, CHALLENGE, DECLINE, KICK, ACTIVATE
 abbrev pub all_kinds : ℕ → List (List ℕ)
 all_kinds n =
-    joining_octets 1 n [] ∷ joining_octets 2 n success ∷ joining_octets 3 n (0 ∷ []) ∷ joining_octets 4 n [] ∷ joining_octets 5 n []
+    joining_octets 1 n [] ∷ joining_octets 2 n success ∷ joining_octets 3 n (0 ∷ []) ∷ joining_octets 4 n []
+    ∷ joining_octets 5 n []
     ∷ joining_octets 6 n (1 ∷ []) ∷ []
 
 -- # At a meter
@@ -28,7 +29,9 @@ unfoldable pub OnlyAJoinGoesUp : Type 0
 OnlyAJoinGoesUp =
     (answers_to two_meters (come_up 9) ≡ said.Carried ∷ replicate 5 said.BadUnit)
     × (answers_to two_meters (come_up 8) ≡ replicate 6 said.BadUnit)
-    × (answers_to two_meters (Inject 1 1 (up_frame 1 9 (said_of 1 9 (7 ∷ []))) ∷ Inject 1 1 (up_frame 1 9 (said_of 7 9 [])) ∷ Inject 1 1 (up_frame 1 9 (0x40 ∷ 2 ∷ [])) ∷ [])
+    × (answers_to two_meters
+    (Inject 1 1 (up_frame 1 9 (said_of 1 9 (7 ∷ []))) ∷ Inject 1 1 (up_frame 1 9 (said_of 7 9 []))
+    ∷ Inject 1 1 (up_frame 1 9 (0x40 ∷ 2 ∷ [])) ∷ [])
     ≡ said.Carried ∷ said.BadUnit ∷ said.BadUnit ∷ [])
     × (octets_of (two_meters ++ (Near 0 1 1 ∷ come_up 9)) 1 ≡ Some (sealed 0 1 0 (command 1 0 (joining_octets 1 9 []))))
 
@@ -45,14 +48,17 @@ unfoldable pub PlainFramesComeDown : Type 0
 PlainFramesComeDown =
     (answers_to two_meters (come_down 0 2) ≡ said.BadUnit ∷ said.Noted ∷ replicate 4 said.BadUnit)
     × (answers_to two_meters (come_down 0 9) ≡ replicate 6 said.BadUnit)
-    × (answers_to one_asks (come_down 3 2) ≡ said.BadUnit ∷ said.Noted ∷ said.NoSession ∷ said.NoSession ∷ said.BadUnit ∷ said.BadUnit ∷ [])
-    × (answers_to one_asks (come_down 0 2) ≡ said.BadUnit ∷ said.Noted ∷ said.Form ∷ said.Declined ∷ said.BadUnit ∷ said.BadUnit ∷ [])
+    × (answers_to one_asks (come_down 3 2)
+    ≡ said.BadUnit ∷ said.Noted ∷ said.NoSession ∷ said.NoSession ∷ said.BadUnit ∷ said.BadUnit ∷ [])
+    × (answers_to one_asks (come_down 0 2)
+    ≡ said.BadUnit ∷ said.Noted ∷ said.Form ∷ said.Declined ∷ said.BadUnit ∷ said.BadUnit ∷ [])
     × (answers_to one_asks (come_down 0 9) ≡ replicate 6 said.BadUnit)
 
 -- they come to meter 1 in commands of an origin, under counters from this one on
 abbrev pub come_over_mesh : (origin : ℕ) → ℕ → List (List ℕ) → List Event
 come_over_mesh origin counter [] = []
-come_over_mesh origin counter (octets ∷ rest) = Inject 1 1 (sealed 1 2 counter (command origin 1 octets)) ∷ come_over_mesh origin (counter + 1) rest
+come_over_mesh origin counter (octets ∷ rest) =
+    Inject 1 1 (sealed 1 2 counter (command origin 1 octets)) ∷ come_over_mesh origin (counter + 1) rest
 
 -- a first packet without its form, the index that is active, and one that is not held
 abbrev pub more_orders : List (List ℕ)
@@ -61,9 +67,11 @@ more_orders = joining_octets 3 2 (big_bytes 6 0) ∷ joining_octets 6 2 (0 ∷ [
 -- A command is taken from the coordinator's address alone: orders for the own EUI, and what may go down for another one.
 unfoldable pub CommandsComeFromTheCoordinator : Type 0
 CommandsComeFromTheCoordinator =
-    (answers_to two_meters (come_over_mesh 0 1 (all_kinds 2)) ≡ said.BadUnit ∷ said.Noted ∷ said.NoSession ∷ said.BadUnit ∷ said.Left ∷ said.NotForMe ∷ [])
+    (answers_to two_meters (come_over_mesh 0 1 (all_kinds 2))
+    ≡ said.BadUnit ∷ said.Noted ∷ said.NoSession ∷ said.BadUnit ∷ said.Left ∷ said.NotForMe ∷ [])
     × (answers_to two_meters (come_over_mesh 0 1 more_orders) ≡ said.NoRandom ∷ said.Activated ∷ said.NotHeld ∷ [])
-    × (answers_to two_meters (come_over_mesh 0 1 (all_kinds 9)) ≡ said.BadUnit ∷ said.Carried ∷ said.Carried ∷ said.Carried ∷ said.BadUnit ∷ said.BadUnit ∷ [])
+    × (answers_to two_meters (come_over_mesh 0 1 (all_kinds 9))
+    ≡ said.BadUnit ∷ said.Carried ∷ said.Carried ∷ said.Carried ∷ said.BadUnit ∷ said.BadUnit ∷ [])
     × (octets_of (two_meters ++ come_over_mesh 0 1 (all_kinds 9)) 1 ≡ Some (down_frame 9 1 (said_of 2 9 success)))
     × (octets_of (two_meters ++ come_over_mesh 0 1 (all_kinds 9)) 3 ≡ Some (down_frame 9 1 (said_of 4 9 [])))
     × (answers_to two_meters (come_over_mesh 2 1 (all_kinds 2)) ≡ replicate 6 said.BadUnit)
@@ -80,7 +88,8 @@ reach_down = map (λ octets. Inject 0 1 (down_frame 1 5 (0x40 ∷ 2 ∷ octets))
 
 abbrev pub reach_over_mesh : ℕ → List (List ℕ) → List Event
 reach_over_mesh counter [] = []
-reach_over_mesh counter (octets ∷ rest) = Inject 0 1 (sealed 0 2 counter (command 1 0 octets)) ∷ reach_over_mesh (counter + 1) rest
+reach_over_mesh counter (octets ∷ rest) =
+    Inject 0 1 (sealed 0 2 counter (command 1 0 octets)) ∷ reach_over_mesh (counter + 1) rest
 
 -- JOIN with a packet of a meter that is not allowed and of one that is, and without one
 abbrev pub joins : List (List ℕ)
@@ -94,7 +103,8 @@ OnlyAJoinReachesTheCoordinator =
     × (answers_to two_meters reach_down ≡ replicate 6 said.BadUnit)
     × (answers_to two_meters (reach_over_mesh 1 (all_kinds 9)) ≡ said.Declined ∷ replicate 5 said.BadUnit)
     × (octets_of (two_meters ++ reach_up 9) 1 ≡ Some (down_frame 9 0 (said_of 4 9 [])))
-    × (octets_of (two_meters ++ (Near 0 1 1 ∷ reach_over_mesh 1 (all_kinds 9))) 1 ≡ Some (sealed 1 0 0 (command 0 1 (joining_octets 4 9 []))))
+    × (octets_of (two_meters ++ (Near 0 1 1 ∷ reach_over_mesh 1 (all_kinds 9))) 1
+    ≡ Some (sealed 1 0 0 (command 0 1 (joining_octets 4 9 []))))
     × (answers_to two_meters (reach_over_mesh 1 joins) ≡ said.NotAllowed ∷ said.NoSession ∷ said.NoRandom ∷ [])
 
 -- # What an answer by command lacks
@@ -109,7 +119,8 @@ a_join = Inject 1 1 (up_frame 1 9 (said_of 1 9 [])) ∷ []
 
 -- a first packet in a command
 abbrev pub a_challenge : List Event
-a_challenge = Inject 1 1 (sealed 1 2 1 (command 0 1 (joining_octets 3 2 (packets.head 1 1 30 0 rand_k.0 ++ (eui 1).0)))) ∷ []
+a_challenge =
+    Inject 1 1 (sealed 1 2 1 (command 0 1 (joining_octets 3 2 (packets.head 1 1 30 0 rand_k.0 ++ (eui 1).0)))) ∷ []
 
 -- a JOIN of a meter that is not allowed, in a command
 abbrev pub a_join_by_command : List Event
