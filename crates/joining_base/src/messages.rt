@@ -41,7 +41,9 @@ fn push_plain(head: &MacHead, message: &JoinMessage, out: &mut Out)
     requires plain { IsPlain head.now }
     requires head { heads.IsAllowed head.now }
     requires room { length out.old.frames < 24 }
-    ensures { out.new ≡ record out.old { frames = out.old.frames ++ frames.plain_frame head.now message.now ∷ [] } }
+    ensures { out.new ≡ record out.old {
+      frames = out.old.frames ++ frames.plain_frame head.now message.now ∷ [];
+    } }
 {
     let mut payload = FrameBuf::new();
     payload.push(0x40);
@@ -61,7 +63,9 @@ fn push_plain(head: &MacHead, message: &JoinMessage, out: &mut Out)
 pub fn push_up(message: &JoinMessage, agent: Short, from: Eui, out: &mut Out)
     requires message { IsMessage message.now }
     requires room { length out.old.frames < 24 }
-    ensures { out.new ≡ record out.old { frames = out.old.frames ++ spelled network (frames.Up agent from message.now) ∷ [] } }
+    ensures { out.new ≡ record out.old {
+      frames = out.old.frames ++ spelled network (frames.Up agent from message.now) ∷ [];
+    } }
 {
     let head = MacHead::Up {
         ack: true,
@@ -79,7 +83,9 @@ pub fn push_up(message: &JoinMessage, agent: Short, from: Eui, out: &mut Out)
 pub fn push_down(message: &JoinMessage, from: Short, out: &mut Out)
     requires message { IsMessage message.now }
     requires room { length out.old.frames < 24 }
-    ensures { out.new ≡ record out.old { frames = out.old.frames ++ spelled network (frames.Down from message.now) ∷ [] } }
+    ensures { out.new ≡ record out.old {
+      frames = out.old.frames ++ spelled network (frames.Down from message.now) ∷ [];
+    } }
 {
     let head = MacHead::Down {
         ack: true,

@@ -37,13 +37,20 @@ course_code = code_by (Option ℕ) (coded_option coded_ℕ) agent_of course_by (
 
 abbrev pub peer_code : Coded Peer
 peer_code =
-    code_by (List ℕ × (List ℕ × (List ℕ × List ℕ))) (coded× (coded_list coded_ℕ) (coded× (coded_list coded_ℕ) (coded× (coded_list coded_ℕ) (coded_list coded_ℕ))))
+    code_by (List ℕ × (List ℕ × (List ℕ × List ℕ)))
+    (coded× (coded_list coded_ℕ) (coded× (coded_list coded_ℕ) (coded× (coded_list coded_ℕ) (coded_list coded_ℕ))))
     (λ p. (p.eui.0, (p.id_s.0, (p.rand_s.0, p.rand_p.0))))
-    (λ t. record { eui = record { 0 = t.0 }; id_s = record { 0 = t.1.0 }; rand_s = record { 0 = t.1.1.0 }; rand_p = record { 0 = t.1.1.1 } }) (λ _. refl)
+    (λ t. record {
+      eui = record { 0 = t.0 };
+      id_s = record { 0 = t.1.0 };
+      rand_s = record { 0 = t.1.1.0 };
+      rand_p = record { 0 = t.1.1.1 };
+    }) (λ _. refl)
 
 abbrev pub session_code : Coded memory.MeterSession
 session_code =
-    code_by (memory.Course × (Option Peer × ℕ)) (coded× course_code (coded× (coded_option peer_code) coded_ℕ)) (λ s. (s.course, (s.peer, s.since)))
+    code_by (memory.Course × (Option Peer × ℕ))
+    (coded× course_code (coded× (coded_option peer_code) coded_ℕ)) (λ s. (s.course, (s.peer, s.since)))
     (λ t. record { course = t.0; peer = t.1.0; since = t.1.1 }) (λ _. refl)
 
 abbrev pub rand_code : Coded Rand

@@ -28,7 +28,8 @@ impl<K: Keeper + Drop> Meter<K> {
     pub fn give_random(&mut self, value: Rand) -> Result<(), RandomFault>
         requires agrees { Agrees self.old.station }
         ensures halted { IfNone self.old.station.memory ((result ≡ Err RandomFault.Halted) × (self.new ≡ self.old)) }
-        ensures carries { IfSome (node_of self.old).memory (λ m. Carries (node_of self.old) (drafts.give_random m value) result nothing (node_of self.new)) }
+        ensures carries { IfSome (node_of self.old).memory (λ m.
+            Carries (node_of self.old) (drafts.give_random m value) result nothing (node_of self.new)) }
         ensures agrees { Agrees self.new.station }
     {
         if self.station.halted() {
@@ -44,7 +45,8 @@ impl<K: Keeper + Drop> Meter<K> {
     pub fn provision(&mut self, grant: &Grant) -> Result<(), RingFault>
         requires running { IsSome self.old.station.memory }
         requires agrees { Agrees self.old.station }
-        ensures carries { IfSome (node_of self.old).memory (λ m. Carries (node_of self.old) (meters.provision m grant.now) result nothing (node_of self.new)) }
+        ensures carries { IfSome (node_of self.old).memory (λ m.
+            Carries (node_of self.old) (meters.provision m grant.now) result nothing (node_of self.new)) }
         ensures agrees { Agrees self.new.station }
     {
         self.station.install(grant)
@@ -55,8 +57,10 @@ impl<K: Keeper + Drop> Meter<K> {
     /// Halted; then AlreadyJoined exactly where it has a ring. `out` is then empty.
     pub fn join(&mut self, agent: Short, now: u64, out: &mut Out) -> Result<(), JoinRefusal>
         requires agrees { Agrees self.old.station }
-        ensures halted { IfNone self.old.station.memory ((result ≡ Err JoinRefusal.Halted) × (out.new ≡ nothing) × (self.new ≡ self.old)) }
-        ensures carries { IfSome (node_of self.old).memory (λ m. Carries (node_of self.old) (meters.join (identity_of self.old) m agent now) result out.new (node_of self.new)) }
+        ensures halted { IfNone self.old.station.memory
+            ((result ≡ Err JoinRefusal.Halted) × (out.new ≡ nothing) × (self.new ≡ self.old)) }
+        ensures carries { IfSome (node_of self.old).memory (λ m.
+            Carries (node_of self.old) (meters.join (identity_of self.old) m agent now) result out.new (node_of self.new)) }
         ensures agrees { Agrees self.new.station }
     {
         out.clear();
@@ -83,7 +87,8 @@ impl<K: Keeper + Drop> Meter<K> {
     pub fn leave(&mut self) -> Result<(), LeaveRefusal>
         requires agrees { Agrees self.old.station }
         ensures halted { IfNone self.old.station.memory ((result ≡ Err LeaveRefusal.Halted) × (self.new ≡ self.old)) }
-        ensures carries { IfSome (node_of self.old).memory (λ m. Carries (node_of self.old) (meters.leave m) result nothing (node_of self.new)) }
+        ensures carries { IfSome (node_of self.old).memory (λ m.
+            Carries (node_of self.old) (meters.leave m) result nothing (node_of self.new)) }
         ensures agrees { Agrees self.new.station }
     {
         if self.station.halted() {

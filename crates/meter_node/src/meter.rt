@@ -41,7 +41,12 @@ impl<K: Keeper + Drop> Model for Meter<K> {
 
     ghost coded = { meter_code };
 
-    ghost view = { λ m. record { station = m.station; psk = m.pair_key; randoms = m.randoms; session = option_map session_of m.session } };
+    ghost view = { λ m. record {
+      station = m.station;
+      psk = m.pair_key;
+      randoms = m.randoms;
+      session = option_map session_of m.session;
+    } };
 }
 
 impl<K: Keeper + Drop> Meter<K> {
@@ -56,8 +61,10 @@ impl<K: Keeper + Drop> Meter<K> {
         ensures opened { IfOk result (λ m. (m.station.store ≡ K.store keeper) × (m.station.eui ≡ eui) × (m.psk ≡ psk)
             × ((node_of m).memory ≡ result_ok (memory_of (memory.Meter psk) (K.store keeper).records))) }
         ensures running { IfOk result (λ m. IsSome m.station.memory) }
-        ensures agrees { IsGapless peers (K.store keeper).records → IsGapless ranks (K.store keeper).records → IfOk result (λ m. Agrees m.station) }
-        ensures refused { IfErr result (λ e. (e.1 ≡ keeper) × IsOpenFault (memory_of (memory.Meter psk) (K.store keeper).records) e.0) }
+        ensures agrees { IsGapless peers (K.store keeper).records → IsGapless ranks (K.store keeper).records
+            → IfOk result (λ m. Agrees m.station) }
+        ensures refused { IfErr result (λ e.
+            (e.1 ≡ keeper) × IsOpenFault (memory_of (memory.Meter psk) (K.store keeper).records) e.0) }
     {
         match Station::open(alloc, keeper, eui) {
             Ok(station) => Ok(Meter {
@@ -72,7 +79,8 @@ impl<K: Keeper + Drop> Meter<K> {
 
     /// Lends the station, to accept frames, to send, and for what breaks and is set at it. What the meter keeps beside it stays.
     pub fn station(&mut self) -> &mut Station<K>
-        ensures* lends { sem 𝓛 (Lends (the_row K.row K.Keeper) (station_row K.row K.Keeper) self.entry result (λ w. record self.entry.now { station = w })) }
+        ensures* lends { sem 𝓛
+            (Lends (the_row K.row K.Keeper) (station_row K.row K.Keeper) self.entry result (λ w. record self.entry.now { station = w })) }
         ensures value { result.now ≡ self.old.station }
     {
         &mut self.station
@@ -92,7 +100,8 @@ impl<K: Keeper + Drop> Meter<K> {
     pub fn tick(&mut self, now: u64)
         requires agrees { Agrees self.old.station }
         ensures halted { IfNone self.old.station.memory (self.new ≡ self.old) }
-        ensures state { node_of self.new ≡ record (node_of self.old) { memory = option_map (meters.tick now) (node_of self.old).memory } }
+        ensures state { node_of self.new
+            ≡ record (node_of self.old) { memory = option_map (meters.tick now) (node_of self.old).memory } }
         ensures psk { self.new.psk ≡ self.old.psk }
         ensures agrees { Agrees self.new.station }
     {
@@ -106,11 +115,13 @@ impl<K: Keeper + Drop> Meter<K> {
     /// Forgets everything but the store, its random values and its session too, and ends a halt. After BadStore it is halted.
     pub fn restart(&mut self) -> Result<(), BadStore>
         ensures answer { result ≡ read_answer (memory_of (memory.Meter self.old.psk) self.old.station.store.records) }
-        ensures memory { (node_of self.new).memory ≡ result_ok (memory_of (memory.Meter self.old.psk) self.old.station.store.records) }
+        ensures memory { (node_of self.new).memory
+            ≡ result_ok (memory_of (memory.Meter self.old.psk) self.old.station.store.records) }
         ensures store { self.new.station.store ≡ self.old.station.store }
         ensures eui { self.new.station.eui ≡ self.old.station.eui }
         ensures psk { self.new.psk ≡ self.old.psk }
-        ensures agrees { IsGapless peers self.old.station.store.records → IsGapless ranks self.old.station.store.records → Agrees self.new.station }
+        ensures agrees { IsGapless peers self.old.station.store.records → IsGapless ranks self.old.station.store.records
+            → Agrees self.new.station }
     {
         self.randoms.clear();
         self.session = None;
@@ -120,7 +131,8 @@ impl<K: Keeper + Drop> Meter<K> {
 
 // The session that is left at a time: one that began 120 seconds ago ends.
 fn session_within(now: u64, session: Option<Session>) -> Option<Session>
-    ensures { option_map session_of result ≡ option_and_then (meters.session_within now) (option_map session_of session) }
+    ensures { option_map session_of result
+        ≡ option_and_then (meters.session_within now) (option_map session_of session) }
 {
     let session = session?;
     if is_within(120, now, session.since) {
