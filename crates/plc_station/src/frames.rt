@@ -1,0 +1,171 @@
+//! Which frames a station accepts.
+ghost use Rattle.std.specs.Prelude.{◌≡◌, ◌==◌, ◌||◌, ◌+◌, ◌<◌, ◌≤◌, true, false, Some, None, Ok, Err, IfSome, IsSome, ◌++◌, IfNone, IfOk};
+ghost use Rattle.node_rules.specs.Carrying.{Carries, nothing};
+ghost use Rattle.node_rules.specs.Agreement.{Agrees};
+ghost use Rattle.plc_station.specs.Heard.{Fits};
+ghost use Rattle.group_keys.specs.KeyRing as ring;
+ghost use Rattle.mac_frames.specs.Grammar.{Frame, IsSealed};
+ghost use Rattle.node_rules.specs.Ciphers.{network};
+ghost use Rattle.node_rules.specs.Frames.{arrived, arrived_with};
+ghost use Rattle.node_rules.specs.Accepting as accepting;
+
+use crate::station::Station;
+use aes_modes::Aes;
+use frame_counters::PeerFault;
+use mac_frames::{MacHead, RawFrame, open_frame, read_frame};
+use node_rules::{Accepted, FrameRefusal, Path};
+use plc_base::{FrameBuf, Keeper, PAN, Short};
+
+// What the marks say of a counter.
+fn mark_refusal(fault: PeerFault) -> FrameRefusal
+    ensures { result ≡ accepting.mark_refusal fault }
+{
+    match fault {
+        PeerFault::Replayed => FrameRefusal::Replayed,
+        PeerFault::PeersFull => FrameRefusal::PeersFull,
+        PeerFault::Store => FrameRefusal::Store,
+    }
+}
+
+impl<K: Keeper + Drop> Station<K> {
+    // Whether an address is the own one.
+    pub(crate) fn is_own(&self, address: u16) -> bool
+        ensures { IfSome self.now.memory (λ l. result ≡ accepting.is_own l address) }
+    {
+        match self.parts.ring.joined() {
+            Some(own) => own.number() == address,
+            None => false,
+        }
+    }
+
+    // Whether a frame is for this node and from another one.
+    fn is_for_me(&self, head: &MacHead) -> bool
+        ensures { IfSome self.now.memory (λ l. result ≡ accepting.is_for_me l self.now.eui head.now) }
+    {
+        match *head {
+            MacHead::Sealed { pan, to, from, .. } => {
+                pan == PAN && (self.is_own(to) || to == 0xFFFF) && !self.is_own(from.number())
+            }
+            MacHead::Up { pan, to, from, .. } => {
+                pan == PAN && self.is_own(to) && self.eui.number() != from.number()
+            }
+            MacHead::Down { pan, to, from, .. } => {
+                pan == PAN && self.eui.number() == to.number() && !self.is_own(from.number())
+            }
+        }
+    }
+
+    // Keeps the counter of a sealed frame whose tag is right as the mark of its sender.
+    fn admit(
+        &mut self,
+        from: Short,
+        counter: u32,
+        accepted: Accepted,
+    ) -> Result<Accepted, FrameRefusal>
+        requires running { IsSome self.old.memory }
+        requires agrees { Agrees self.old }
+        ensures carries { IfSome self.old.memory (λ l. Carries self.old (accepting.admit l from counter accepted) result nothing self.new) }
+        ensures agrees { Agrees self.new }
+        ensures replied { self.new.replied ≡ self.old.replied }
+        ensures same { IfOk result (λ got. got ≡ accepted) }
+    {
+        if let Err(fault) = self.parts.marks.room(from, counter) {
+            return Err(mark_refusal(fault));
+        }
+        self.halted = true;
+        let Ok(()) = self.parts.marks.keep(&mut self.keeper, from, counter) else {
+            return Err(FrameRefusal::Store);
+        };
+        self.halted = false;
+        Ok(accepted)
+    }
+
+    // Opens a sealed frame, and keeps its counter as the mark of its sender.
+    fn accept_sealed(
+        &mut self,
+        raw: &RawFrame<'_>,
+        to: u16,
+        from: Short,
+        counter: u32,
+        index: u8,
+    ) -> Result<Accepted, FrameRefusal>
+        requires running { IsSome self.old.memory }
+        requires agrees { Agrees self.old }
+        requires sealed { IsSealed raw.now.head }
+        requires index { index ≤ 1 }
+        requires frame { Frame raw.now.head raw.now.body.now (raw.now.header.now ++ raw.now.body.now) }
+        ensures carries { IfSome self.old.memory (λ l. Carries self.old
+            (accepting.with_key l (arrived_with network raw.now.head raw.now.header.now raw.now.body.now) to from counter (ring.key_in_ring l.ring index))
+            result nothing self.new) }
+        ensures agrees { Agrees self.new }
+        ensures replied { self.new.replied ≡ self.old.replied }
+        ensures fits { IfOk result (λ got. Fits got) }
+    {
+        let Some(key) = self.parts.ring.key(index) else {
+            return Err(FrameRefusal::NoKey);
+        };
+        let mut payload = FrameBuf::new();
+        let Ok(()) = open_frame(&Aes::new(&key), raw, &mut payload) else {
+            return Err(FrameRefusal::BadTag);
+        };
+        let path = Path::Sealed {
+            from,
+            to_all: to == 0xFFFF,
+            key,
+        };
+        self.admit(from, counter, Accepted { path, payload })
+    }
+
+    // Accepts a frame that was read, if it is for this node.
+    fn accept_raw(&mut self, raw: &RawFrame<'_>) -> Result<Accepted, FrameRefusal>
+        requires running { IsSome self.old.memory }
+        requires agrees { Agrees self.old }
+        requires frame { Frame raw.now.head raw.now.body.now (raw.now.header.now ++ raw.now.body.now) }
+        ensures carries { IfSome self.old.memory (λ l. Carries self.old
+            (accepting.accept l self.old.eui (Some (arrived_with network raw.now.head raw.now.header.now raw.now.body.now))) result nothing self.new) }
+        ensures agrees { Agrees self.new }
+        ensures replied { self.new.replied ≡ self.old.replied }
+        ensures fits { IfOk result (λ got. Fits got) }
+    {
+        if !self.is_for_me(&raw.head) {
+            return Err(FrameRefusal::NotForMe);
+        }
+        match raw.head {
+            MacHead::Sealed {
+                to,
+                from,
+                counter,
+                index,
+                ..
+            } => self.accept_sealed(raw, to, from, counter, index),
+            MacHead::Up { from, .. } => Ok(Accepted {
+                path: Path::Up { from },
+                payload: FrameBuf::from_octets(raw.body),
+            }),
+            MacHead::Down { from, .. } => Ok(Accepted {
+                path: Path::Down { from },
+                payload: FrameBuf::from_octets(raw.body),
+            }),
+        }
+    }
+
+    /// Takes octets that came as a frame: opens them, and keeps the counter of a sealed frame as the mark of its sender.
+    ///
+    /// Halted, Malformed, NotForMe, NoKey, BadTag, Replayed, PeersFull, Store, in this order.
+    pub fn accept(&mut self, octets: &[u8]) -> Result<Accepted, FrameRefusal>
+        requires agrees { Agrees self.old }
+        ensures halted { IfNone self.old.memory ((result ≡ Err FrameRefusal.Halted) × (self.new ≡ self.old)) }
+        ensures carries { IfSome self.old.memory (λ l. Carries self.old (accepting.accept l self.old.eui (arrived network octets.now)) result nothing self.new) }
+        ensures agrees { Agrees self.new }
+        ensures replied { self.new.replied ≡ self.old.replied }
+        ensures fits { IfOk result (λ got. Fits got) }
+    {
+        if self.halted {
+            return Err(FrameRefusal::Halted);
+        }
+        match read_frame(octets) {
+            Err(_) => Err(FrameRefusal::Malformed),
+            Ok(raw) => self.accept_raw(&raw),
+        }
+    }
+}

@@ -1,0 +1,103 @@
+//! What a station makes of route replies for its own address.
+ghost use Rattle.std.specs.Prelude.{◌≡◌, ◌+◌, ◌<◌, ◌≤◌, true, false, Some, Ok, Err, IfSome, IsSome, length};
+ghost use Rattle.node_rules.specs.Drafts as drafts;
+ghost use Rattle.node_rules.specs.Hearing as hearing;
+ghost use Rattle.routing_set.specs.RoutingSet as routing;
+ghost use Rattle.fragment_buffers.specs.Waiting.{leaving};
+ghost use Rattle.node_rules.specs.Carrying.{Carries, nothing};
+ghost use Rattle.plc_station.specs.Hears.{Hears};
+ghost use Rattle.node_rules.specs.Agreement.{Agrees};
+ghost use Rattle.group_keys.specs.KeyRing as ring;
+
+use crate::station::Station;
+use aes_modes::Aes;
+use node_rules::{Dropped, Heard};
+use plc_base::{Grant, Keeper, Out, Short};
+use routing_set::Rank;
+
+impl<K: Keeper + Drop> Station<K> {
+    // Keeps the rank that a reply for the own address offers, and what waits for the origin leaves.
+    fn learn(
+        &mut self,
+        grant: &Grant,
+        by: Short,
+        origin: Short,
+        rank: Rank,
+        now: u64,
+        out: &mut Out,
+    ) -> Result<(), Dropped>
+        requires running { IsSome self.old.memory }
+        requires agrees { Agrees self.old }
+        requires ring { IfSome self.old.memory (λ l. l.ring ≡ Some grant.now) }
+        requires better { IfSome self.old.memory (λ l. routing.is_better l.routing origin rank ≡ true) }
+        requires room { IfSome self.old.memory (λ l. routing.is_full l.routing origin now ≡ false) }
+        requires valid { 1 ≤ rank.number }
+        requires left { IfSome self.old.memory (λ l. l.counter.next + length (leaving grant.now.address origin by l.waiting) ≤ 4294967295) }
+        requires empty { out.old ≡ nothing }
+        ensures carries { IfSome self.old.memory (λ l. Carries self.old (drafts.sealing drafts.alone hearing.dropped
+            (hearing.offers grant.now.address origin rank by now l) tt) result out.new self.new) }
+        ensures agrees { Agrees self.new }
+        ensures replied { self.new.replied ≡ self.old.replied }
+    {
+        self.halted = true;
+        let Ok(()) = self
+            .parts
+            .routing
+            .keep(&mut self.keeper, origin, rank, by, now)
+        else {
+            return Err(Dropped::Store);
+        };
+        let units = self.bodies.units_for(origin);
+        let Ok(first) = self.parts.counter.reserve(&mut self.keeper, units) else {
+            return Err(Dropped::Store);
+        };
+        let key = grant.sealing_key();
+        self.bodies
+            .seal_leaving(origin, grant, &key, &Aes::new(&key), first, by, out);
+        self.bodies.drop_for(origin);
+        self.halted = false;
+        Ok(())
+    }
+
+    // Hears a reply for the own address.
+    pub(crate) fn hear_own_reply(
+        &mut self,
+        grant: &Grant,
+        by: Short,
+        number: u16,
+        cost: u32,
+        origin: Short,
+        now: u64,
+        out: &mut Out,
+    ) -> Result<Heard, Dropped>
+        requires running { IsSome self.old.memory }
+        requires agrees { Agrees self.old }
+        requires ring { IfSome self.old.memory (λ l. l.ring ≡ Some grant.now) }
+        requires valid { 1 ≤ number }
+        requires empty { out.old ≡ nothing }
+        ensures carries { IfSome self.old.memory (λ l. Carries self.old
+            (drafts.checked hearing.dropped l (hearing.rank_fault l grant.now.address origin (record { number = number; cost = cost }) now)
+            (hearing.learns l grant.now.address by origin (record { number = number; cost = cost }) now)) result out.new self.new) }
+        ensures agrees { Agrees self.new }
+        ensures replied { self.new.replied ≡ self.old.replied }
+    {
+        if self.is_no_better(grant.address, origin, number, cost) {
+            return Err(Dropped::NotBetter);
+        }
+        let Ok(cost) = u16::try_from(cost) else {
+            return Err(Dropped::CostSpent);
+        };
+        if self.parts.routing.full(origin, now) {
+            return Err(Dropped::RoutesFull);
+        }
+        let units = self.bodies.units_for(origin);
+        let left = self.parts.counter.left();
+        if left < units {
+            return Err(Dropped::CounterSpent);
+        }
+        match self.learn(grant, by, origin, Rank { number, cost }, now, out) {
+            Ok(()) => Ok(Heard::Learned),
+            Err(reason) => Err(reason),
+        }
+    }
+}

@@ -1,0 +1,202 @@
+//! What a station makes of units over the mesh.
+ghost use Rattle.std.specs.Prelude.{◌≡◌, ◌≢◌, ◌==◌, ◌+◌, ◌<◌, ◌≤◌, true, false, Some, Ok, Err, IfSome, IsSome};
+ghost use Rattle.mesh_header.specs.Grammar.{IsAllowed, header_length, spelled_length};
+ghost use Rattle.mesh_header.specs.declared.unit.Unit.TheVariants as local;
+ghost use Rattle.loadng_messages.specs.Grammar as messages;
+ghost use Rattle.loadng_messages.specs.declared.message.Message.TheVariants as message;
+ghost use Rattle.node_rules.specs.declared.refusal.Dropped.TheVariants as hearing_drops;
+ghost use Rattle.node_rules.specs.Memory.{next_hop};
+ghost use Rattle.node_rules.specs.Drafts as drafts;
+ghost use Rattle.node_rules.specs.Hearing as hearing;
+ghost use Rattle.routing_set.specs.RoutingSet as routing;
+ghost use Rattle.node_rules.specs.Carrying.{Carries, nothing};
+ghost use Rattle.plc_station.specs.Hears.{Hears};
+ghost use Rattle.node_rules.specs.Agreement.{Agrees};
+ghost use Rattle.group_keys.specs.KeyRing as ring;
+
+use crate::station::Station;
+use aes_modes::Aes;
+use loadng_messages::{Message, write_message};
+use mesh_header::{Mesh, Unit};
+use node_rules::{Dropped, Heard, Way};
+use plc_base::{DatagramBuf, FrameBuf, Grant, Keeper, Out, Short};
+use waiting_bodies::seal;
+
+// The unit of a route error.
+pub(crate) fn error_unit(lost: Short, to: Short) -> Unit
+    ensures { result ≡ local.Local 1 (messages.spelling (message.Rerr lost to)) }
+{
+    let mut body = FrameBuf::new();
+    write_message(&Message::Rerr { lost, to }, &mut body);
+    Unit::Local { code: 1, body }
+}
+
+// A mesh header with one hop less.
+fn hop_less(mesh: &Mesh) -> Mesh
+    ensures value { result ≡ hearing.hop_less mesh.now }
+    ensures shorter { header_length result.hops ≤ header_length mesh.now.hops }
+{
+    Mesh {
+        hops: mesh.hops.saturating_sub(1),
+        origin: mesh.origin,
+        to: mesh.to,
+    }
+}
+
+impl<K: Keeper + Drop> Station<K> {
+    // Seals a unit for a neighbour, or for all, and sends it.
+    pub(crate) fn send_unit(
+        &mut self,
+        grant: &Grant,
+        to: u16,
+        unit: &Unit,
+        note: u32,
+        out: &mut Out,
+    ) -> Result<(), Dropped>
+        requires running { IsSome self.old.memory }
+        requires agrees { Agrees self.old }
+        requires ring { IfSome self.old.memory (λ l. l.ring ≡ Some grant.now) }
+        requires target { to ≢ 0xFFFE }
+        requires allowed { IsAllowed unit.now }
+        requires fits { spelled_length unit.now ≤ 381 }
+        requires left { IfSome self.old.memory (λ l. l.counter.next + 1 ≤ 4294967295) }
+        requires empty { out.old ≡ nothing }
+        ensures carries { IfSome self.old.memory (λ l. Carries self.old (drafts.sealing drafts.alone hearing.dropped (drafts.goes to unit.now note (drafts.empty_draft l)) tt) result out.new self.new) }
+        ensures agrees { Agrees self.new }
+        ensures replied { self.new.replied ≡ self.old.replied }
+    {
+        self.halted = true;
+        let Ok(counter) = self.parts.counter.reserve(&mut self.keeper, 1) else {
+            return Err(Dropped::Store);
+        };
+        let key = grant.sealing_key();
+        seal(grant, &key, &Aes::new(&key), counter, to, unit, note, out);
+        self.halted = false;
+        Ok(())
+    }
+
+    // Tells the origin of a unit that it can't go on.
+    fn report(&mut self, grant: &Grant, mesh: &Mesh, out: &mut Out) -> Result<Heard, Dropped>
+        requires running { IsSome self.old.memory }
+        requires agrees { Agrees self.old }
+        requires ring { IfSome self.old.memory (λ l. l.ring ≡ Some grant.now) }
+        requires empty { out.old ≡ nothing }
+        ensures carries { IfSome self.old.memory (λ l. Carries self.old (drafts.choose (mesh.now.origin == grant.now.address)
+            (hearing.drop_it l hearing_drops.NoRoute) (hearing.report_by l mesh.now (next_hop l mesh.now.origin))) result out.new self.new) }
+        ensures agrees { Agrees self.new }
+        ensures replied { self.new.replied ≡ self.old.replied }
+    {
+        if mesh.origin.number() == grant.address.number() {
+            return Err(Dropped::NoRoute);
+        }
+        let left = self.parts.counter.left();
+        let Some(hop) = self.parts.routing.route(mesh.origin) else {
+            return Err(Dropped::NoRoute);
+        };
+        if left < 1 {
+            return Err(Dropped::CounterSpent);
+        }
+        let unit = error_unit(mesh.to, mesh.origin);
+        match self.send_unit(grant, hop.number(), &unit, 0, out) {
+            Ok(()) => Ok(Heard::Reported),
+            Err(reason) => Err(reason),
+        }
+    }
+
+    // Sends a unit for another node on, as it goes on.
+    fn forward(
+        &mut self,
+        grant: &Grant,
+        mesh: &Mesh,
+        unit: &Unit,
+        note: u32,
+        out: &mut Out,
+    ) -> Result<Heard, Dropped>
+        requires running { IsSome self.old.memory }
+        requires agrees { Agrees self.old }
+        requires ring { IfSome self.old.memory (λ l. l.ring ≡ Some grant.now) }
+        requires allowed { IsAllowed unit.now }
+        requires fits { spelled_length unit.now ≤ 381 }
+        requires empty { out.old ≡ nothing }
+        ensures carries { IfSome self.old.memory (λ l. Carries self.old (hearing.forward l grant.now.address mesh.now unit.now note) result out.new self.new) }
+        ensures agrees { Agrees self.new }
+        ensures replied { self.new.replied ≡ self.old.replied }
+    {
+        let left = self.parts.counter.left();
+        let Some(hop) = self.parts.routing.route(mesh.to) else {
+            return self.report(grant, mesh, out);
+        };
+        if mesh.hops < 2 {
+            return Err(Dropped::HopsSpent);
+        }
+        if left < 1 {
+            return Err(Dropped::CounterSpent);
+        }
+        match self.send_unit(grant, hop.number(), unit, note, out) {
+            Ok(()) => Ok(Heard::Relayed),
+            Err(reason) => Err(reason),
+        }
+    }
+
+    // Hears a unit with a mesh header: for this node, or for another one.
+    pub(crate) fn hear_over_mesh(
+        &mut self,
+        grant: &Grant,
+        unit: Unit,
+        note: u32,
+        now: u64,
+        out: &mut Out,
+    ) -> Result<Heard, Dropped>
+        requires running { IsSome self.old.memory }
+        requires agrees { Agrees self.old }
+        requires ring { IfSome self.old.memory (λ l. l.ring ≡ Some grant.now) }
+        requires allowed { IsAllowed unit }
+        requires fits { spelled_length unit ≤ 381 }
+        requires empty { out.old ≡ nothing }
+        ensures carries { IfSome self.old.memory (λ l. Carries self.old (hearing.hear_over_mesh l grant.now.address unit note now) result out.new self.new) }
+        ensures agrees { Agrees self.new }
+        ensures replied { self.new.replied ≡ self.old.replied }
+    {
+        match unit {
+            Unit::Whole { mesh, octets } => {
+                if mesh.to.number() == grant.address.number() {
+                    let octets = DatagramBuf::from_octets(octets.octets());
+                    return Ok(Heard::Up {
+                        from: mesh.origin,
+                        note,
+                        octets,
+                    });
+                }
+                let on = Unit::Whole {
+                    mesh: hop_less(&mesh),
+                    octets,
+                };
+                self.forward(grant, &mesh, &on, note, out)
+            }
+            Unit::Part { mesh, piece } => {
+                if mesh.to.number() == grant.address.number() {
+                    return self.gather(mesh.origin, &piece, note, now, out);
+                }
+                let on = Unit::Part {
+                    mesh: hop_less(&mesh),
+                    piece,
+                };
+                self.forward(grant, &mesh, &on, note, out)
+            }
+            Unit::Carried { mesh, body } => {
+                if mesh.to.number() == grant.address.number() {
+                    return Ok(Heard::Joining {
+                        way: Way::Mesh(mesh.origin),
+                        body,
+                    });
+                }
+                let on = Unit::Carried {
+                    mesh: hop_less(&mesh),
+                    body,
+                };
+                self.forward(grant, &mesh, &on, note, out)
+            }
+            Unit::Local { .. } => Err(Dropped::BadUnit),
+        }
+    }
+}

@@ -1,0 +1,50 @@
+//! What a station makes of pieces of datagrams.
+ghost use Rattle.std.specs.Prelude.{◌≡◌, ◌+◌, ◌<◌, Ok, Err, IfSome, IsSome};
+ghost use Rattle.node_rules.specs.Hearing as hearing;
+ghost use Rattle.plc_station.specs.Pieces as pieces;
+ghost use Rattle.node_rules.specs.Carrying.{Carries, nothing};
+ghost use Rattle.node_rules.specs.Agreement.{Agrees};
+
+use crate::station::Station;
+use fragment_buffers::{BufferFull, Taken};
+use mesh_header::Piece;
+use node_rules::{Dropped, Heard};
+use plc_base::{DatagramBuf, Keeper, Out, Short};
+
+// What is answered for a piece.
+fn came(
+    from: Short,
+    taken: Result<Taken, BufferFull>,
+    octets: DatagramBuf,
+) -> Result<Heard, Dropped>
+    ensures { result ≡ pieces.came from taken octets }
+{
+    match taken {
+        Err(_) => Err(Dropped::BufferFull),
+        Ok(Taken::Held) => Ok(Heard::Held),
+        Ok(Taken::Whole { note }) => Ok(Heard::Up { from, note, octets }),
+    }
+}
+
+impl<K: Keeper + Drop> Station<K> {
+    // Takes a piece of a datagram for this node.
+    pub(crate) fn gather(
+        &mut self,
+        from: Short,
+        piece: &Piece,
+        note: u32,
+        now: u64,
+        out: &Out,
+    ) -> Result<Heard, Dropped>
+        requires running { IsSome self.old.memory }
+        requires agrees { Agrees self.old }
+        requires empty { out.now ≡ nothing }
+        ensures carries { IfSome self.old.memory (λ l. Carries self.old (hearing.gather l from piece.now note now) result out.now self.new) }
+        ensures agrees { Agrees self.new }
+        ensures replied { self.new.replied ≡ self.old.replied }
+    {
+        let mut octets = DatagramBuf::new();
+        let taken = self.bodies.gather(from, piece, note, now, &mut octets);
+        came(from, taken, octets)
+    }
+}
