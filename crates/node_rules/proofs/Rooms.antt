@@ -1,16 +1,14 @@
 -- What a command lacks is what it would be refused for.
-use Rattle.std.proofs.Common.{◌≡◌, ℕ, Bool, true, false, List, length, Option, Some, None, Result, Ok, Err, refl, sym, ap, ◌∙◌, arith}
+use Rattle.std.proofs.Common.{◌≡◌, ℕ, Bool, true, false, List, length, Option, Some, None, Ok, Err, refl, sym, ap, ◌∙◌, arith}
 use Rattle.std.specs.Prelude.{nat_lt, is_some, if◌then◌else◌}
 use Rattle.std.specs.Option.{option_map_or}
 use Rattle.std.proofs.lemmas.Bool.Decides.{nat_tests}
-use Rattle.node_rules.specs.declared.heard.SentHow.{SentHow}
 use Rattle.node_rules.specs.declared.heard.SentHow.TheVariants.{Sent, Waiting}
-use Rattle.node_rules.specs.declared.refusal.SendRefusal.{SendRefusal}
 use Rattle.node_rules.specs.declared.refusal.SendRefusal.TheVariants.{NotJoined}
 use Rattle.node_rules.specs.Memory.{StationMemory, Command, address_of, next_hop}
 use Rattle.node_rules.specs.Plans.{resting}
 use Rattle.node_rules.specs.Drafts.{Draft, Ends, alone, empty_draft, body_goes, waits, seeks, seeks_once, goes, with_own_number, lack, no_room, numbers_spent, is_awaited, counters_left, refused, sealed, checked}
-use Rattle.node_rules.specs.Calls.{sending_ends, command_from, send_command, room_fault, how}
+use Rattle.node_rules.specs.Calls.{sending_ends, command_from, room_fault, how}
 use Rattle.node_rules.specs.Laws.{TheRoomTellsTheRefusal, command_answer}
 
 never_less : (n : ℕ) → nat_lt n 0 ≡ false

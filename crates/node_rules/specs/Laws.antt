@@ -1,8 +1,7 @@
 -- What holds of the rules whatever a node holds and whatever comes.
-use Rattle.plc_base.specs.Grant.{Granted}
 use Rattle.std.specs.Option.{option_map}
 use Rattle.fragment_buffers.specs.Taking.{blocks_held}
-use Rattle.std.specs.Prelude.{IfSome, ◌<◌, ◌^◌, ◌≡◌, ◌⊎◌, ℕ, ◌-◌, ◌≤◌, ◌==◌, All, List, [], ◌∷◌, ◌++◌, length, Option, Some, None, Result, Ok, Err, true, ◌+◌, if◌then◌else◌}
+use Rattle.std.specs.Prelude.{IfSome, ◌<◌, ◌^◌, ◌≡◌, ◌⊎◌, ℕ, ◌-◌, ◌≤◌, ◌==◌, All, List, [], ◌∷◌, ◌++◌, length, Option, Some, None, Result, Ok, Err, if◌then◌else◌}
 use Rattle.std.specs.FinMap.{insert}
 use Rattle.plc_base.specs.declared.keeper.Cut.{Cut}
 use Rattle.plc_base.specs.Keeper.{Records, Write}
@@ -17,8 +16,6 @@ use Rattle.node_rules.specs.declared.refusal.SendRefusal.TheVariants as sends
 use Rattle.node_rules.specs.declared.refusal.JoinRefusal.TheVariants as joins
 use Rattle.node_rules.specs.declared.refusal.LeaveRefusal.TheVariants as leaves
 use Rattle.node_rules.specs.declared.refusal.CoordinatorRefusal.TheVariants as orders
-use Rattle.plc_base.specs.declared.tags.PairTag.{PairTag}
-use Rattle.node_rules.specs.Ciphers.{Ciphers}
 use Rattle.node_rules.specs.Frames.{Arrived}
 use Rattle.node_rules.specs.Accepting.{accept}
 use Rattle.node_rules.specs.Hearing.{hear}

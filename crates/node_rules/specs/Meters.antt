@@ -7,7 +7,6 @@ use Rattle.plc_base.specs.declared.key.Key.{Key}
 use Rattle.plc_base.specs.declared.key.Rand.{Rand}
 use Rattle.plc_base.specs.Grant.{Granted}
 use Rattle.group_keys.specs.declared.fault.RingFault.{RingFault}
-use Rattle.group_keys.specs.KeyRing as ring
 use Rattle.joining_messages.specs.declared.message.JoinMessage.{JoinMessage}
 use Rattle.joining_messages.specs.declared.message.JoinBody.{JoinBody}
 use Rattle.joining_messages.specs.declared.message.JoinBody.TheVariants as body
