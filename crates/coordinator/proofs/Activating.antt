@@ -1,5 +1,5 @@
 -- What telling a meter to seal with another key comes to, by what is tested.
-use Rattle.std.proofs.Common.{◌≡◌, ℕ, true, false, Option, Some, None, refl}
+use Rattle.std.proofs.Common.{◌≡◌, ℕ, true, false, Some, None, refl}
 use Rattle.plc_base.specs.declared.address.Eui.{Eui}
 use Rattle.group_keys.specs.declared.key_book.BookEntry.{BookEntry}
 use Rattle.group_keys.specs.KeyBook.{address_of}

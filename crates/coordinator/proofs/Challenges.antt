@@ -1,8 +1,8 @@
 -- What a session comes to that the operator opens over the mesh.
-use Rattle.std.proofs.Common.{◌≡◌, ℕ, ◌≤◌, true, false, List, [], ◌∷◌, length, Option, Some, None, Result, Ok, Err, refl, sym, ap, subst, ◌∙◌, arith}
+use Rattle.std.proofs.Common.{◌≡◌, ℕ, ◌≤◌, true, false, List, [], ◌∷◌, length, Option, Some, None, Result, refl, sym, ap, subst, ◌∙◌, arith}
 use Rattle.std.specs.Prelude.{IfSome, IsSome, drop, slice_get}
 use Rattle.std.specs.Option.{option_map, option_map_or}
-use Rattle.plc_base.specs.Keeper.{Store, Records}
+use Rattle.plc_base.specs.Keeper.{Store}
 use Rattle.plc_base.specs.Writes.{Wrote}
 use Rattle.plc_base.specs.declared.address.Eui.{Eui}
 use Rattle.plc_base.specs.declared.key.Rand.{Rand}
@@ -19,17 +19,17 @@ use Rattle.node_rules.specs.Memory.{StationMemory, Memory, CoordinatorSession, C
 use Rattle.node_rules.specs.MemoryDrafts.{in_memory, on_station, with_memory_by, is_commanded, oldest, without_oldest}
 use Rattle.node_rules.specs.Joining.{message, command_of, first_packet, server_for}
 use Rattle.node_rules.specs.Calls.{commands, command_frames}
-use Rattle.node_rules.specs.Drafts.{Draft, empty_draft, refused, sealing, sealed, checked}
+use Rattle.node_rules.specs.Drafts.{Draft, empty_draft, refused, sealing, checked}
 use Rattle.node_rules.specs.Coordinators.{orders, lacking, with_session, sessions_full, allowed_address, challenge, challenge_by}
 use Rattle.node_rules.specs.States.{State}
-use Rattle.node_rules.specs.Carrying.{Carries, nothing}
-use Rattle.node_rules.specs.Composing.{begun, behind}
+use Rattle.node_rules.specs.Carrying.{Carries}
+use Rattle.node_rules.specs.Composing.{begun}
 use Rattle.node_rules.proofs.Composing.{command_plan, command_units, room_seals, room_refuses, carries_behind}
 use Rattle.coordinator.specs.CoordinatorStates.{memory_in, state_in}
 use Rattle.coordinator.specs.CoordinatorAgreement.{HoldsWith, Holds}
 use Rattle.coordinator.specs.Tables.{placed}
 use Rattle.coordinator.specs.Telling.{telling, lacks, RoomFor}
-use Rattle.coordinator.proofs.Storing.{carried_by, refusal}
+use Rattle.coordinator.proofs.Storing.{carried_by}
 
 -- # The plan, by what is tested
 

@@ -1,15 +1,14 @@
 -- Orders whose message goes in a command, of what the station does about the command.
-use Rattle.std.proofs.Common.{◌≡◌, ℕ, ◌+◌, ◌<◌, ◌++◌, Bool, true, false, List, [], length, Option, Some, None, Result, Ok, Err, refl, sym, ap, subst, ◌∙◌, arith}
-use Rattle.std.specs.Prelude.{if◌then◌else◌, nat_lt, IfSome}
+use Rattle.std.proofs.Common.{◌≡◌, ℕ, Bool, true, false, List, length, Option, Some, None, Result, refl, sym, subst}
+use Rattle.std.specs.Prelude.{if◌then◌else◌, nat_lt}
 use Rattle.std.specs.Option.{option_map, option_map_or}
-use Rattle.plc_base.specs.Writes.{Wrote}
 use Rattle.plc_base.specs.declared.out_frame.Out.{Out}
 use Rattle.joining_messages.specs.declared.message.JoinMessage.{JoinMessage}
 use Rattle.node_rules.specs.declared.heard.SentHow.{SentHow}
 use Rattle.node_rules.specs.declared.refusal.SendRefusal.{SendRefusal}
 use Rattle.node_rules.specs.declared.refusal.SendRefusal.TheVariants as sends
-use Rattle.node_rules.specs.Memory.{StationMemory, Memory, Command, CoordinatorSession, address_of, next_hop}
-use Rattle.node_rules.specs.MemoryDrafts.{in_memory, with_station, with_memory_by, on_station, is_commanded, without_oldest}
+use Rattle.node_rules.specs.Memory.{StationMemory, Memory, Command, address_of, next_hop}
+use Rattle.node_rules.specs.MemoryDrafts.{in_memory, with_station, with_memory_by, on_station, is_commanded}
 use Rattle.node_rules.specs.Plans.{Plan, within, resting}
 use Rattle.node_rules.specs.Drafts.{Draft, Lack, OfRoom, OfNumbers, alone, empty_draft, sets_out, lack, is_awaited, counters_left, refused, sealing, sealed, checked, waits, seeks_once, body_goes, goes, with_own_number}
 use Rattle.node_rules.specs.Calls.{sending_ends, lacking, how, send_command, command_from}
@@ -17,7 +16,6 @@ use Rattle.node_rules.specs.Joining.{command_of}
 use Rattle.node_rules.specs.Coordinators as rules
 use Rattle.node_rules.specs.States.{State}
 use Rattle.node_rules.specs.Carrying.{Carries}
-use Rattle.plc_station.proofs.Carrying.{at_some}
 use Rattle.coordinator.specs.Ordering.{order_answer, ordering, as_it_is}
 use Rattle.coordinator.proofs.Within.{KeepsHome, counter_below, number_below, append_below}
 

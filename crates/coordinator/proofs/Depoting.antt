@@ -1,5 +1,5 @@
 -- What joining a meter in the workshop comes to.
-use Rattle.std.proofs.Common.{◌≡◌, ℕ, ◌+◌, Bool, true, false, List, [], length, Option, Some, None, Result, Ok, Err, refl, sym, ap, subst, ◌∙◌}
+use Rattle.std.proofs.Common.{◌≡◌, ℕ, ◌+◌, Bool, true, false, Option, Some, None, Ok, Err, refl, sym, ap, subst, ◌∙◌}
 use Rattle.std.specs.Prelude.{if◌then◌else◌, IfSome, IsSome, slice_get}
 use Rattle.std.specs.Option.{option_map, option_map_or, option_and_then}
 use Rattle.plc_base.specs.Grant.{Granted}
@@ -18,10 +18,10 @@ use Rattle.node_rules.specs.Coordinators.{Ordering, orders, changed, with_book_e
 use Rattle.node_rules.specs.States.{State}
 use Rattle.node_rules.specs.Carrying.{Carries, nothing}
 use Rattle.node_rules.proofs.Composing.{state_is}
-use Rattle.plc_station.proofs.Carrying.{at_some, if_some}
+use Rattle.plc_station.proofs.Carrying.{at_some}
 use Rattle.coordinator.specs.CoordinatorAgreement.{HoldsWith}
 use Rattle.coordinator.specs.Doings.{Does}
-use Rattle.coordinator.proofs.Storing.{stored, unstored, carried_by, told, untold}
+use Rattle.coordinator.proofs.Storing.{stored, unstored, carried_by}
 use Rattle.coordinator.proofs.Entering.{IsQuiet, changed_quiet, below_limit, allowed_eui}
 
 -- an entry of the book after what was done before

@@ -1,5 +1,5 @@
 -- Entries of the book that change, and what letting a meter in comes to.
-use Rattle.std.proofs.Common.{◌≡◌, ℕ, ◌+◌, ◌≤◌, Bool, true, false, [], length, Option, Some, None, Result, Ok, Err, refl, sym, ap, subst, ◌∙◌}
+use Rattle.std.proofs.Common.{◌≡◌, ℕ, ◌+◌, ◌≤◌, Bool, true, false, [], Option, Some, None, Ok, Err, refl, sym, ap, subst, ◌∙◌}
 use Rattle.std.specs.Prelude.{if◌then◌else◌, not, IfSome}
 use Rattle.plc_base.specs.Keeper.{Store}
 use Rattle.plc_base.specs.Writes.{Wrote, puts_of}
@@ -19,7 +19,7 @@ use Rattle.node_rules.proofs.Composing.{state_is}
 use Rattle.plc_station.proofs.Carrying.{at_some}
 use Rattle.coordinator.specs.CoordinatorAgreement.{HoldsWith}
 use Rattle.coordinator.specs.Doings.{Does}
-use Rattle.coordinator.proofs.Storing.{stored, unstored, refusal, carried_by, told, untold}
+use Rattle.coordinator.proofs.Storing.{stored, unstored, carried_by, told, untold}
 
 -- # Doings one after another
 

@@ -1,5 +1,5 @@
 -- What taking in a random value comes to.
-use Rattle.std.proofs.Common.{◌≡◌, ◌≤◌, ◌++◌, Bool, true, false, List, [], ◌∷◌, length, Option, Some, None, Result, Ok, Err, refl, sym, ap, subst}
+use Rattle.std.proofs.Common.{◌≡◌, ◌≤◌, ◌++◌, true, false, List, [], ◌∷◌, length, Some, Result, Ok, Err, refl, sym, ap, subst}
 use Rattle.std.specs.Prelude.{nat_lt, OnOk, OnErr, MatchResult}
 use Rattle.std.specs.Option.{option_map}
 use Rattle.plc_base.specs.declared.key.Rand.{Rand}
@@ -13,7 +13,6 @@ use Rattle.node_rules.specs.Drafts.{Draft, empty_draft, choose, refused, sealing
 use Rattle.node_rules.specs.States.{State}
 use Rattle.node_rules.specs.Carrying.{Carries, nothing}
 use Rattle.coordinator.specs.CoordinatorStates.{memory_in, state_in}
-use Rattle.coordinator.specs.Doings.{Does}
 use Rattle.coordinator.proofs.Storing.{stored, refusal, carried_by}
 
 one_more : Memory → Rand → Draft Memory

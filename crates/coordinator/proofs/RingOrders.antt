@@ -1,5 +1,5 @@
 -- What orders about the ring come to, by what is tested.
-use Rattle.std.proofs.Common.{◌≡◌, ℕ, Bool, true, false, Some, None, refl}
+use Rattle.std.proofs.Common.{◌≡◌, ℕ, true, false, refl}
 use Rattle.std.specs.Prelude.{◌==◌, is_some}
 use Rattle.std.specs.Option.{option_map_or}
 use Rattle.plc_base.specs.Grant.{Granted}
@@ -7,7 +7,7 @@ use Rattle.plc_base.specs.declared.key.Key.{Key}
 use Rattle.group_keys.specs.KeyRing.{key_in_ring, with_key, with_active}
 use Rattle.node_rules.specs.declared.refusal.CoordinatorRefusal.TheVariants.{IndexActive, NotHeld}
 use Rattle.node_rules.specs.Memory.{StationMemory, Memory}
-use Rattle.node_rules.specs.Calls.{Ringing, ringing_ends, activate}
+use Rattle.node_rules.specs.Calls.{ringing_ends, activate}
 use Rattle.node_rules.specs.MemoryDrafts.{in_memory, on_station}
 use Rattle.node_rules.specs.Drafts.{alone, empty_draft, with_ring, choose, refused, sealing}
 use Rattle.node_rules.specs.Coordinators.{orders, rekey, activate_self}

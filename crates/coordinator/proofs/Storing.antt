@@ -1,5 +1,5 @@
 -- Doings that store and send no sealed frame.
-use Rattle.std.proofs.Common.{◌≡◌, ◌≤◌, ◌++◌, true, false, [], map, Option, Some, None, Result, Ok, Err, refl, sym, ap, subst, append-nil}
+use Rattle.std.proofs.Common.{◌≡◌, ◌≤◌, true, false, [], map, Option, Some, None, Result, Ok, Err, refl, sym, ap, subst, append-nil}
 use Rattle.std.specs.Prelude.{IfSome, IfNone, IsSome}
 use Rattle.std.specs.Option.{option_map}
 use Rattle.plc_base.specs.declared.out_frame.Out.{Out}

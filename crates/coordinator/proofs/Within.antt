@@ -1,11 +1,11 @@
 -- Plans of the station that are carried out, in the coordinator.
-use Rattle.std.proofs.Common.{◌≡◌, ℕ, ◌+◌, ◌≤◌, ◌<◌, ◌++◌, Bool, true, false, List, [], ◌∷◌, Option, Some, None, Result, Ok, Err, inl, inr, refl, sym, ap, subst, ◌∙◌, arith}
+use Rattle.std.proofs.Common.{◌≡◌, ℕ, ◌≤◌, ◌<◌, ◌++◌, Bool, true, false, List, [], ◌∷◌, Option, Some, None, Result, inr, refl, sym, ap, subst, ◌∙◌, arith}
 use Rattle.std.specs.Prelude.{if◌then◌else◌, ◌==◌, IfSome, ⊤}
 use Rattle.std.specs.Option.{option_map}
 use Rattle.std.specs.FinMap.{get}
 use Rattle.plc_base.specs.Grant.{Granted}
 use Rattle.plc_base.specs.declared.key.Key.{Key}
-use Rattle.plc_base.specs.Keeper.{Store, Records, Write}
+use Rattle.plc_base.specs.Keeper.{Store, Write}
 use Rattle.plc_base.specs.Writes.{Writes, Wrote, puts_of}
 use Rattle.plc_base.specs.SlotTables.{slot_of}
 use Rattle.plc_base.specs.declared.out_frame.Out.{Out}
@@ -24,7 +24,7 @@ use Rattle.node_rules.specs.Agreement.{AgreesWith, Agrees}
 use Rattle.node_rules.specs.States.{State}
 use Rattle.node_rules.specs.Composing.{seen}
 use Rattle.node_rules.proofs.Composing.{carries_within}
-use Rattle.node_rules.specs.Carrying.{Carries, nothing}
+use Rattle.node_rules.specs.Carrying.{Carries}
 use Rattle.coordinator.specs.CoordinatorAgreement.{HoldsWith, Holds}
 
 -- so its station did

@@ -1,10 +1,10 @@
 -- What the coordinator holds as stored against what the records of its keeper give.
-use Rattle.std.specs.Prelude.{◌≡◌, Option, Some, IfSome}
+use Rattle.std.specs.Prelude.{◌≡◌, Some, IfSome}
 use Rattle.std.specs.Option.{option_map, option_and_then}
 use Rattle.std.specs.FinMap.{get}
 use Rattle.plc_base.specs.Keeper.{Records}
 use Rattle.plc_base.specs.Grant.{Granted}
-use Rattle.group_keys.specs.KeyRing.{Ring, ring_at, ring_slot}
+use Rattle.group_keys.specs.KeyRing.{ring_at, ring_slot}
 use Rattle.group_keys.specs.KeyBook as book
 use Rattle.node_rules.specs.Memory.{Memory, address_of}
 use Rattle.node_rules.specs.Agreement.{AgreesWith}

@@ -1,6 +1,5 @@
 -- What the coordinator is seen as, and what it is as a node.
-use Rattle.std.specs.Prelude.{◌≡◌, List, Option, Some, None, refl}
-use Rattle.std.specs.Option.{option_map}
+use Rattle.std.specs.Prelude.{List, None, refl}
 use Rattle.std.specs.Coded.{Coded, code_by, coded×, coded_list}
 use Rattle.plc_base.specs.declared.key.Rand.{Rand}
 use Rattle.group_keys.specs.KeyBook.{Book, book_code}

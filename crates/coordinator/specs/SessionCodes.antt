@@ -30,7 +30,8 @@ way_back (Mesh origin) = refl
 
 abbrev pub way_code : Coded Way
 way_code =
-    code_by (Eui ⊎ (ℕ ⊎ ℕ)) (coded⊎ eui_code (coded⊎ coded_ℕ coded_ℕ)) (λ w. way_parts w) (λ p. way_of p) (λ w. way_back w)
+    code_by (Eui ⊎ (ℕ ⊎ ℕ))
+    (coded⊎ eui_code (coded⊎ coded_ℕ coded_ℕ)) (λ w. way_parts w) (λ p. way_of p) (λ w. way_back w)
 
 abbrev pub server_code : Coded Server
 server_code =

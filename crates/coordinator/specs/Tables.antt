@@ -1,5 +1,5 @@
 -- The table of the sessions that the coordinator holds.
-use Rattle.std.specs.Prelude.{ℕ, not, nat_lt, Bool, true, false, if◌then◌else◌, List, [], ◌∷◌, ◌++◌, length, set, position, slice_get, is_some, Option, Some, None, refl}
+use Rattle.std.specs.Prelude.{ℕ, not, nat_lt, Bool, false, if◌then◌else◌, List, [], ◌∷◌, ◌++◌, length, set, position, slice_get, is_some, Option}
 use Rattle.std.specs.List.{filter}
 use Rattle.std.specs.Option.{option_map_or, option_and_then}
 use Rattle.plc_base.specs.declared.address.Eui.{Eui}

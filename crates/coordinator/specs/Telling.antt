@@ -1,5 +1,5 @@
 -- Messages that go in a command for which there is room.
-use Rattle.std.specs.Prelude.{ℕ, ◌&&◌, Bool, nat_lt, is_some, length, Option, Result}
+use Rattle.std.specs.Prelude.{ℕ, ◌&&◌, Bool, nat_lt, is_some, length, Option}
 use Rattle.joining_messages.specs.declared.message.JoinMessage.{JoinMessage}
 use Rattle.node_rules.specs.declared.refusal.CoordinatorRefusal.{CoordinatorRefusal}
 use Rattle.node_rules.specs.Memory.{Memory, Command, next_hop}

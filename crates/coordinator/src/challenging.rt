@@ -119,8 +119,8 @@ impl<K: Keeper + Drop> Coordinator<K> {
         requires value { IfSome (node_of self.old).memory (λ m. Some value ≡ words.oldest m) }
         requires empty { out.old ≡ nothing }
         ensures carries { IfSome (node_of self.old).memory (λ m. Carries (node_of self.old)
-            (rules.challenge_by self.old.station.eui m to now (joining.server_for eui self.old.station.eui value)) result
-            out.new (node_of self.new)) }
+            (rules.challenge_by self.old.station.eui m to now (joining.server_for eui self.old.station.eui value))
+            result out.new (node_of self.new)) }
         ensures holds { Holds (node_of self.new) }
     {
         let mut eap = EapBuf::new();

@@ -41,7 +41,8 @@ impl<K: Keeper + Drop> Coordinator<K> {
         requires index { index ≤ 1 }
         ensures carries { IfSome (node_of self.old).memory (λ m.
             Carries (node_of self.old) (drafts.sealing words.in_memory rules.orders
-            (words.on_station (drafts.with_ring (ring.with_key m.station.ring index key.now)) (drafts.empty_draft m)) tt) result nothing (node_of self.new)) }
+            (words.on_station (drafts.with_ring (ring.with_key m.station.ring index key.now)) (drafts.empty_draft m)) tt)
+            result nothing (node_of self.new)) }
         ensures holds { Holds (node_of self.new) }
     {
         let Ok(()) = self.station.put_key(index, key) else {
@@ -58,7 +59,8 @@ impl<K: Keeper + Drop> Coordinator<K> {
         requires held { IfSome (node_of self.old).memory (λ m. is_some (ring.key_in_ring m.station.ring index) ≡ true) }
         ensures carries { IfSome (node_of self.old).memory (λ m.
             Carries (node_of self.old) (drafts.sealing words.in_memory rules.orders
-            (words.on_station (drafts.with_ring (ring.with_active m.station.ring index)) (drafts.empty_draft m)) tt) result nothing (node_of self.new)) }
+            (words.on_station (drafts.with_ring (ring.with_active m.station.ring index)) (drafts.empty_draft m)) tt)
+            result nothing (node_of self.new)) }
         ensures holds { Holds (node_of self.new) }
     {
         let Ok(()) = self.station.activate(index) else {

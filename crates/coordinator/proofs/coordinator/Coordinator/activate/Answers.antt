@@ -1,7 +1,5 @@
-use Rattle.std.proofs.Common.{refl}
 use Rattle.node_rules.specs.declared.refusal.CoordinatorRefusal.TheVariants.{NotAllowed, NotIssued}
 use Rattle.node_rules.specs.Coordinators.{orders}
-use Rattle.node_rules.specs.Carrying.{nothing}
 use Rattle.plc_station.proofs.Carrying.{if_some, at_some}
 use Rattle.coordinator.specs.CoordinatorStates.{node_of}
 use Rattle.coordinator.proofs.Storing.{refusal, carried_by}

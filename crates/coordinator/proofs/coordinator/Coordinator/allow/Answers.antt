@@ -1,6 +1,4 @@
-use Rattle.std.proofs.Common.{◌≡◌, true, refl, sym, ap, subst, ◌∙◌}
-use Rattle.plc_base.specs.declared.address.Eui.{Eui}
-use Rattle.group_keys.specs.declared.key_book.BookEntry.{BookEntry}
+use Rattle.std.proofs.Common.{refl, ap, ◌∙◌}
 use Rattle.group_keys.specs.KeyBook as book
 use Rattle.node_rules.specs.declared.refusal.CoordinatorRefusal.TheVariants.{MetersFull}
 use Rattle.node_rules.specs.Coordinators.{orders}

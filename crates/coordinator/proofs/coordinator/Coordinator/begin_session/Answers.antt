@@ -1,5 +1,3 @@
-use Rattle.std.proofs.Common.{refl}
-use Rattle.plc_station.proofs.Carrying.{at_some}
 use Rattle.coordinator.proofs.Storing.{on_parts, by_some}
 use Rattle.coordinator.proofs.Parts.{part_runs, part_says}
 use Rattle.coordinator.proofs.Challenges.{began, beside_holds, has_value}

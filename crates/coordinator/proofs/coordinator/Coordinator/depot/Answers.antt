@@ -1,4 +1,4 @@
-use Rattle.std.proofs.Common.{◌≡◌, true, refl, sym, ap, subst, ◌∙◌}
+use Rattle.std.proofs.Common.{refl, ap, ◌∙◌}
 use Rattle.group_keys.specs.KeyBook as book
 use Rattle.node_rules.specs.declared.refusal.CoordinatorRefusal.TheVariants.{MetersFull}
 use Rattle.node_rules.specs.Coordinators.{orders, changed}

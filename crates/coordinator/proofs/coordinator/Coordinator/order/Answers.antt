@@ -1,5 +1,4 @@
-use Rattle.std.proofs.Common.{refl, ap, ◌∙◌}
-use Rattle.node_rules.specs.Calls.{send_command}
+use Rattle.std.proofs.Common.{refl, ◌∙◌}
 use Rattle.plc_station.proofs.Carrying.{at_some}
 use Rattle.coordinator.specs.CoordinatorStates.{memory_in}
 use Rattle.coordinator.specs.Ordering.{order_answer}

@@ -1,4 +1,3 @@
-use Rattle.std.proofs.Common.{refl}
 use Rattle.plc_station.proofs.Carrying.{at_some}
 use Rattle.coordinator.proofs.Storing.{on_parts}
 use Rattle.coordinator.proofs.Parts.{part_agrees}
