@@ -1,0 +1,15 @@
+pub mod Agreeing
+pub mod Storing
+pub mod Entering
+pub mod Depoting
+pub mod Within
+pub mod Parts
+pub mod CommandOrders
+pub mod RingOrders
+pub mod Restarting
+pub mod Activating
+pub mod GivenRandoms
+pub mod Booking
+pub mod Reaching
+pub mod Kicks
+pub mod Challenges

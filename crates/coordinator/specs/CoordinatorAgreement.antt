@@ -1,0 +1,25 @@
+-- What the coordinator holds as stored against what the records of its keeper give.
+use Rattle.std.specs.Prelude.{◌≡◌, Some, IfSome}
+use Rattle.std.specs.Option.{option_map, option_and_then}
+use Rattle.std.specs.FinMap.{get}
+use Rattle.plc_base.specs.Keeper.{Records}
+use Rattle.plc_base.specs.Grant.{Granted}
+use Rattle.group_keys.specs.KeyRing.{ring_at, ring_slot}
+use Rattle.group_keys.specs.KeyBook as book
+use Rattle.node_rules.specs.Memory.{Memory, address_of}
+use Rattle.node_rules.specs.Agreement.{AgreesWith}
+use Rattle.node_rules.specs.States.{State}
+
+-- What its station and its book hold as stored is what the records give, and its address is 0000.
+pub record HoldsWith (m : Memory) (records : Records) : Type 0 where
+  pub station : AgreesWith m.station records
+  pub book : book.IsKept m.book records
+  pub home : address_of m.station ≡ Some 0
+
+-- the same of the coordinator, unless it is halted
+abbrev pub Holds : State Memory → Type 0
+Holds s = IfSome s.memory (λ m. HoldsWith m s.store.records)
+
+-- the records hold a ring with address 0000
+abbrev pub HasHome : Records → Type 0
+HasHome records = option_and_then (option_map (λ (g : Granted). g.address)) (ring_at (get records ring_slot)) ≡ Some 0

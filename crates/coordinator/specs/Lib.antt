@@ -1,0 +1,9 @@
+pub mod SessionCodes
+pub mod CoordinatorStates
+pub mod Tables
+pub mod CoordinatorReading
+pub mod CoordinatorAgreement
+pub mod Doings
+pub mod Ordering
+pub mod Telling
+pub mod Kicking

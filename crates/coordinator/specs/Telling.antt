@@ -1,0 +1,28 @@
+-- Messages that go in a command for which there is room.
+use Rattle.std.specs.Prelude.{ℕ, ◌&&◌, Bool, nat_lt, is_some, length, Option}
+use Rattle.joining_messages.specs.declared.message.JoinMessage.{JoinMessage}
+use Rattle.node_rules.specs.declared.refusal.CoordinatorRefusal.{CoordinatorRefusal}
+use Rattle.node_rules.specs.Memory.{Memory, Command, next_hop}
+use Rattle.node_rules.specs.MemoryDrafts.{with_station}
+use Rattle.node_rules.specs.Plans.{within}
+use Rattle.node_rules.specs.Drafts.{counters_left}
+use Rattle.node_rules.specs.Joining.{command_of}
+use Rattle.node_rules.specs.Composing.{HasRoom, command_fault, told, command_alone}
+use Rattle.node_rules.specs.Coordinators.{Ordering, orders, lacking}
+
+-- there is room for the command that carries a message
+abbrev pub RoomFor : Memory → ℕ → JoinMessage → Type 0
+RoomFor m to join = HasRoom m.station to (length (command_of join))
+
+-- what is lacking for it
+abbrev pub lacks : Memory → ℕ → ℕ → Option CoordinatorRefusal
+lacks m to octets = command_fault orders lacking m.station to octets
+
+-- the command goes, from the coordinator's address
+abbrev pub telling : Memory → ℕ → JoinMessage → ℕ → Ordering (Unit {0})
+telling m to join now =
+    within (λ l. with_station l m) (told orders tt) (command_alone m.station 0 to (Command (command_of join)) now)
+
+-- whether there is a route to an address, and a counter for a frame
+abbrev pub reaches : Memory → ℕ → Bool
+reaches m to = is_some (next_hop m.station to) && nat_lt 0 (counters_left m.station)

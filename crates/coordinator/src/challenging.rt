@@ -1,0 +1,161 @@
+//! Sessions that the operator opens with a meter over the mesh.
+ghost use Rattle.std.specs.Prelude.{◌≡◌, ◌≤◌, false, Err, Some, None, IfSome, IfNone, IsSome, IfOk, IfErr, length};
+ghost use Rattle.joining_messages.specs.Messages.{IsMessage};
+ghost use Rattle.joining_messages.specs.declared.message.JoinBody.TheVariants as body;
+ghost use Rattle.node_rules.specs.Joining.{command_of};
+ghost use Rattle.node_rules.specs.Joining as joining;
+ghost use Rattle.node_rules.specs.MemoryDrafts as words;
+ghost use Rattle.node_rules.specs.Coordinators as rules;
+ghost use Rattle.node_rules.specs.Carrying.{Carries, nothing};
+ghost use Rattle.coordinator.specs.CoordinatorStates.{node_of};
+ghost use Rattle.coordinator.specs.CoordinatorAgreement.{Holds};
+ghost use Rattle.coordinator.specs.Telling as telling;
+
+use crate::coordinator::Coordinator;
+use crate::sessions::Session;
+use eap_psk::Server;
+use joining_base::write_command;
+use joining_messages::{JoinBody, JoinMessage};
+use node_rules::{CoordinatorRefusal, Way};
+use plc_base::{EapBuf, Eui, FrameBuf, Keeper, Out, Rand, Short};
+
+impl<K: Keeper + Drop> Coordinator<K> {
+    // The address of a meter that is allowed.
+    fn allowed_address(&self, eui: Eui) -> Option<Short>
+        ensures { IfSome (node_of self.now).memory (λ m. result ≡ rules.allowed_address m eui) }
+    {
+        if self.book.allowed(eui) {
+            return self.book.address(eui);
+        }
+        None
+    }
+
+    // Whether a session of a meter can't be opened: it has none, and 8 are open.
+    fn sessions_full(&self, eui: Eui) -> bool
+        ensures { IfSome (node_of self.now).memory (λ m. result ≡ rules.sessions_full m eui) }
+    {
+        self.sessions.full_for(eui)
+    }
+
+    // The oldest random value.
+    fn oldest(&self) -> Option<Rand>
+        ensures { IfSome (node_of self.now).memory (λ m. result ≡ words.oldest m) }
+    {
+        self.randoms.oldest()
+    }
+
+    // What stands in the way of the command that carries a message.
+    fn message_room(&self, to: Short, message: &JoinMessage) -> Result<(), CoordinatorRefusal>
+        requires running { IsSome (node_of self.now).memory }
+        requires holds { Holds (node_of self.now) }
+        requires message { IsMessage message.now }
+        ensures room { IfOk result (λ _. IfSome (node_of self.now).memory (λ m. telling.RoomFor m to message.now)) }
+        ensures refused { IfErr result (λ reason. IfSome (node_of self.now).memory (λ m.
+            telling.lacks m to (length (command_of message.now)) ≡ Some reason)) }
+    {
+        let mut octets = FrameBuf::new();
+        write_command(message, &mut octets);
+        self.room_for(to, octets.len() as u16)
+    }
+
+    // A session begins, with the oldest random value.
+    fn begin_session(&mut self, session: Session)
+        requires running { IsSome (node_of self.old).memory }
+        requires holds { Holds (node_of self.old) }
+        requires room { IfSome (node_of self.old).memory (λ m. rules.sessions_full m session.server.eui ≡ false) }
+        requires value { IfSome (node_of self.old).memory (λ m. IsSome (words.oldest m)) }
+        ensures state { IfSome (node_of self.old).memory (λ m. node_of self.new
+            ≡ record (node_of self.old) { memory = Some (rules.with_session session (words.without_oldest m)) }) }
+        ensures holds { Holds (node_of self.new) }
+    {
+        self.randoms.drop_oldest();
+        self.sessions.put(session);
+    }
+
+    // This first packet goes to a meter over the mesh, and its session begins.
+    fn open_by(
+        &mut self,
+        server: Server,
+        to: Short,
+        message: &JoinMessage,
+        now: u64,
+        out: &mut Out,
+    ) -> Result<(), CoordinatorRefusal>
+        requires running { IsSome (node_of self.old).memory }
+        requires holds { Holds (node_of self.old) }
+        requires room { IfSome (node_of self.old).memory (λ m. rules.sessions_full m server.eui ≡ false) }
+        requires value { IfSome (node_of self.old).memory (λ m. IsSome (words.oldest m)) }
+        requires message { IsMessage message.now }
+        requires packet { message.now ≡ joining.message server.eui (body.Challenge (joining.first_packet server)) }
+        requires empty { out.old ≡ nothing }
+        ensures carries { IfSome (node_of self.old).memory (λ m. Carries (node_of self.old)
+            (rules.challenge_by self.old.station.eui m to now server) result out.new (node_of self.new)) }
+        ensures holds { Holds (node_of self.new) }
+    {
+        match self.message_room(to, message) {
+            Err(reason) => return Err(reason),
+            Ok(()) => {}
+        }
+        self.begin_session(Session {
+            server,
+            way: Way::Mesh(to),
+            since: now,
+        });
+        self.tell(to, message, now, out)
+    }
+
+    // The first packet goes to a meter over the mesh, and its session begins with this random value, the oldest.
+    fn challenge_by(
+        &mut self,
+        eui: Eui,
+        to: Short,
+        value: Rand,
+        now: u64,
+        out: &mut Out,
+    ) -> Result<(), CoordinatorRefusal>
+        requires running { IsSome (node_of self.old).memory }
+        requires holds { Holds (node_of self.old) }
+        requires room { IfSome (node_of self.old).memory (λ m. rules.sessions_full m eui ≡ false) }
+        requires value { IfSome (node_of self.old).memory (λ m. Some value ≡ words.oldest m) }
+        requires empty { out.old ≡ nothing }
+        ensures carries { IfSome (node_of self.old).memory (λ m. Carries (node_of self.old)
+            (rules.challenge_by self.old.station.eui m to now (joining.server_for eui self.old.station.eui value))
+            result out.new (node_of self.new)) }
+        ensures holds { Holds (node_of self.new) }
+    {
+        let mut eap = EapBuf::new();
+        let server = Server::first(eui, self.station.eui(), value, &mut eap);
+        let body = JoinBody::Challenge { eap };
+        self.open_by(server, to, &JoinMessage { eui, body }, now, out)
+    }
+
+    /// Opens a session with a meter over the mesh, at a time in seconds: a random value is taken, and the first packet goes to the meter
+    /// in a command, which is in `out`, or waits for a route, and where nothing waited for that one yet, a request for it to all is in
+    /// `out`. A session that the meter had ends.
+    ///
+    /// Halted, NotAllowed, SessionsFull where the meter has none and 8 are open, NoRandom, WaitingFull, SeqSpent, CounterSpent, Store,
+    /// in this order. After Store it is halted, after the others nothing has changed.
+    pub fn challenge(&mut self, eui: Eui, now: u64, out: &mut Out) -> Result<(), CoordinatorRefusal>
+        requires holds { Holds (node_of self.old) }
+        ensures halted { IfNone (node_of self.old).memory
+            ((result ≡ Err CoordinatorRefusal.Halted) × (out.new ≡ nothing) × (self.new ≡ self.old)) }
+        ensures carries { IfSome (node_of self.old).memory (λ m. Carries (node_of self.old)
+            (rules.challenge self.old.station.eui m eui now) result out.new (node_of self.new)) }
+        ensures holds { Holds (node_of self.new) }
+    {
+        out.clear();
+        if self.halted() {
+            return Err(CoordinatorRefusal::Halted);
+        }
+        let Some(to) = self.allowed_address(eui) else {
+            return Err(CoordinatorRefusal::NotAllowed);
+        };
+        if self.sessions_full(eui) {
+            return Err(CoordinatorRefusal::SessionsFull);
+        }
+        let Some(value) = self.oldest() else {
+            return Err(CoordinatorRefusal::NoRandom);
+        };
+        self.challenge_by(eui, to, value, now, out)
+    }
+}

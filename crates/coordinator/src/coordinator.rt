@@ -1,0 +1,106 @@
+//! The coordinator.
+ghost use Rattle.std.specs.Prelude.{◌≡◌, Some, None, Ok, Err, IfSome, IfNone, IsSome, IfOk, IfErr};
+ghost use Rattle.std.specs.Option.{option_map, option_and_then};
+ghost use Rattle.plc_base.specs.SlotTables.{IsGapless};
+ghost use Rattle.frame_counters.specs.PeerMarks.{peers};
+ghost use Rattle.routing_set.specs.RoutingSet.{ranks};
+ghost use Rattle.group_keys.specs.KeyBook as book;
+ghost use Rattle.node_rules.specs.Memory as memory;
+ghost use Rattle.node_rules.specs.StoreReading.{memory_of};
+ghost use Rattle.node_rules.specs.Coordinators as rules;
+ghost use Rattle.coordinator.specs.CoordinatorReading.{if_read, read_answer};
+ghost use Rattle.coordinator.specs.CoordinatorStates.{node_of};
+ghost use Rattle.coordinator.specs.CoordinatorAgreement.{Holds, HasHome};
+
+use crate::sessions::Sessions;
+use group_keys::KeyBook;
+use joining_base::RandomValues;
+use plc_base::{BadStore, Keeper, Short};
+use plc_station::Station;
+use std::marker::Model;
+
+/// The coordinator over its keeper. It is halted where its station is.
+///
+/// A contract sees its station, the random values, the sessions and the book; `node_of` is the same as a node.
+#[derive(Drop)]
+pub struct Coordinator<K: Keeper + Drop> {
+    pub(crate) station: Station<K>,
+    pub(crate) book: KeyBook,
+    pub(crate) randoms: RandomValues,
+    pub(crate) sessions: Sessions,
+}
+
+impl<K: Keeper + Drop> Model for Coordinator<K> {
+    ghost use Rattle.coordinator.specs.CoordinatorStates.{CoordinatorState, coordinator_code};
+
+    ghost Value = { CoordinatorState };
+
+    ghost coded = { coordinator_code };
+
+    ghost view = { λ c. record {
+      station = c.station;
+      randoms = c.randoms;
+      sessions = c.sessions;
+      book = c.book;
+    } };
+}
+
+impl<K: Keeper + Drop> Coordinator<K> {
+    ghost use Rattle.std.specs.Borrow.{Lends, sem};
+    ghost use Rattle.coordinator.specs.contracts.coordinator.Coordinator.{the_row};
+    ghost use Rattle.plc_station.specs.contracts.station.Station.{the_row as station_row};
+
+    /// Lends the station, to accept frames, to send, and for what breaks and is set at it. What the coordinator keeps beside it
+    /// stays.
+    pub fn station(&mut self) -> &mut Station<K>
+        ensures* lends { sem 𝓛 (Lends (the_row K.row K.Keeper) (station_row K.row K.Keeper) self.entry result
+            (λ w. record self.entry.now { station = w })) }
+        ensures value { result.now ≡ self.old.station }
+    {
+        &mut self.station
+    }
+
+    /// Its short address, None where it is halted.
+    pub fn address(&self) -> Option<Short>
+        ensures { result ≡ option_and_then
+            (λ (m : memory.Memory). memory.address_of m.station) (node_of self.now).memory }
+    {
+        if self.station.halted() {
+            return None;
+        }
+        self.station.ring().joined()
+    }
+
+    /// Ends what is old at a time in seconds: what its station ends, and the sessions that were opened 120 seconds ago or before. A
+    /// halted one stays as it is.
+    pub fn tick(&mut self, now: u64)
+        requires holds { Holds (node_of self.old) }
+        ensures state { node_of self.new
+            ≡ record (node_of self.old) { memory = option_map (rules.tick now) (node_of self.old).memory } }
+        ensures holds { Holds (node_of self.new) }
+    {
+        self.station.tick(now);
+        self.sessions.expire(now);
+    }
+
+    /// Forgets everything but the store, and ends a halt. After BadStore it is halted.
+    pub fn restart(&mut self) -> Result<(), BadStore>
+        ensures answer { result ≡ read_answer (memory_of memory.Coordinator self.old.station.store.records) }
+        ensures memory { (node_of self.new).memory
+            ≡ if_read (memory_of memory.Coordinator self.old.station.store.records) }
+        ensures store { self.new.station.store ≡ self.old.station.store }
+        ensures eui { self.new.station.eui ≡ self.old.station.eui }
+        ensures holds { IsGapless peers self.old.station.store.records
+            → IsGapless ranks self.old.station.store.records → IsGapless book.entries self.old.station.store.records
+            → HasHome self.old.station.store.records → Holds (node_of self.new) }
+    {
+        self.randoms.clear();
+        self.sessions.clear();
+        self.station.restart()?;
+        if let Err(bad) = self.book.reload(self.station.keeper_mut()) {
+            self.station.halt();
+            return Err(bad);
+        }
+        Ok(())
+    }
+}

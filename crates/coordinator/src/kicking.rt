@@ -1,0 +1,105 @@
+//! Meters that the operator shuts out.
+ghost use Rattle.std.specs.Prelude.{◌≡◌, true, is_ok, Err, Some, None, IfSome, IfNone, IsSome};
+ghost use Rattle.group_keys.specs.KeyBook as book;
+ghost use Rattle.node_rules.specs.Drafts as drafts;
+ghost use Rattle.node_rules.specs.Coordinators as rules;
+ghost use Rattle.node_rules.specs.Carrying.{Carries, nothing};
+ghost use Rattle.coordinator.specs.CoordinatorStates.{node_of};
+ghost use Rattle.coordinator.specs.CoordinatorAgreement.{Holds};
+ghost use Rattle.coordinator.specs.Doings.{Does};
+ghost use Rattle.coordinator.specs.Telling as telling;
+ghost use Rattle.coordinator.specs.Kicking as kicking;
+
+use crate::coordinator::Coordinator;
+use crate::entries::kicked;
+use group_keys::BookEntry;
+use joining_messages::{JoinBody, JoinMessage};
+use node_rules::CoordinatorRefusal;
+use plc_base::{Eui, Failed, Keeper, Out, Short};
+
+impl<K: Keeper + Drop> Coordinator<K> {
+    // The entry of a meter is stored as kicked, and its session ends.
+    fn shut_out(&mut self, entry: &BookEntry) -> Result<(), Failed>
+        requires running { IsSome (node_of self.old).memory }
+        requires holds { Holds (node_of self.old) }
+        requires room { IfSome (node_of self.old).memory (λ m. book.has_room m.book entry.now.eui ≡ true) }
+        ensures does { IfSome (node_of self.old).memory (λ m.
+            Does (node_of self.old) (kicking.shut_out m entry.now) (is_ok result) (node_of self.new)) }
+        ensures holds { Holds (node_of self.new) }
+    {
+        let Ok(_) = self.keep_entry(kicked(entry)) else {
+            return Err(Failed);
+        };
+        self.end_session(entry.eui);
+        Ok(())
+    }
+
+    // A meter that is not reached is shut out.
+    fn kick_silently(&mut self, entry: &BookEntry) -> Result<(), CoordinatorRefusal>
+        requires running { IsSome (node_of self.old).memory }
+        requires holds { Holds (node_of self.old) }
+        requires room { IfSome (node_of self.old).memory (λ m. book.has_room m.book entry.now.eui ≡ true) }
+        ensures carries { IfSome (node_of self.old).memory (λ m.
+            Carries (node_of self.old) (kicking.silently m entry.now) result nothing (node_of self.new)) }
+        ensures holds { Holds (node_of self.new) }
+    {
+        let Ok(()) = self.shut_out(entry) else {
+            return Err(CoordinatorRefusal::Store);
+        };
+        Ok(())
+    }
+
+    // A meter that is reached is shut out, and told so.
+    fn kick_told(
+        &mut self,
+        entry: BookEntry,
+        to: Short,
+        out: &mut Out,
+    ) -> Result<(), CoordinatorRefusal>
+        requires running { IsSome (node_of self.old).memory }
+        requires holds { Holds (node_of self.old) }
+        requires room { IfSome (node_of self.old).memory (λ m. book.has_room m.book entry.eui ≡ true) }
+        requires reached { IfSome (node_of self.old).memory (λ m. telling.reaches m to ≡ true) }
+        requires empty { out.old ≡ nothing }
+        ensures carries { IfSome (node_of self.old).memory (λ m.
+            Carries (node_of self.old) (rules.kick_by m entry to) result out.new (node_of self.new)) }
+        ensures holds { Holds (node_of self.new) }
+    {
+        let Ok(()) = self.shut_out(&entry) else {
+            return Err(CoordinatorRefusal::Store);
+        };
+        let message = JoinMessage {
+            eui: entry.eui,
+            body: JoinBody::Kick,
+        };
+        self.tell(to, &message, 0, out)
+    }
+
+    /// Shuts a meter out: it may not join any more, the keys that were issued to it are cleared, and its session ends. Where there is
+    /// a route to it and a counter for a frame, the command that tells it so is in `out`.
+    ///
+    /// Halted, NotAllowed, Store, in this order. After Store it is halted, after the others nothing has changed.
+    pub fn kick(&mut self, eui: Eui, out: &mut Out) -> Result<(), CoordinatorRefusal>
+        requires holds { Holds (node_of self.old) }
+        ensures halted { IfNone (node_of self.old).memory
+            ((result ≡ Err CoordinatorRefusal.Halted) × (out.new ≡ nothing) × (self.new ≡ self.old)) }
+        ensures carries { IfSome (node_of self.old).memory (λ m.
+            Carries (node_of self.old) (rules.kick m eui) result out.new (node_of self.new)) }
+        ensures holds { Holds (node_of self.new) }
+    {
+        out.clear();
+        if self.halted() {
+            return Err(CoordinatorRefusal::Halted);
+        }
+        let Some(entry) = self.allowed_one(eui) else {
+            return Err(CoordinatorRefusal::NotAllowed);
+        };
+        let Some(to) = self.known_address(eui) else {
+            return Err(CoordinatorRefusal::NotAllowed);
+        };
+        if !self.reaches(to) {
+            return self.kick_silently(&entry);
+        }
+        self.kick_told(entry, to, out)
+    }
+}

@@ -1,0 +1,164 @@
+//! Orders of the operator that go to a meter in a command, and the random values that joinings use.
+ghost use Rattle.std.specs.Prelude.{◌≡◌, ◌≤◌, Err, Some, None, IfSome, IfNone, IsSome};
+ghost use Rattle.joining_messages.specs.Messages.{IsMessage};
+ghost use Rattle.group_keys.specs.KeyBook as book;
+ghost use Rattle.node_rules.specs.MemoryDrafts as words;
+ghost use Rattle.node_rules.specs.Coordinators as rules;
+ghost use Rattle.node_rules.specs.Carrying.{Carries, nothing};
+ghost use Rattle.coordinator.specs.CoordinatorStates.{node_of};
+ghost use Rattle.coordinator.specs.CoordinatorAgreement.{Holds};
+ghost use Rattle.coordinator.specs.Ordering as ordering;
+
+use crate::coordinator::Coordinator;
+use group_keys::BookEntry;
+use joining_base::write_command;
+use joining_messages::{JoinBody, JoinMessage};
+use node_rules::{CoordinatorRefusal, RandomFault, SendRefusal, SentHow};
+use plc_base::{Eui, FrameBuf, Keeper, Key, Out, Rand, Short};
+
+// What a command is refused for, as the refusal of an order.
+pub(crate) fn order_refusal(reason: SendRefusal) -> CoordinatorRefusal
+    ensures { result ≡ ordering.order_refusal reason }
+{
+    match reason {
+        SendRefusal::Halted => CoordinatorRefusal::Halted,
+        SendRefusal::NotJoined => CoordinatorRefusal::Halted,
+        SendRefusal::BadSize => CoordinatorRefusal::Store,
+        SendRefusal::ToSelf => CoordinatorRefusal::Store,
+        SendRefusal::WaitingFull => CoordinatorRefusal::WaitingFull,
+        SendRefusal::SeqSpent => CoordinatorRefusal::SeqSpent,
+        SendRefusal::CounterSpent => CoordinatorRefusal::CounterSpent,
+        SendRefusal::Store => CoordinatorRefusal::Store,
+    }
+}
+
+// What became of a command, as the answer of an order.
+fn order_answer(sent: Result<SentHow, SendRefusal>) -> Result<(), CoordinatorRefusal>
+    ensures { result ≡ ordering.order_answer sent }
+{
+    match sent {
+        Ok(_) => Ok(()),
+        Err(reason) => Err(order_refusal(reason)),
+    }
+}
+
+// The key that was issued at an index, 0 or 1.
+fn issued_at(entry: &BookEntry, index: u8) -> Option<Key>
+    requires { index ≤ 1 }
+    ensures { result ≡ book.issued_at entry.now index }
+{
+    if index == 0 {
+        return entry.issued0;
+    }
+    entry.issued1
+}
+
+impl<K: Keeper + Drop> Coordinator<K> {
+    // Takes a random value in, after the others.
+    fn take_random(&mut self, value: Rand) -> Result<(), RandomFault>
+        requires running { IsSome (node_of self.old).memory }
+        requires holds { Holds (node_of self.old) }
+        ensures carries { IfSome (node_of self.old).memory (λ m.
+            Carries (node_of self.old) (words.give_random m value) result nothing (node_of self.new)) }
+        ensures holds { Holds (node_of self.new) }
+    {
+        self.randoms.give(value)
+    }
+
+    /// Takes a random value in. Halted, RandomsFull exactly where 8 are held, in this order; nothing has changed then.
+    pub fn give_random(&mut self, value: Rand) -> Result<(), RandomFault>
+        requires holds { Holds (node_of self.old) }
+        ensures halted { IfNone (node_of self.old).memory ((result ≡ Err RandomFault.Halted) × (self.new ≡ self.old)) }
+        ensures carries { IfSome (node_of self.old).memory (λ m.
+            Carries (node_of self.old) (words.give_random m value) result nothing (node_of self.new)) }
+        ensures holds { Holds (node_of self.new) }
+    {
+        if self.halted() {
+            return Err(RandomFault::Halted);
+        }
+        self.take_random(value)
+    }
+
+    // Sends a message to a meter in a command.
+    fn order(
+        &mut self,
+        to: Short,
+        message: &JoinMessage,
+        now: u64,
+        out: &mut Out,
+    ) -> Result<(), CoordinatorRefusal>
+        requires running { IsSome (node_of self.old).memory }
+        requires holds { Holds (node_of self.old) }
+        requires message { IsMessage message.now }
+        ensures carries { IfSome (node_of self.old).memory (λ m.
+            Carries (node_of self.old) (ordering.ordering ordering.as_it_is m to message.now now) result
+            out.new (node_of self.new)) }
+        ensures holds { Holds (node_of self.new) }
+    {
+        let mut octets = FrameBuf::new();
+        write_command(message, &mut octets);
+        let sent = self.station.send_command(to, octets.octets(), now, out);
+        order_answer(sent)
+    }
+
+    // The address of a meter in the book.
+    pub(crate) fn known_address(&self, eui: Eui) -> Option<Short>
+        ensures { IfSome (node_of self.now).memory (λ m. result ≡ book.address_of m.book eui) }
+    {
+        self.book.address(eui)
+    }
+
+    // Whether the ring's key at an index is the one that was issued to a meter.
+    fn was_issued(&self, entry: &BookEntry, index: u8) -> bool
+        requires { index ≤ 1 }
+        ensures { IfSome (node_of self.now).memory (λ m. result ≡ rules.was_issued m entry.now index) }
+    {
+        let Some(key) = self.station.ring().key(index) else {
+            return false;
+        };
+        let Some(issued) = issued_at(entry, index) else {
+            return false;
+        };
+        key == issued
+    }
+
+    /// Tells a meter, at a time in seconds, to seal with the key at an index, 0 or 1: the command is in `out`, or waits for a route,
+    /// and where nothing waited for that one yet, a request for it to all is in `out`.
+    ///
+    /// Halted, NotAllowed, NotIssued exactly where its ring has no key at the index or another one than was issued to the meter,
+    /// WaitingFull, SeqSpent, CounterSpent, Store, in this order. After Store it is halted, after the others nothing has changed.
+    pub fn activate(
+        &mut self,
+        eui: Eui,
+        index: u8,
+        now: u64,
+        out: &mut Out,
+    ) -> Result<(), CoordinatorRefusal>
+        requires holds { Holds (node_of self.old) }
+        requires index { index ≤ 1 }
+        ensures halted { IfNone (node_of self.old).memory ((result ≡ Err CoordinatorRefusal.Halted)
+            × (out.new ≡ nothing) × (self.new ≡ self.old)) }
+        ensures carries { IfSome (node_of self.old).memory (λ m.
+            Carries (node_of self.old) (rules.activate m eui index now) result out.new (node_of self.new)) }
+        ensures holds { Holds (node_of self.new) }
+    {
+        out.clear();
+        if self.halted() {
+            return Err(CoordinatorRefusal::Halted);
+        }
+        let Some(entry) = self.allowed_one(eui) else {
+            return Err(CoordinatorRefusal::NotAllowed);
+        };
+        let Some(to) = self.known_address(eui) else {
+            return Err(CoordinatorRefusal::NotAllowed);
+        };
+        if !self.was_issued(&entry, index) {
+            return Err(CoordinatorRefusal::NotIssued);
+        }
+        let message = JoinMessage {
+            eui: entry.eui,
+            body: JoinBody::Activate { index },
+        };
+        self.order(to, &message, now, out)
+    }
+}

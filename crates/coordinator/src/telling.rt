@@ -1,0 +1,71 @@
+//! Messages that go in a command for which there is room.
+ghost use Rattle.std.specs.Prelude.{◌≡◌, ◌≤◌, Some, None, Ok, Err, IfSome, IsSome, IfOk, IfErr, length, is_ok};
+ghost use Rattle.joining_messages.specs.Messages.{IsMessage};
+ghost use Rattle.node_rules.specs.Carrying.{Carries};
+ghost use Rattle.node_rules.specs.Composing.{HasRoom};
+ghost use Rattle.coordinator.specs.CoordinatorStates.{node_of};
+ghost use Rattle.coordinator.specs.CoordinatorAgreement.{Holds};
+ghost use Rattle.coordinator.specs.Telling as telling;
+
+use crate::coordinator::Coordinator;
+use crate::orders::order_refusal;
+use joining_base::write_command;
+use joining_messages::JoinMessage;
+use node_rules::CoordinatorRefusal;
+use plc_base::{FrameBuf, Keeper, Out, Short};
+
+impl<K: Keeper + Drop> Coordinator<K> {
+    // What stands in the way of a command of so many octets for an address.
+    pub(crate) fn room_for(&self, to: Short, octets: u16) -> Result<(), CoordinatorRefusal>
+        requires running { IsSome (node_of self.now).memory }
+        requires holds { Holds (node_of self.now) }
+        requires fits { octets ≤ 374 }
+        ensures room { IfOk result (λ _. IfSome (node_of self.now).memory (λ m. HasRoom m.station to octets)) }
+        ensures refused { IfErr result (λ reason.
+            IfSome (node_of self.now).memory (λ m. telling.lacks m to octets ≡ Some reason)) }
+    {
+        match self.station.room(to, octets) {
+            Ok(()) => Ok(()),
+            Err(reason) => Err(order_refusal(reason)),
+        }
+    }
+
+    // Whether there is a route to an address, and a counter for a frame.
+    pub(crate) fn reaches(&self, to: Short) -> bool
+        requires running { IsSome (node_of self.now).memory }
+        requires holds { Holds (node_of self.now) }
+        ensures { IfSome (node_of self.now).memory (λ m. result ≡ telling.reaches m to) }
+    {
+        let Some(_) = self.station.valid(to) else {
+            return false;
+        };
+        let Ok(()) = self.station.room(to, 1) else {
+            return false;
+        };
+        true
+    }
+
+    // Sends a message in a command that has room.
+    pub(crate) fn tell(
+        &mut self,
+        to: Short,
+        message: &JoinMessage,
+        now: u64,
+        out: &mut Out,
+    ) -> Result<(), CoordinatorRefusal>
+        requires running { IsSome (node_of self.old).memory }
+        requires holds { Holds (node_of self.old) }
+        requires message { IsMessage message.now }
+        requires room { IfSome (node_of self.old).memory (λ m. telling.RoomFor m to message.now) }
+        ensures carries { IfSome (node_of self.old).memory (λ m.
+            Carries (node_of self.old) (telling.telling m to message.now now) result out.new (node_of self.new)) }
+        ensures holds { Holds (node_of self.new) }
+    {
+        let mut octets = FrameBuf::new();
+        write_command(message, &mut octets);
+        let Ok(_) = self.station.send_command(to, octets.octets(), now, out) else {
+            return Err(CoordinatorRefusal::Store);
+        };
+        Ok(())
+    }
+}
