@@ -4,6 +4,7 @@
 //! yet.
 #![tactic(auto)]
 
+mod hearing;
 mod joining;
 mod meter;
 mod pair_key;
