@@ -1,2 +1,6 @@
 pub mod Carried
 pub mod MeterRules
+pub mod CommandRules
+pub mod ChallengeRules
+pub mod HearingRules
+pub mod ChallengeSteps

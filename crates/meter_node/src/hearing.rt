@@ -46,7 +46,7 @@ fn activated_as(done: Result<(), RingFault>) -> Result<MeterHeard, Dropped>
 
 impl<K: Keeper + Drop> Meter<K> {
     // Whether the session that is open runs so.
-    fn has_session(&self, course: Course) -> bool
+    pub(crate) fn has_session(&self, course: Course) -> bool
         ensures { (l : StationMemory) → result ≡ meters.has_session (memory_with self.now l) (course_of course) }
     {
         let Some(session) = self.session else {
@@ -59,7 +59,8 @@ impl<K: Keeper + Drop> Meter<K> {
     fn declined(&mut self, agent: Short) -> Result<MeterHeard, Dropped>
         requires running { IsSome self.old.station.memory }
         requires agrees { Agrees self.old.station }
-        ensures carries { IfSome (node_of self.old).memory (λ m. Carries (node_of self.old) (meters.declined m agent) result nothing (node_of self.new)) }
+        ensures carries { IfSome (node_of self.old).memory (λ m. Carries (node_of self.old)
+            (meters.declined m agent) result nothing (node_of self.new)) }
         ensures agrees { Agrees self.new.station }
     {
         if self.is_joined() {
@@ -76,7 +77,8 @@ impl<K: Keeper + Drop> Meter<K> {
     fn kicked(&mut self) -> Result<MeterHeard, Dropped>
         requires running { IsSome self.old.station.memory }
         requires agrees { Agrees self.old.station }
-        ensures carries { IfSome (node_of self.old).memory (λ m. Carries (node_of self.old) (meters.kicked m) result nothing (node_of self.new)) }
+        ensures carries { IfSome (node_of self.old).memory (λ m. Carries (node_of self.old)
+            (meters.kicked m) result nothing (node_of self.new)) }
         ensures agrees { Agrees self.new.station }
     {
         self.session = None;
@@ -91,7 +93,8 @@ impl<K: Keeper + Drop> Meter<K> {
         requires running { IsSome self.old.station.memory }
         requires agrees { Agrees self.old.station }
         requires index { index ≤ 1 }
-        ensures carries { IfSome (node_of self.old).memory (λ m. Carries (node_of self.old) (meters.activated m index) result nothing (node_of self.new)) }
+        ensures carries { IfSome (node_of self.old).memory (λ m. Carries (node_of self.old)
+            (meters.activated m index) result nothing (node_of self.new)) }
         ensures agrees { Agrees self.new.station }
     {
         let done = self.station.activate(index);
@@ -104,7 +107,8 @@ impl<K: Keeper + Drop> Meter<K> {
         requires agrees { Agrees self.old.station }
         requires message { IsMessage join.now }
         requires empty { out.old ≡ nothing }
-        ensures carries { IfSome (node_of self.old).memory (λ m. Carries (node_of self.old) (meters.carry_down m join.now join.now.body) result out.new (node_of self.new)) }
+        ensures carries { IfSome (node_of self.old).memory (λ m. Carries (node_of self.old)
+            (meters.carry_down m join.now join.now.body) result out.new (node_of self.new)) }
         ensures agrees { Agrees self.new.station }
     {
         let Some(own) = self.station.ring().joined() else {

@@ -4,9 +4,12 @@
 //! yet.
 #![tactic(auto)]
 
+mod challenges;
+mod commanding;
 mod hearing;
 mod joining;
 mod meter;
+mod packets;
 mod pair_key;
 mod session;
 #[cfg(test)]
