@@ -123,20 +123,24 @@ module _ (x y : MeterState) (t : State StationMemory) (l : StationMemory) (puts 
       → out ≡ record out { tags = record { made = []; opened = [] } }
   untagged_cut e address room c =
       let w : CutOff t Sending out y.station = carried_cut t y.station Sending (calls.how l to) e out refl (sending (Err e) address room c) in
-      λ i. record out { tags = record {
-        made = ap (λ (o : Out). o.tags.made) w.out_is i;
-        opened = (ap (λ (o : Out). o.tags.opened) w.out_is ∙ opened_none l own to (Command octets) now) i;
-      } }
+      λ i. record out {
+        tags = record {
+          made = ap (λ (o : Out). o.tags.made) w.out_is i;
+          opened = (ap (λ (o : Out). o.tags.opened) w.out_is ∙ opened_none l own to (Command octets) now) i;
+        };
+      }
 
   -- where it went out no tag was made or checked
   pub untagged : (h : SentHow) → address_of l ≡ Some own → HasRoom l to (length octets) → Carries t (calls.send_command l to octets now) (Ok h) out y.station
       → out ≡ record out { tags = record { made = []; opened = [] } }
   untagged h address room c =
       let w : Whole t Sending (Ok h) out y.station = carried_whole t y.station Sending h StoreRefusal out refl (sending (Ok h) address room c) in
-      λ i. record out { tags = record {
-        made = (ap (λ (o : Out). o.tags.made) w.out_is ∙ made_none l own to (Command octets) now) i;
-        opened = (ap (λ (o : Out). o.tags.opened) w.out_is ∙ opened_none l own to (Command octets) now) i;
-      } }
+      λ i. record out {
+        tags = record {
+          made = (ap (λ (o : Out). o.tags.made) w.out_is ∙ made_none l own to (Command octets) now) i;
+          opened = (ap (λ (o : Out). o.tags.opened) w.out_is ∙ opened_none l own to (Command octets) now) i;
+        };
+      }
 
 -- # The rule
 

@@ -109,11 +109,14 @@ module _ (l : StationMemory) (got : Accepted) (cost note now : ℕ) where
       joined (Air from) j = j
       joined (Near agent) j = tt
       joined (Mesh origin) j = j
+
       refused_never : (way : Way) (body : List ℕ) → ◌≡◌ {A = Result Heard Dropped} (Err drops.BadUnit) (Ok (Joining way body)) → ⊥
       refused_never way body h = cc
+
       by_ring : (r : Option Granted) (way : Way) (from : ℕ) (all : Bool) (key : Key) (unit : MeshUnit) → l.ring ≡ r → (hear_unit_in l (paths.Sealed from all key) (Some unit) cost note now).answer ≡ Ok (Joining way body) → CameBy way l
       by_ring (Some g) way from all key unit r h = joined way (subst (λ o. IsSome o) (sym r) refl)
       by_ring None way from all key unit r h = absurd (refused_never way body (rw r at h))
+
       near : (way : Way) (from : ℕ) (o : Option (List ℕ)) → (hear_plain l (λ b. Joining (Near from) b) o).answer ≡ Ok (Joining way body) → CameBy way l
       near way from None h = absurd (refused_never way body h)
       near (Near agent) from (Some b) h = tt
@@ -125,6 +128,7 @@ module _ (l : StationMemory) (got : Accepted) (cost note now : ℕ) where
         where
           differ : ◌≡◌ {A = Result Heard Dropped} (Ok (Joining (Near from) b)) (Ok (Joining (Mesh origin) body)) → ⊥
           differ k = cc
+
       by : (p : Path) (u : Option MeshUnit) → CameUp p l → (hear_unit_in l p u cost note now).answer ≡ Ok (Joining way body) → CameBy way l
       by p None up h = absurd (refused_never way body h)
       by (paths.Sealed from all key) (Some unit) up h = by_ring l.ring way from all key unit refl h
@@ -139,6 +143,7 @@ module _ (l : StationMemory) (got : Accepted) (cost note now : ℕ) where
         where
           failed_never : ◌≡◌ {A = Result Heard Dropped} (Err drops.Store) (Ok (Joining way body)) → ⊥
           failed_never k = cc
+
           by : (d : Bool) → c.done ≡ d → (hear l got cost note now).answer ≡ Ok (Joining way body)
           by true e = sym (c.answer_is ∙ ap (λ (d : Bool). if d then (hear l got cost note now).answer else (hear l got cost note now).failed) e) ∙ unread_is h way body is
           by false e = absurd (failed_never
@@ -165,9 +170,11 @@ module _ (l : StationMemory) (got : Accepted) (cost note now : ℕ) where
           where
             answer : (hear l got cost note now).answer ≡ Ok (Joining u.way u.body)
             answer = unread_is (hear l got cost note now).answer u.way u.body e
+
             calm : Rested s l (Ok (Joining u.way u.body)) h out t
             calm = rested s t l (Ok (Joining u.way u.body)) (Err drops.Store) h out
                 (subst (λ (p : Plan StationMemory (Result Heard Dropped)). Carries s p h out t) ((hear_hands_on l got cost note now).rests u.way u.body answer).1 c)
+
             again : h ≡ (hear l got cost note now).answer
             again = calm.answer_is ∙ sym answer
 
@@ -185,10 +192,10 @@ module _ (x : MeterState) (t : State StationMemory) (l : StationMemory) (got : A
       let calm : Rested x.station l (Ok (Joining way body)) h between t = at_rest l got cost note now x.station t h between c way body is in
       let answer : unread (hear l got cost note now).answer ≡ Some (record { way = way; body = body }) = ap unread (handed_on l got cost note now x.station t h between c way body is) in
       let there : Carries (node_of After) (meters.hear_join_in (identity_of After) (memory_with x l) way (join_in body) now) r out (node_of y) =
-          at_some (node_of After).memory (λ m. Carries (node_of After) (meters.hear_join_in (identity_of After) m way (join_in body) now) r out (node_of y)) (memory_with x l)
-          (ap (option_map (memory_with x)) calm.memory) k in
+      at_some (node_of After).memory (λ m. Carries (node_of After) (meters.hear_join_in (identity_of After) m way (join_in body) now) r out (node_of y)) (memory_with x l)
+      (ap (option_map (memory_with x)) calm.memory) k in
       let named : Carries (node_of After) (meters.hear_join_in (identity_of x) (memory_with x l) way (join_in body) now) r out (node_of y) =
-          subst (λ e. Carries (node_of After) (meters.hear_join_in (record (identity_of x) { eui = e }) (memory_with x l) way (join_in body) now) r out (node_of y)) calm.eui there in
+      subst (λ e. Carries (node_of After) (meters.hear_join_in (record (identity_of x) { eui = e }) (memory_with x l) way (join_in body) now) r out (node_of y)) calm.eui there in
       subst (λ (p : meters.Hearing). Carries (node_of x) p r out (node_of y))
       (ap (λ o. meters.heard_by (identity_of x) (memory_with x l) now (hear l got cost note now) o) (sym answer))
       (carries_behind (node_of x) (node_of After) (node_of y) [] (meters.hear_join_in (identity_of x) (memory_with x l) way (join_in body) now) r out

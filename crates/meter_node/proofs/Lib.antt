@@ -4,3 +4,4 @@ pub mod CommandRules
 pub mod ChallengeRules
 pub mod HearingRules
 pub mod ChallengeSteps
+pub mod DispatchRules

@@ -38,7 +38,8 @@ impl<K: Keeper + Drop> Meter<K> {
         requires agrees { Agrees self.old.station }
         requires empty { out.old ≡ nothing }
         ensures carries { IfSome (node_of self.old).memory (λ m. Carries (node_of self.old)
-            (meters.reply (identity_of self.old) m (memory.ByAgent agent) packet.now now) result out.new (node_of self.new)) }
+            (meters.reply (identity_of self.old) m (memory.ByAgent agent) packet.now now)
+            result out.new (node_of self.new)) }
         ensures agrees { Agrees self.new.station }
     {
         self.awaits(agent)?;
@@ -87,7 +88,10 @@ impl<K: Keeper + Drop> Meter<K> {
             peer: Some(peer),
             since: now,
         });
-        let Ok(_) = self.station.send_command(coordinator(), command.octets(), now, out) else {
+        let Ok(_) = self
+            .station
+            .send_command(coordinator(), command.octets(), now, out)
+        else {
             return Err(Dropped::Store);
         };
         out.tags = tags;
@@ -106,7 +110,8 @@ impl<K: Keeper + Drop> Meter<K> {
         requires agrees { Agrees self.old.station }
         requires empty { out.old ≡ nothing }
         ensures carries { IfSome (node_of self.old).memory (λ m. Carries (node_of self.old)
-            (meters.take (identity_of self.old) m (memory.ByAgent agent) packet.now now) result out.new (node_of self.new)) }
+            (meters.take (identity_of self.old) m (memory.ByAgent agent) packet.now now)
+            result out.new (node_of self.new)) }
         ensures agrees { Agrees self.new.station }
     {
         self.awaits(agent)?;
@@ -158,7 +163,10 @@ impl<K: Keeper + Drop> Meter<K> {
             out.tags = tags;
             return Err(Dropped::Store);
         };
-        let Ok(_) = self.station.send_command(coordinator(), command.octets(), now, out) else {
+        let Ok(_) = self
+            .station
+            .send_command(coordinator(), command.octets(), now, out)
+        else {
             tags.made.clear();
             out.tags = tags;
             return Err(Dropped::Store);
@@ -179,7 +187,8 @@ impl<K: Keeper + Drop> Meter<K> {
         requires agrees { Agrees self.old.station }
         requires empty { out.old ≡ nothing }
         ensures carries { IfSome (node_of self.old).memory (λ m. Carries (node_of self.old)
-            (meters.challenged (identity_of self.old) m (memory.ByAgent agent) packet.now now) result out.new (node_of self.new)) }
+            (meters.challenged (identity_of self.old) m (memory.ByAgent agent) packet.now now)
+            result out.new (node_of self.new)) }
         ensures agrees { Agrees self.new.station }
     {
         if is_first(packet) {
@@ -200,7 +209,8 @@ impl<K: Keeper + Drop> Meter<K> {
         requires joined { IfSome self.old.station.memory (λ l. IsSome l.ring) }
         requires empty { out.old ≡ nothing }
         ensures carries { IfSome (node_of self.old).memory (λ m. Carries (node_of self.old)
-            (meters.challenged (identity_of self.old) m memory.ByCommand packet.now now) result out.new (node_of self.new)) }
+            (meters.challenged (identity_of self.old) m memory.ByCommand packet.now now)
+            result out.new (node_of self.new)) }
         ensures agrees { Agrees self.new.station }
     {
         if is_first(packet) {

@@ -101,7 +101,10 @@ impl<K: Keeper + Drop> Meter<K> {
         let mut command = FrameBuf::new();
         write_up(join, &mut command);
         self.room(&command)?;
-        let Ok(_) = self.station.send_command(coordinator(), command.octets(), now, out) else {
+        let Ok(_) = self
+            .station
+            .send_command(coordinator(), command.octets(), now, out)
+        else {
             return Err(Dropped::Store);
         };
         Ok(MeterHeard::Carried)

@@ -58,7 +58,7 @@ returns-in_default-clause-carries g c =
     let x : MeterState = record { station = c.self.inside.station; psk = c.self.inside.pair_key; randoms = c.self.inside.randoms; session = option_map session_of c.self.inside.session } in
     rw (← c.self.view_is) (on_node x _ (λ l running.
     command_failed x l c.args.packet.now c.args.now c.in_ok-peer.peer fine value is c.send_command.new.self c.drop_oldest.new.self c.drop_oldest.ensures c.send_command.new.out (at_some _ _ l running joined)
-    (subst (λ (k : List ℕ). HasRoom l 0 (length k)) (c.write_up.ensures.command ∙ ap command_of (c.join_with-join.ensures.value ∙ (λ j. message (c.eui-eui.ensures j) (body.Join (written j))))) (at_some _ _ l running room)) _ 
+    (subst (λ (k : List ℕ). HasRoom l 0 (length k)) (c.write_up.ensures.command ∙ ap command_of (c.join_with-join.ensures.value ∙ (λ j. message (c.eui-eui.ensures j) (body.Join (written j))))) (at_some _ _ l running room)) _
     (sent_as x.station c.send_command.new.self l c.coordinator.result c.octets.result.now (Second x l c.args.packet.now c.args.now c.in_ok-peer.peer) c.args.now _ c.send_command.new.out c.coordinator.ensures
     (c.octets.ensures.value ∙ (c.write_up.ensures.command ∙ ap command_of (c.join_with-join.ensures.value ∙ (λ j. message (c.eui-eui.ensures j) (body.Join (written j)))))) (at_some _ _ l running c.in_default.ensures.carries))))
 
