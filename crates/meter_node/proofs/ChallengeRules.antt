@@ -1,5 +1,5 @@
 -- How a meter's answers to the packets of a challenge are carried out.
-use Rattle.std.proofs.Common.{◌≡◌, ℕ, true, false, List, [], ◌∷◌, ◌++◌, drop, map, Option, Some, None, Result, Ok, Err, refl, sym, ap, subst, ◌∙◌}
+use Rattle.std.proofs.Common.{◌≡◌, ℕ, true, false, List, [], ◌∷◌, drop, map, Option, Some, None, Result, Ok, Err, refl, sym, ap, subst, ◌∙◌}
 use Rattle.std.specs.Prelude.{slice_get, is_some, IfSome}
 use Rattle.std.specs.Option.{option_map, option_map_or}
 use Rattle.std.proofs.lemmas.List.{append-nil}
@@ -28,7 +28,7 @@ use Rattle.node_rules.specs.declared.refusal.Dropped.TheVariants.{NoSession, NoR
 use Rattle.node_rules.specs.Ciphers.{network}
 use Rattle.node_rules.specs.Frames.{Sent, Up, spelled}
 use Rattle.node_rules.specs.Memory.{StationMemory, Memory, MeterSession, Course, ByAgent, ByCommand}
-use Rattle.node_rules.specs.Plans.{Plan, resting}
+use Rattle.node_rules.specs.Plans.{Plan}
 use Rattle.node_rules.specs.Drafts.{Ends, empty_draft, with_ring, refused, sealing, checked, choose}
 use Rattle.node_rules.specs.Hearing.{dropped}
 use Rattle.node_rules.specs.Calls as calls

@@ -1,5 +1,5 @@
 -- What a meter did about the packets of a challenge, by what its calls did.
-use Rattle.std.proofs.Common.{◌≡◌, ℕ, List, [], ◌∷◌, drop, map, length, Option, Some, None, Result, Ok, Err, refl, sym, ap, subst, ◌∙◌}
+use Rattle.std.proofs.Common.{◌≡◌, ℕ, List, [], ◌∷◌, drop, map, length, Some, None, Result, Ok, Err, refl, sym, ap, subst, ◌∙◌}
 use Rattle.std.specs.Prelude.{slice_get, IfSome, IsSome}
 use Rattle.plc_base.specs.Grant.{Granted}
 use Rattle.plc_base.specs.Writes.{puts_of}
@@ -38,7 +38,7 @@ use Rattle.plc_station.proofs.Carrying.{at_some}
 use Rattle.meter_node.specs.MeterStates.{MeterState, memory_with, node_of, identity_of}
 use Rattle.meter_node.specs.Hearing.{first_refusal, peer_in, third_refusal}
 use Rattle.meter_node.proofs.CommandRules.{Commands, commanded, not_commanded, stopped_before, untagged_cut, goes_in_command, lacks_in_command, address_at, same_frames}
-use Rattle.meter_node.proofs.ChallengeRules.{changes_with, ring_changes, ring_fails, replying, reply_goes, replies_by_agent, replies_in_command, take_goes, takes_by_agent, takes_in_command, taken_made, taken_opened}
+use Rattle.meter_node.proofs.ChallengeRules.{changes_with, ring_changes, ring_fails, replying, reply_goes, replies_by_agent, replies_in_command, take_goes, takes_by_agent, takes_in_command}
 
 -- # Replies
 

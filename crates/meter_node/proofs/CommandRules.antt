@@ -1,6 +1,6 @@
 -- How a joining message that goes to the coordinator in a command is carried out.
-use Rattle.std.proofs.Common.{arith, ◌≡◌, ℕ, Bool, true, false, List, [], ◌∷◌, ◌++◌, length, Option, Some, None, Result, Ok, Err, refl, sym, ap, subst, ◌∙◌}
-use Rattle.std.specs.Prelude.{◌==◌, is_some, if◌then◌else◌, IfSome, IsSome}
+use Rattle.std.proofs.Common.{arith, ◌≡◌, ℕ, Bool, true, false, List, [], ◌++◌, length, Option, Some, None, Result, Ok, Err, refl, sym, ap, subst, ◌∙◌}
+use Rattle.std.specs.Prelude.{◌==◌, is_some, IfSome, IsSome}
 use Rattle.std.specs.Option.{option_map, option_map_or}
 use Rattle.std.proofs.lemmas.List.{append-nil}
 use Rattle.std.proofs.lemmas.Bool.Decides.{nat_tests}
@@ -32,7 +32,7 @@ use Rattle.node_rules.specs.Hearing.{dropped, dropped_for}
 use Rattle.node_rules.specs.Calls as calls
 use Rattle.node_rules.specs.MemoryDrafts.{in_memory, on_station, is_commanded, command_lack}
 use Rattle.node_rules.specs.States.{State}
-use Rattle.node_rules.specs.Carrying.{Carries, given}
+use Rattle.node_rules.specs.Carrying.{Carries}
 use Rattle.node_rules.specs.Composing.{behind, adding, out_with, seen, begun, told, command_alone, command_fault, HasRoom}
 use Rattle.node_rules.proofs.Composing.{carries_stopped, carries_within, carries_behind, carries_adding, command_plan, command_sent, carried_whole, carried_cut, Whole, CutOff, room_seals, room_refuses, command_units}
 use Rattle.meter_node.specs.MeterStates.{MeterState, memory_with, node_of}

@@ -1,5 +1,5 @@
 -- How a meter goes on by what a joining message says.
-use Rattle.std.proofs.Common.{◌≡◌, ℕ, true, false, [], Result, Ok, Err, refl, sym, ap, subst, ◌∙◌}
+use Rattle.std.proofs.Common.{◌≡◌, ℕ, true, false, [], Result, Ok, Err, refl, sym, subst, ◌∙◌}
 use Rattle.std.specs.Prelude.{IfSome, ◌==◌}
 use Rattle.plc_base.specs.declared.out_frame.Out.{Out}
 use Rattle.joining_messages.specs.declared.message.JoinMessage.{JoinMessage}

@@ -1,19 +1,13 @@
-use Rattle.std.proofs.Common.{Some, None, [], ◌∷◌, ◌++◌, sym, ap, refl, ◌∙◌}
 use Rattle.std.specs.Option.{option_map}
-use Rattle.node_rules.specs.Ciphers.{network}
 use Rattle.node_rules.specs.Carrying.{nothing}
-use Rattle.node_rules.specs.Hearing.{dropped}
 use Rattle.node_rules.specs.Meters as meters
 use Rattle.node_rules.specs.Calls as calls
-use Rattle.node_rules.specs.Frames.{Down, spelled}
-use Rattle.node_rules.specs.declared.heard.MeterHeard.TheVariants as heard
-use Rattle.node_rules.specs.declared.refusal.Dropped.TheVariants.{BadUnit, NoSession}
 use Rattle.plc_station.proofs.Carrying.{at_some}
 use Rattle.meter_node.specs.Sessions.{session_of}
 use Rattle.meter_node.specs.Hearing as hearing
-use Rattle.meter_node.specs.MeterStates.{node_of, memory_with, identity_of}
-use Rattle.meter_node.proofs.Carried.{on_node, refuses, changes, as_station}
-use Rattle.meter_node.proofs.MeterRules.{declines, declined_joined, declined_unasked, activates, carries_down, not_carried, carried_without, down_frame}
+use Rattle.meter_node.specs.MeterStates.{memory_with}
+use Rattle.meter_node.proofs.Carried.{on_node, as_station}
+use Rattle.meter_node.proofs.MeterRules.{activates}
 use Rattle.meter_node.proofs.meter.Meter.activated.Goals as goal
 
 pub returns-clause-carries : goal.returns-clause-carries

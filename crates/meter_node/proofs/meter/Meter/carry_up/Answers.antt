@@ -1,17 +1,15 @@
-use Rattle.std.proofs.Common.{ℕ, Some, None, [], ◌∷◌, ◌++◌, sym, ap, subst, refl, ◌∙◌}
+use Rattle.std.proofs.Common.{ℕ, Some, sym, ap, subst, refl, ◌∙◌}
 use Rattle.std.specs.Prelude.{length, List}
 use Rattle.std.specs.Option.{option_map}
 use Rattle.std.proofs.lemmas.Result.{err_from_is_err_and}
 use Rattle.plc_base.specs.Addresses.{eui_number}
 use Rattle.node_rules.specs.Hearing.{dropped, dropped_for}
 use Rattle.node_rules.specs.Composing.{HasRoom, command_fault}
-use Rattle.node_rules.specs.Memory.{StationMemory}
-use Rattle.node_rules.specs.Joining.{command_of}
 use Rattle.node_rules.specs.Meters as meters
 use Rattle.node_rules.specs.declared.refusal.Dropped.TheVariants.{BadUnit}
 use Rattle.plc_station.proofs.Carrying.{at_some}
 use Rattle.meter_node.specs.Sessions.{session_of}
-use Rattle.meter_node.specs.MeterStates.{MeterState, node_of, memory_with}
+use Rattle.meter_node.specs.MeterStates.{MeterState, memory_with}
 use Rattle.meter_node.proofs.Carried.{on_node, refuses}
 use Rattle.meter_node.proofs.CommandRules.{other_number, same_number, not_up, not_own, sent_as, up_sent, up_failed, up_lacks}
 use Rattle.meter_node.proofs.meter.Meter.carry_up.Goals as goal

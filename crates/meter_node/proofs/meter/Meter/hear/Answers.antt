@@ -1,4 +1,4 @@
-use Rattle.std.proofs.Common.{Result, Some, None, sym, ap, subst, refl, ◌∙◌}
+use Rattle.std.proofs.Common.{Result, sym, ap, subst, ◌∙◌}
 use Rattle.std.specs.Option.{option_map}
 use Rattle.node_rules.specs.declared.heard.MeterHeard.{MeterHeard}
 use Rattle.node_rules.specs.declared.refusal.Dropped.{Dropped}
@@ -8,7 +8,7 @@ use Rattle.plc_station.proofs.Carrying.{at_some}
 use Rattle.meter_node.specs.Sessions.{session_of}
 use Rattle.meter_node.specs.MeterStates.{MeterState, node_of, memory_with, identity_of}
 use Rattle.meter_node.proofs.Carried.{on_node}
-use Rattle.meter_node.proofs.HearingRules.{some_at, running_on, came, at_rest, After, heard_joining, heard_other}
+use Rattle.meter_node.proofs.HearingRules.{some_at, running_on, came, at_rest, heard_joining, heard_other}
 use Rattle.meter_node.proofs.meter.Meter.hear.Goals as goal
 
 pub hear_joining-requires-clause-running : goal.hear_joining-requires-clause-running

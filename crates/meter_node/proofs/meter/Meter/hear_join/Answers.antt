@@ -4,7 +4,7 @@ use Rattle.plc_base.specs.Addresses.{eui_number}
 use Rattle.node_rules.specs.Meters as meters
 use Rattle.node_rules.specs.declared.refusal.Dropped.TheVariants.{BadUnit}
 use Rattle.meter_node.specs.Sessions.{session_of}
-use Rattle.meter_node.specs.MeterStates.{MeterState, node_of, memory_with, identity_of}
+use Rattle.meter_node.specs.MeterStates.{MeterState, memory_with, identity_of}
 use Rattle.meter_node.proofs.CommandRules.{other_number, same_number}
 use Rattle.meter_node.proofs.HearingRules.{same_plan}
 use Rattle.meter_node.proofs.DispatchRules.{drops, near_own, near_other, mesh_far, mesh_own, mesh_other}

@@ -1,12 +1,10 @@
-use Rattle.std.proofs.Common.{Some, None, sym, ap, refl, ◌∙◌}
+use Rattle.std.proofs.Common.{ap, refl, ◌∙◌}
 use Rattle.joining_messages.specs.Reading.{join_in}
 use Rattle.node_rules.specs.Hearing.{dropped}
-use Rattle.node_rules.specs.Memory as memory
 use Rattle.node_rules.specs.Meters as meters
 use Rattle.node_rules.specs.declared.refusal.Dropped.TheVariants.{BadUnit}
-use Rattle.meter_node.specs.MeterStates.{node_of, memory_with, identity_of}
+use Rattle.meter_node.specs.MeterStates.{memory_with, identity_of}
 use Rattle.meter_node.proofs.Carried.{on_node, refuses}
-use Rattle.meter_node.proofs.ChallengeRules.{first_challenge, other_challenge}
 use Rattle.meter_node.proofs.HearingRules.{same_plan}
 use Rattle.meter_node.proofs.meter.Meter.hear_joining.Goals as goal
 

@@ -1,9 +1,8 @@
-use Rattle.std.proofs.Common.{sym, ap, refl, ◌∙◌}
-use Rattle.joining_messages.specs.declared.message.JoinBody.TheVariants as body
+use Rattle.std.proofs.Common.{sym, ap, ◌∙◌}
 use Rattle.node_rules.specs.Memory as memory
 use Rattle.node_rules.specs.Meters as meters
 use Rattle.node_rules.specs.declared.refusal.Dropped.TheVariants.{BadUnit}
-use Rattle.meter_node.specs.MeterStates.{node_of, memory_with, identity_of}
+use Rattle.meter_node.specs.MeterStates.{memory_with, identity_of}
 use Rattle.meter_node.proofs.HearingRules.{same_plan}
 use Rattle.meter_node.proofs.DispatchRules.{noted, drops, quietly}
 use Rattle.meter_node.proofs.meter.Meter.hear_order.Goals as goal

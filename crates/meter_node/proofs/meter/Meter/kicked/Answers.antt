@@ -1,16 +1,11 @@
-use Rattle.std.proofs.Common.{Some, None, [], ◌∷◌, ◌++◌, sym, ap, refl, ◌∙◌}
+use Rattle.std.proofs.Common.{None}
 use Rattle.std.specs.Option.{option_map}
-use Rattle.node_rules.specs.Ciphers.{network}
 use Rattle.node_rules.specs.Carrying.{nothing}
-use Rattle.node_rules.specs.MemoryDrafts.{given_ends, give_random}
 use Rattle.node_rules.specs.Meters as meters
-use Rattle.node_rules.specs.Joining.{message}
-use Rattle.node_rules.specs.Frames.{Up, spelled}
-use Rattle.joining_messages.specs.declared.message.JoinBody.TheVariants as body
 use Rattle.plc_station.proofs.Carrying.{at_some}
 use Rattle.meter_node.specs.Sessions.{session_of}
-use Rattle.meter_node.specs.MeterStates.{node_of, memory_with, identity_of}
-use Rattle.meter_node.proofs.Carried.{on_node, refuses, changes, as_station, given}
+use Rattle.meter_node.specs.MeterStates.{memory_with}
+use Rattle.meter_node.proofs.Carried.{on_node, as_station}
 use Rattle.node_rules.specs.Calls as calls
 use Rattle.meter_node.specs.Hearing as hearing
 use Rattle.meter_node.proofs.MeterRules.{kicks}

@@ -1,28 +1,19 @@
-use Rattle.std.proofs.Common.{ℕ, Bool, List, Some, None, Ok, Err, [], ◌∷◌, ◌++◌, length, sym, ap, subst, refl, ◌∙◌}
+use Rattle.std.proofs.Common.{ℕ, List, Some, length, sym, ap, subst, refl, ◌∙◌}
 use Rattle.std.specs.Option.{option_map}
 use Rattle.std.proofs.lemmas.Result.{err_from_is_err_and}
-use Rattle.plc_base.specs.Faults.{◌then◌, ◌unless◌}
-use Rattle.plc_base.specs.declared.out_frame.Out.{Out}
-use Rattle.joining_messages.specs.declared.message.JoinMessage.{JoinMessage}
 use Rattle.joining_messages.specs.declared.message.JoinBody.TheVariants as body
-use Rattle.eap_psk.specs.Keys.{keys_of}
-use Rattle.node_rules.specs.Ciphers.{network}
-use Rattle.node_rules.specs.Frames.{Up, spelled}
 use Rattle.node_rules.specs.Hearing.{dropped, dropped_for}
 use Rattle.node_rules.specs.Composing.{HasRoom, command_fault}
 use Rattle.node_rules.specs.Memory as memory
 use Rattle.node_rules.specs.Joining.{command_of, message}
 use Rattle.node_rules.specs.Meters as meters
-use Rattle.node_rules.specs.States.{State}
-use Rattle.node_rules.specs.declared.refusal.Dropped.TheVariants.{NoSession}
 use Rattle.plc_station.proofs.Carrying.{at_some}
 use Rattle.meter_node.specs.Sessions.{session_of}
-use Rattle.meter_node.specs.Hearing.{first_refusal, third_refusal}
-use Rattle.meter_node.specs.MeterStates.{MeterState, node_of, memory_with, identity_of}
+use Rattle.meter_node.specs.MeterStates.{MeterState, memory_with, identity_of}
 use Rattle.meter_node.proofs.Carried.{on_node, refuses}
-use Rattle.meter_node.proofs.CommandRules.{sent_as, sent_some}
-use Rattle.meter_node.proofs.ChallengeRules.{reply_refused, take_refused}
-use Rattle.meter_node.proofs.ChallengeSteps.{Second, Fourth, agent_replied, command_replied, command_failed, reply_lacks, agent_took, agent_cut, command_took, command_cut, ring_cut, take_lacks}
+use Rattle.meter_node.proofs.CommandRules.{sent_as}
+use Rattle.meter_node.proofs.ChallengeRules.{reply_refused}
+use Rattle.meter_node.proofs.ChallengeSteps.{Second, command_replied, command_failed, reply_lacks}
 use Rattle.meter_node.proofs.meter.Meter.reply_by_command.Goals as goal
 
 pub returns-in_err-peer-clause-carries : goal.returns-in_err-peer-clause-carries
