@@ -1,3 +1,4 @@
 pub mod Sessions
 pub mod MeterStates
 pub mod Reading
+pub mod Hearing

@@ -1,11 +1,14 @@
 //! A meter: a station that joins a network, carries the joining messages of its neighbours, and leaves.
 //!
-//! Each call carries out its rule of `node_rules`, whatever its keeper does. What a meter makes of a frame that it hears is not here
-//! yet.
+//! Each call carries out its rule of `node_rules`, whatever its keeper does.
 #![tactic(auto)]
 
+mod challenges;
+mod commanding;
+mod hearing;
 mod joining;
 mod meter;
+mod packets;
 mod pair_key;
 mod session;
 #[cfg(test)]

@@ -1,0 +1,49 @@
+use Rattle.std.proofs.Common.{Result, sym, ap, subst, ◌∙◌}
+use Rattle.std.specs.Option.{option_map}
+use Rattle.node_rules.specs.declared.heard.MeterHeard.{MeterHeard}
+use Rattle.node_rules.specs.declared.refusal.Dropped.{Dropped}
+use Rattle.node_rules.specs.Carrying.{Carries}
+use Rattle.node_rules.specs.Meters as meters
+use Rattle.plc_station.proofs.Carrying.{at_some}
+use Rattle.meter_node.specs.Sessions.{session_of}
+use Rattle.meter_node.specs.MeterStates.{MeterState, node_of, memory_with, identity_of}
+use Rattle.meter_node.proofs.Carried.{on_node}
+use Rattle.meter_node.proofs.HearingRules.{some_at, running_on, came, at_rest, heard_joining, heard_other}
+use Rattle.meter_node.proofs.meter.Meter.hear.Goals as goal
+
+pub hear_joining-requires-clause-running : goal.hear_joining-requires-clause-running
+hear_joining-requires-clause-running g c =
+    let running = rw (← c.self.view_is) at c.requires.running in
+    let m = some_at c.self.inside.station.memory running in
+    running_on m.0 c.args.got.now c.args.cost c.args.note c.args.now c.self.inside.station c.hear-heard.new.self c.hear-heard.result c.hear-heard.new.out (at_some _ _ m.0 m.1 c.hear-heard.ensures.carries)
+    c.in-Ok.command.way c.in-Ok.command.body c.in-Ok.ensures
+
+pub hear_joining-requires-clause-came : goal.hear_joining-requires-clause-came
+hear_joining-requires-clause-came g c =
+    let running = rw (← c.self.view_is) at c.requires.running in
+    let up = rw (← c.self.view_is) at c.requires.came in
+    let m = some_at c.self.inside.station.memory running in
+    came m.0 c.args.got.now c.args.cost c.args.note c.args.now c.self.inside.station c.hear-heard.new.self c.hear-heard.result c.hear-heard.new.out (at_some _ _ m.0 m.1 c.hear-heard.ensures.carries)
+    c.in-Ok.command.way c.in-Ok.command.body c.in-Ok.ensures (at_some _ _ m.0 m.1 up)
+
+pub hear_joining-requires-clause-empty : goal.hear_joining-requires-clause-empty
+hear_joining-requires-clause-empty g c =
+    let running = rw (← c.self.view_is) at c.requires.running in
+    let m = some_at c.self.inside.station.memory running in
+    (at_rest m.0 c.args.got.now c.args.cost c.args.note c.args.now c.self.inside.station c.hear-heard.new.self c.hear-heard.result c.hear-heard.new.out (at_some _ _ m.0 m.1 c.hear-heard.ensures.carries)
+    c.in-Ok.command.way c.in-Ok.command.body c.in-Ok.ensures).out_is
+
+pub returns-in-Ok-clause-carries : goal.returns-in-Ok-clause-carries
+returns-in-Ok-clause-carries g c =
+    let x : MeterState = record { station = c.self.inside.station; psk = c.self.inside.pair_key; randoms = c.self.inside.randoms; session = option_map session_of c.self.inside.session } in
+    rw (← c.self.view_is) (on_node x _ (λ l running.
+    heard_joining x c.hear-heard.new.self l c.args.got.now c.args.cost c.args.note c.args.now c.hear-heard.result c.hear-heard.new.out running (at_some _ _ l running c.hear-heard.ensures.carries)
+    c.hear_joining.new.self c.in-Ok.command.way c.in-Ok.command.body c.hear_joining.result c.hear_joining.new.out c.in-Ok.ensures c.hear_joining.ensures.carries))
+
+pub returns-in-Err-clause-carries : goal.returns-in-Err-clause-carries
+returns-in-Err-clause-carries g c =
+    let x : MeterState = record { station = c.self.inside.station; psk = c.self.inside.pair_key; randoms = c.self.inside.randoms; session = option_map session_of c.self.inside.session } in
+    rw (← c.self.view_is) (on_node x _ (λ l running.
+    subst (λ (r : Result MeterHeard Dropped). Carries (node_of x) (meters.hear_meter (identity_of x) (memory_with x l) c.args.got.now c.args.cost c.args.note c.args.now) r c.hear-heard.new.out (node_of (record x { station = c.hear-heard.new.self })))
+    (sym (c.heard_by_station.ensures ∙ ap meters.heard_by_station c.in-Err.ensures.0))
+    (heard_other x c.hear-heard.new.self l c.args.got.now c.args.cost c.args.note c.args.now c.hear-heard.result c.hear-heard.new.out running (at_some _ _ l running c.hear-heard.ensures.carries) c.in-Err.ensures.1)))

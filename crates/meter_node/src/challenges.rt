@@ -1,0 +1,221 @@
+//! What a meter does about a challenge.
+ghost use Rattle.std.specs.Prelude.{◌≡◌, Some, None, Ok, Err, IfSome, IsSome};
+ghost use Rattle.node_rules.specs.Joining as joining;
+ghost use Rattle.node_rules.specs.Memory as memory;
+ghost use Rattle.node_rules.specs.Meters as meters;
+ghost use Rattle.node_rules.specs.Carrying.{Carries, nothing};
+ghost use Rattle.node_rules.specs.Agreement.{Agrees};
+ghost use Rattle.meter_node.specs.MeterStates.{identity_of, node_of};
+
+use crate::commanding::{coordinator, join_with, write_up};
+use crate::meter::Meter;
+use crate::session::{Course, Session};
+use joining_base::push_up;
+use node_rules::{Dropped, MeterHeard};
+use plc_base::{EapBuf, FrameBuf, Keeper, Out, Short, TagList};
+
+// Whether a packet counts as a first one.
+#[tactic(auto, unfolding(plc_base::specs::Fields::octet))]
+fn is_first(packet: &[u8]) -> bool
+    ensures { result ≡ joining.is_first packet.now }
+{
+    if packet.len() <= 5 {
+        return false;
+    }
+    packet[5] / 64 == 0
+}
+
+impl<K: Keeper + Drop> Meter<K> {
+    // Answers the first packet of an agent.
+    fn reply_by_agent(
+        &mut self,
+        agent: Short,
+        packet: &[u8],
+        now: u64,
+        out: &mut Out,
+    ) -> Result<MeterHeard, Dropped>
+        requires running { IsSome self.old.station.memory }
+        requires agrees { Agrees self.old.station }
+        requires empty { out.old ≡ nothing }
+        ensures carries { IfSome (node_of self.old).memory (λ m. Carries (node_of self.old)
+            (meters.reply (identity_of self.old) m (memory.ByAgent agent) packet.now now)
+            result out.new (node_of self.new)) }
+        ensures agrees { Agrees self.new.station }
+    {
+        self.awaits(agent)?;
+        let mut eap = EapBuf::new();
+        let mut tags = TagList::new();
+        let peer = self.second(packet, &mut eap, &mut tags)?;
+        self.randoms.drop_oldest();
+        self.session = Some(Session {
+            course: Course::ByAgent(agent),
+            peer: Some(peer),
+            since: now,
+        });
+        let eui = self.station.eui();
+        let join = join_with(eui, eap);
+        push_up(&join, agent, eui, out);
+        out.tags = tags;
+        Ok(MeterHeard::Replied)
+    }
+
+    // Answers a first packet that came in a command.
+    fn reply_by_command(
+        &mut self,
+        packet: &[u8],
+        now: u64,
+        out: &mut Out,
+    ) -> Result<MeterHeard, Dropped>
+        requires running { IsSome self.old.station.memory }
+        requires agrees { Agrees self.old.station }
+        requires joined { IfSome self.old.station.memory (λ l. IsSome l.ring) }
+        requires empty { out.old ≡ nothing }
+        ensures carries { IfSome (node_of self.old).memory (λ m. Carries (node_of self.old)
+            (meters.reply (identity_of self.old) m memory.ByCommand packet.now now) result out.new (node_of self.new)) }
+        ensures agrees { Agrees self.new.station }
+    {
+        let mut eap = EapBuf::new();
+        let mut tags = TagList::new();
+        let peer = self.second(packet, &mut eap, &mut tags)?;
+        let eui = self.station.eui();
+        let join = join_with(eui, eap);
+        let mut command = FrameBuf::new();
+        write_up(&join, &mut command);
+        self.room(&command)?;
+        self.randoms.drop_oldest();
+        self.session = Some(Session {
+            course: Course::ByCommand,
+            peer: Some(peer),
+            since: now,
+        });
+        let Ok(_) = self
+            .station
+            .send_command(coordinator(), command.octets(), now, out)
+        else {
+            return Err(Dropped::Store);
+        };
+        out.tags = tags;
+        Ok(MeterHeard::Replied)
+    }
+
+    // Takes the third packet of an agent: keeps the grant in it, and answers.
+    fn take_by_agent(
+        &mut self,
+        agent: Short,
+        packet: &[u8],
+        now: u64,
+        out: &mut Out,
+    ) -> Result<MeterHeard, Dropped>
+        requires running { IsSome self.old.station.memory }
+        requires agrees { Agrees self.old.station }
+        requires empty { out.old ≡ nothing }
+        ensures carries { IfSome (node_of self.old).memory (λ m. Carries (node_of self.old)
+            (meters.take (identity_of self.old) m (memory.ByAgent agent) packet.now now)
+            result out.new (node_of self.new)) }
+        ensures agrees { Agrees self.new.station }
+    {
+        self.awaits(agent)?;
+        let mut eap = EapBuf::new();
+        let mut tags = TagList::new();
+        let taken = self.fourth(packet, &mut eap, &mut tags)?;
+        self.session = None;
+        let Ok(()) = self.station.install(&taken.grant) else {
+            tags.made.clear();
+            out.tags = tags;
+            return Err(Dropped::Store);
+        };
+        let eui = self.station.eui();
+        let join = join_with(eui, eap);
+        push_up(&join, agent, taken.peer.eui, out);
+        out.tags = tags;
+        Ok(MeterHeard::Took(taken.agreed))
+    }
+
+    // Takes a third packet that came in a command: keeps the grant in it, and answers under the new ring.
+    fn take_by_command(
+        &mut self,
+        packet: &[u8],
+        now: u64,
+        out: &mut Out,
+    ) -> Result<MeterHeard, Dropped>
+        requires running { IsSome self.old.station.memory }
+        requires agrees { Agrees self.old.station }
+        requires joined { IfSome self.old.station.memory (λ l. IsSome l.ring) }
+        requires empty { out.old ≡ nothing }
+        ensures carries { IfSome (node_of self.old).memory (λ m. Carries (node_of self.old)
+            (meters.take (identity_of self.old) m memory.ByCommand packet.now now) result out.new (node_of self.new)) }
+        ensures agrees { Agrees self.new.station }
+    {
+        if !self.has_session(Course::ByCommand) {
+            return Err(Dropped::NoSession);
+        }
+        let mut eap = EapBuf::new();
+        let mut tags = TagList::new();
+        let taken = self.fourth(packet, &mut eap, &mut tags)?;
+        let eui = self.station.eui();
+        let join = join_with(eui, eap);
+        let mut command = FrameBuf::new();
+        write_up(&join, &mut command);
+        self.room(&command)?;
+        self.session = None;
+        let Ok(()) = self.station.install(&taken.grant) else {
+            tags.made.clear();
+            out.tags = tags;
+            return Err(Dropped::Store);
+        };
+        let Ok(_) = self
+            .station
+            .send_command(coordinator(), command.octets(), now, out)
+        else {
+            tags.made.clear();
+            out.tags = tags;
+            return Err(Dropped::Store);
+        };
+        out.tags = tags;
+        Ok(MeterHeard::Took(taken.agreed))
+    }
+
+    // Takes a challenge of an agent.
+    pub(crate) fn challenged_by_agent(
+        &mut self,
+        agent: Short,
+        packet: &[u8],
+        now: u64,
+        out: &mut Out,
+    ) -> Result<MeterHeard, Dropped>
+        requires running { IsSome self.old.station.memory }
+        requires agrees { Agrees self.old.station }
+        requires empty { out.old ≡ nothing }
+        ensures carries { IfSome (node_of self.old).memory (λ m. Carries (node_of self.old)
+            (meters.challenged (identity_of self.old) m (memory.ByAgent agent) packet.now now)
+            result out.new (node_of self.new)) }
+        ensures agrees { Agrees self.new.station }
+    {
+        if is_first(packet) {
+            return self.reply_by_agent(agent, packet, now, out);
+        }
+        self.take_by_agent(agent, packet, now, out)
+    }
+
+    // Takes a challenge that came in a command.
+    pub(crate) fn challenged_by_command(
+        &mut self,
+        packet: &[u8],
+        now: u64,
+        out: &mut Out,
+    ) -> Result<MeterHeard, Dropped>
+        requires running { IsSome self.old.station.memory }
+        requires agrees { Agrees self.old.station }
+        requires joined { IfSome self.old.station.memory (λ l. IsSome l.ring) }
+        requires empty { out.old ≡ nothing }
+        ensures carries { IfSome (node_of self.old).memory (λ m. Carries (node_of self.old)
+            (meters.challenged (identity_of self.old) m memory.ByCommand packet.now now)
+            result out.new (node_of self.new)) }
+        ensures agrees { Agrees self.new.station }
+    {
+        if is_first(packet) {
+            return self.reply_by_command(packet, now, out);
+        }
+        self.take_by_command(packet, now, out)
+    }
+}

@@ -1,0 +1,282 @@
+//! What a meter makes of a frame that it accepted.
+ghost use Rattle.std.specs.Prelude.{◌≡◌, ◌≤◌, Some, None, Ok, Err, IfSome, IsSome, length};
+ghost use Rattle.joining_messages.specs.Messages.{IsBody, IsMessage};
+ghost use Rattle.joining_messages.specs.Reading.{join_in};
+ghost use Rattle.node_rules.specs.Memory.{StationMemory};
+ghost use Rattle.node_rules.specs.Memory as memory;
+ghost use Rattle.node_rules.specs.Meters as meters;
+ghost use Rattle.plc_station.specs.Heard.{Fits};
+ghost use Rattle.node_rules.specs.Carrying.{Carries, nothing};
+ghost use Rattle.node_rules.specs.Agreement.{Agrees};
+ghost use Rattle.meter_node.specs.MeterStates.{identity_of, memory_with, node_of};
+ghost use Rattle.meter_node.specs.Sessions.{course_of};
+ghost use Rattle.meter_node.specs.Hearing as hearing;
+
+use crate::meter::Meter;
+use crate::session::Course;
+use agent_node::relay_down;
+use group_keys::RingFault;
+use joining_base::{joining_command, read_message};
+use joining_messages::{JoinBody, JoinMessage};
+use node_rules::{Accepted, Dropped, Heard, MeterHeard, Way};
+use plc_base::{FrameBuf, Keeper, LinkCost, Out, OutFrame, Short};
+
+// Whether two sessions run alike.
+fn same_course(a: Course, b: Course) -> bool
+    ensures { result ≡ meters.same_course (course_of a) (course_of b) }
+{
+    match a {
+        Course::ByAgent(a) => match b {
+            Course::ByAgent(b) => a.number() == b.number(),
+            Course::ByCommand => false,
+        },
+        Course::ByCommand => match b {
+            Course::ByAgent(_) => false,
+            Course::ByCommand => true,
+        },
+    }
+}
+
+// A key that the station seals with, as a meter says it.
+fn activated_as(done: Result<(), RingFault>) -> Result<MeterHeard, Dropped>
+    ensures { result ≡ hearing.activated_as done }
+{
+    match done {
+        Ok(()) => Ok(MeterHeard::Activated),
+        Err(RingFault::NotHeld) => Err(Dropped::NotHeld),
+        Err(RingFault::Store) => Err(Dropped::Store),
+    }
+}
+
+// What the station made of a frame, as a meter says it.
+fn heard_by_station(heard: Result<Heard, Dropped>) -> Result<MeterHeard, Dropped>
+    ensures { result ≡ meters.heard_by_station heard }
+{
+    match heard {
+        Ok(heard) => Ok(MeterHeard::Station(heard)),
+        Err(reason) => Err(reason),
+    }
+}
+
+impl<K: Keeper + Drop> Meter<K> {
+    // Whether the session that is open runs so.
+    pub(crate) fn has_session(&self, course: Course) -> bool
+        ensures { (l : StationMemory) → result ≡ meters.has_session (memory_with self.now l) (course_of course) }
+    {
+        let Some(session) = self.session else {
+            return false;
+        };
+        same_course(session.course, course)
+    }
+
+    // The coordinator does not let the meter in, as an agent says.
+    fn declined(&mut self, agent: Short) -> Result<MeterHeard, Dropped>
+        requires running { IsSome self.old.station.memory }
+        requires agrees { Agrees self.old.station }
+        ensures carries { IfSome (node_of self.old).memory (λ m. Carries (node_of self.old)
+            (meters.declined m agent) result nothing (node_of self.new)) }
+        ensures agrees { Agrees self.new.station }
+    {
+        if self.is_joined() {
+            return Err(Dropped::BadUnit);
+        }
+        if !self.has_session(Course::ByAgent(agent)) {
+            return Err(Dropped::NoSession);
+        }
+        self.session = None;
+        Ok(MeterHeard::Declined)
+    }
+
+    // The coordinator shuts the meter out.
+    fn kicked(&mut self) -> Result<MeterHeard, Dropped>
+        requires running { IsSome self.old.station.memory }
+        requires agrees { Agrees self.old.station }
+        ensures carries { IfSome (node_of self.old).memory (λ m. Carries (node_of self.old)
+            (meters.kicked m) result nothing (node_of self.new)) }
+        ensures agrees { Agrees self.new.station }
+    {
+        self.session = None;
+        let Ok(()) = self.station.leave() else {
+            return Err(Dropped::Store);
+        };
+        Ok(MeterHeard::Left)
+    }
+
+    // Another key seals from now on.
+    fn activated(&mut self, index: u8) -> Result<MeterHeard, Dropped>
+        requires running { IsSome self.old.station.memory }
+        requires agrees { Agrees self.old.station }
+        requires index { index ≤ 1 }
+        ensures carries { IfSome (node_of self.old).memory (λ m. Carries (node_of self.old)
+            (meters.activated m index) result nothing (node_of self.new)) }
+        ensures agrees { Agrees self.new.station }
+    {
+        let done = self.station.activate(index);
+        activated_as(done)
+    }
+
+    // Carries a message of the coordinator down to its meter.
+    fn carry_down(&mut self, join: &JoinMessage, out: &mut Out) -> Result<MeterHeard, Dropped>
+        requires running { IsSome self.old.station.memory }
+        requires agrees { Agrees self.old.station }
+        requires message { IsMessage join.now }
+        requires empty { out.old ≡ nothing }
+        ensures carries { IfSome (node_of self.old).memory (λ m. Carries (node_of self.old)
+            (meters.carry_down m join.now join.now.body) result out.new (node_of self.new)) }
+        ensures agrees { Agrees self.new.station }
+    {
+        let Some(own) = self.station.ring().joined() else {
+            return Err(Dropped::BadUnit);
+        };
+        let mut octets = FrameBuf::new();
+        let Ok(()) = relay_down(join, own, &mut octets) else {
+            return Err(Dropped::BadUnit);
+        };
+        out.frames.push(OutFrame {
+            octets,
+            note: 0,
+            key: None,
+        });
+        Ok(MeterHeard::Carried)
+    }
+
+    // Hears what an agent says.
+    fn hear_near(
+        &mut self,
+        agent: Short,
+        body: &JoinBody,
+        now: u64,
+        out: &mut Out,
+    ) -> Result<MeterHeard, Dropped>
+        requires running { IsSome self.old.station.memory }
+        requires agrees { Agrees self.old.station }
+        requires empty { out.old ≡ nothing }
+        ensures carries { IfSome (node_of self.old).memory (λ m. Carries (node_of self.old)
+            (meters.hear_near (identity_of self.old) m agent body.now now) result out.new (node_of self.new)) }
+        ensures agrees { Agrees self.new.station }
+    {
+        match body {
+            JoinBody::Challenge { eap } => self.challenged_by_agent(agent, eap.octets(), now, out),
+            JoinBody::Accept { .. } => return Ok(MeterHeard::Noted),
+            JoinBody::Decline => self.declined(agent),
+            JoinBody::Join { .. } => return Err(Dropped::BadUnit),
+            JoinBody::Kick => return Err(Dropped::BadUnit),
+            JoinBody::Activate { .. } => return Err(Dropped::BadUnit),
+        }
+    }
+
+    // Hears what the coordinator says to this meter.
+    fn hear_order(
+        &mut self,
+        body: &JoinBody,
+        now: u64,
+        out: &mut Out,
+    ) -> Result<MeterHeard, Dropped>
+        requires running { IsSome self.old.station.memory }
+        requires agrees { Agrees self.old.station }
+        requires joined { IfSome self.old.station.memory (λ l. IsSome l.ring) }
+        requires body { IsBody body.now }
+        requires empty { out.old ≡ nothing }
+        ensures carries { IfSome (node_of self.old).memory (λ m. Carries (node_of self.old)
+            (meters.hear_order (identity_of self.old) m body.now now) result out.new (node_of self.new)) }
+        ensures agrees { Agrees self.new.station }
+    {
+        match body {
+            JoinBody::Challenge { eap } => self.challenged_by_command(eap.octets(), now, out),
+            JoinBody::Accept { .. } => return Ok(MeterHeard::Noted),
+            JoinBody::Kick => self.kicked(),
+            JoinBody::Activate { index } => self.activated(*index),
+            JoinBody::Join { .. } => return Err(Dropped::BadUnit),
+            JoinBody::Decline => return Err(Dropped::BadUnit),
+        }
+    }
+
+    // Hears a joining message, by the way that it came.
+    fn hear_join(
+        &mut self,
+        way: Way,
+        join: &JoinMessage,
+        now: u64,
+        out: &mut Out,
+    ) -> Result<MeterHeard, Dropped>
+        requires running { IsSome self.old.station.memory }
+        requires agrees { Agrees self.old.station }
+        requires came { IfSome self.old.station.memory (λ l. hearing.CameBy way l) }
+        requires message { IsMessage join.now }
+        requires empty { out.old ≡ nothing }
+        ensures carries { IfSome (node_of self.old).memory (λ m. Carries (node_of self.old)
+            (meters.hear_join (identity_of self.old) m way join.now now) result out.new (node_of self.new)) }
+        ensures agrees { Agrees self.new.station }
+    {
+        let own = join.eui.number() == self.station.eui().number();
+        match way {
+            Way::Air(from) => self.carry_up(from, join, now, out),
+            Way::Near(agent) => {
+                if !own {
+                    return Err(Dropped::BadUnit);
+                }
+                self.hear_near(agent, &join.body, now, out)
+            }
+            Way::Mesh(origin) => {
+                if origin.number() != 0 {
+                    return Err(Dropped::BadUnit);
+                }
+                if own {
+                    return self.hear_order(&join.body, now, out);
+                }
+                self.carry_down(join, out)
+            }
+        }
+    }
+
+    // Hears a joining command that the station handed on.
+    fn hear_joining(
+        &mut self,
+        way: Way,
+        body: &FrameBuf,
+        now: u64,
+        out: &mut Out,
+    ) -> Result<MeterHeard, Dropped>
+        requires running { IsSome self.old.station.memory }
+        requires agrees { Agrees self.old.station }
+        requires came { IfSome self.old.station.memory (λ l. hearing.CameBy way l) }
+        requires empty { out.old ≡ nothing }
+        ensures carries { IfSome (node_of self.old).memory (λ m. Carries (node_of self.old)
+            (meters.hear_join_in (identity_of self.old) m way (join_in body.now) now)
+            result out.new (node_of self.new)) }
+        ensures agrees { Agrees self.new.station }
+    {
+        let Some(join) = read_message(body.octets()) else {
+            return Err(Dropped::BadUnit);
+        };
+        self.hear_join(way, &join, now, out)
+    }
+
+    /// Hears a frame that was accepted, over a link of this cost, under a number of the caller's, at a time in seconds. A joining
+    /// message is carried on or answered, and all else is what its station makes of it; what goes out is in `out`.
+    ///
+    /// Dropped for the first reason that its rule names. A frame that came up to its address came to a joined meter, as `accept`
+    /// answers one only there.
+    pub fn hear(
+        &mut self,
+        got: &Accepted,
+        cost: LinkCost,
+        note: u32,
+        now: u64,
+        out: &mut Out,
+    ) -> Result<MeterHeard, Dropped>
+        requires running { IsSome self.old.station.memory }
+        requires agrees { Agrees self.old.station }
+        requires fits { Fits got.now }
+        requires came { IfSome self.old.station.memory (λ l. hearing.CameUp got.now.path l) }
+        ensures carries { IfSome (node_of self.old).memory (λ m. Carries (node_of self.old)
+            (meters.hear_meter (identity_of self.old) m got.now cost note now) result out.new (node_of self.new)) }
+        ensures agrees { Agrees self.new.station }
+    {
+        let heard = self.station.hear(got, cost, note, now, out);
+        match joining_command(heard) {
+            Ok(command) => self.hear_joining(command.way, &command.body, now, out),
+            Err(other) => heard_by_station(other),
+        }
+    }
+}
