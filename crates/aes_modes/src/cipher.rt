@@ -160,7 +160,8 @@ fn last_round(s: [u32; 4], k: &[u32; 4]) -> [u32; 4]
 /// The last word of a round key on its way into the next: RotWord, SubWord and Rcon (section 5.2).
 fn turned_word(x: u32, constant: u8) -> u32
     ensures { to_be_bytes w32 result
-        ≡ bit_xor (s_box (byte_at 2 x)) constant ∷ s_box (byte_at 1 x) ∷ s_box (byte_at 0 x) ∷ s_box (byte_at 3 x) ∷ [] }
+        ≡ bit_xor (s_box (byte_at 2 x)) constant ∷ s_box (byte_at 1 x) ∷ s_box (byte_at 0 x) ∷ s_box (byte_at 3 x)
+        ∷ [] }
 {
     let [a, b, c, d] = x.to_be_bytes();
     u32::from_be_bytes([

@@ -126,7 +126,8 @@ impl Pool {
         requires ours { IsChain self.old chain.now }
         requires room { at + length piece.now ≤ length (chain_octets self.old chain.now) }
         ensures free { self.new.free ≡ self.old.free }
-        ensures chains { self.new.chains ≡ map.insert self.old.chains chain.now (overwrite (chain_octets self.old chain.now) at piece.now) }
+        ensures chains { self.new.chains
+            ≡ map.insert self.old.chains chain.now (overwrite (chain_octets self.old chain.now) at piece.now) }
         ensures there { HasChain self.new chain.now (overwrite (chain_octets self.old chain.now) at piece.now) }
         ensures others { OthersStay self.old self.new chain.now }
     {

@@ -9,7 +9,8 @@ use std::test::Fail;
 fn chain_of(pool: &mut Pool, octets: u16) -> Result<Chain, Fail>
     requires { (1 ≤ octets) × (octets ≤ 1280) }
     ensures long { IfOk result (λ chain. length (chain_octets pool.new chain) ≡ octets) }
-    ensures others { IfOk result (λ chain. (c : ℕ) → IsChain pool.old c → (c ≡ chain → ⊥) × (chain_octets pool.new c ≡ chain_octets pool.old c)) }
+    ensures others { IfOk result (λ chain. (c : ℕ) → IsChain pool.old c
+        → (c ≡ chain → ⊥) × (chain_octets pool.new c ≡ chain_octets pool.old c)) }
 {
     match pool.reserve(octets) {
         Ok(chain) => Ok(chain),

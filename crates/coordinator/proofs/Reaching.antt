@@ -14,7 +14,8 @@ use Rattle.node_rules.specs.Memory.{StationMemory, address_of, next_hop}
 use Rattle.node_rules.specs.Drafts.{Lack, OfRoom, OfNumbers, lack, counters_left}
 use Rattle.node_rules.specs.Calls as calls
 use Rattle.node_rules.specs.Neighbours.{valid_route}
-use Rattle.node_rules.specs.Composing.{HasRoom, command_fault}
+use Rattle.node_rules.specs.Calls.{command_fault}
+use Rattle.node_rules.specs.Composing.{HasRoom}
 use Rattle.node_rules.specs.Coordinators.{orders, lacking}
 use Rattle.node_rules.proofs.Composing.{room_fault_as, has_room}
 use Rattle.plc_station.specs.Rooms.{room_answer}

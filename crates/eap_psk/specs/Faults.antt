@@ -25,7 +25,8 @@ rand_p_of packet = part 22 16 packet
 -- code, length, type and message number
 unfoldable pub head_stands : ℕ → ℕ → List ℕ → Bool
 head_stands code number packet =
-    octet 0 packet == code && (two 2 packet == length packet && (octet 4 packet == 0x2F && octet 5 packet == 64 * number))
+    octet 0 packet == code && (two 2 packet == length packet
+    && (octet 4 packet == 0x2F && octet 5 packet == 64 * number))
 
 -- the form of each message, as it is awaited
 unfoldable pub is_first : List ℕ → Bool
@@ -35,14 +36,16 @@ unfoldable pub is_second : List ℕ → Bool
 is_second packet = length packet == 62 && (head_stands 2 1 packet && octet 1 packet == 1)
 
 unfoldable pub is_third : List ℕ → Bool
-is_third packet = nat_lt 57 (length packet) && (nat_lt (length packet) 129 && (head_stands 1 2 packet && four 38 packet == 0))
+is_third packet =
+    nat_lt 57 (length packet) && (nat_lt (length packet) 129 && (head_stands 1 2 packet && four 38 packet == 0))
 
 unfoldable pub is_fourth : List ℕ → Bool
 is_fourth packet = length packet == 43 && (head_stands 2 3 packet && (octet 1 packet == 2 && four 22 packet == 1))
 
 -- a channel's text that grants: success, an extension follows; the extension's type; a parameter list
 unfoldable pub is_granting : List ℕ → Bool
-is_granting text = nat_lt 1 (length text) && (octet 0 text == 0xA0 && (octet 1 text == 2 && is_parameter_list (after 2 text)))
+is_granting text =
+    nat_lt 1 (length text) && (octet 0 text == 0xA0 && (octet 1 text == 2 && is_parameter_list (after 2 text)))
 
 -- the peer, of the first message
 abbrev pub first_fault : List ℕ → Option EapFault
@@ -54,7 +57,8 @@ second_fault keys server packet =
     Some Form unless is_second packet
     then Some OtherSession unless same (rand_s_of packet) server.rand_s.0
     then Some OtherSession unless same (part 54 8 packet) server.eui.0
-    then Some BadMac unless same (part 38 16 packet) (mac_p keys.ak server.eui.0 server.id_s.0 server.rand_s.0 (rand_p_of packet))
+    then Some BadMac unless same (part 38 16 packet) (mac_p keys.ak server.eui.0 server.id_s.0 server.rand_s.0
+    (rand_p_of packet))
 
 -- the peer, of the third
 abbrev pub third_fault : PairKeys → Peer → List ℕ → Option EapFault

@@ -13,7 +13,9 @@ use Rattle.eap_psk.specs.Tags.{granting_tag, success_tag}
 
 -- a first message has no fault
 abbrev pub FirstIsTaken : Type 0
-FirstIsTaken = (identifier : ℕ) (rand_s id_s packet : List ℕ) → length rand_s ≡ 16 → length id_s ≡ 8 → First identifier rand_s id_s packet → first_fault packet ≡ None
+FirstIsTaken =
+    (identifier : ℕ) (rand_s id_s packet : List ℕ) → length rand_s ≡ 16 → length id_s ≡ 8
+    → First identifier rand_s id_s packet → first_fault packet ≡ None
 
 -- and is of one session
 abbrev pub FirstNamesTheSession : Type 0
@@ -24,20 +26,26 @@ FirstNamesTheSession =
 -- a second message of the server's session, under the same AK, has no fault, and the server takes its RAND_P
 abbrev pub SecondIsTaken : Type 0
 SecondIsTaken =
-    (keys : PairKeys) (server : Server) (rand_p packet : List ℕ) → length server.rand_s.0 ≡ 16 → length rand_p ≡ 16 → length server.eui.0 ≡ 8
-    → Second keys.ak 1 server.rand_s.0 rand_p server.id_s.0 server.eui.0 packet → (second_fault keys server packet ≡ None) × (rand_p_of packet ≡ rand_p)
+    (keys : PairKeys) (server : Server) (rand_p packet : List ℕ) → length server.rand_s.0 ≡ 16 → length rand_p ≡ 16
+    → length server.eui.0 ≡ 8
+    → Second keys.ak 1 server.rand_s.0 rand_p server.id_s.0 server.eui.0 packet
+    → (second_fault keys server packet ≡ None) × (rand_p_of packet ≡ rand_p)
 
 -- a third message of the peer's session, under the same keys, has no fault
 abbrev pub ThirdIsTaken : Type 0
 ThirdIsTaken =
-    (keys : PairKeys) (peer : Peer) (identifier : ℕ) (grant : Granted) (packet : List ℕ) → length peer.rand_s.0 ≡ 16 → IsGranted grant
-    → Third keys.ak (transient_key keys.kdk peer.rand_p.0) identifier peer.rand_s.0 peer.rand_p.0 peer.id_s.0 (granting_text grant) packet → third_fault keys peer packet ≡ None
+    (keys : PairKeys) (peer : Peer) (identifier : ℕ) (grant : Granted) (packet : List ℕ) → length peer.rand_s.0 ≡ 16
+    → IsGranted grant
+    → Third keys.ak (transient_key keys.kdk peer.rand_p.0) identifier peer.rand_s.0 peer.rand_p.0 peer.id_s.0
+    (granting_text grant) packet → third_fault keys peer packet ≡ None
 
 -- and grants one thing
 abbrev pub ThirdGrantsOneThing : Type 0
 ThirdGrantsOneThing =
-    (ak tek : List ℕ) (i j : ℕ) (rand_s rand_p id_s : List ℕ) (g h : Granted) (packet : List ℕ) → length rand_s ≡ 16 → IsGranted g → IsGranted h
-    → Third ak tek i rand_s rand_p id_s (granting_text g) packet → Third ak tek j rand_s rand_p id_s (granting_text h) packet → g ≡ h
+    (ak tek : List ℕ) (i j : ℕ) (rand_s rand_p id_s : List ℕ) (g h : Granted) (packet : List ℕ) → length rand_s ≡ 16
+    → IsGranted g → IsGranted h
+    → Third ak tek i rand_s rand_p id_s (granting_text g) packet
+    → Third ak tek j rand_s rand_p id_s (granting_text h) packet → g ≡ h
 
 -- a fourth message of the server's session, under the same TEK, has no fault
 abbrev pub FourthIsTaken : Type 0

@@ -34,7 +34,8 @@ third_head identifier rand_s count = head 1 identifier (58 + count) 2 rand_s
 -- a request under AK and TEK, with the plain text of its channel (RFC 4764, 5.3)
 abbrev pub Third : List ℕ → List ℕ → ℕ → List ℕ → List ℕ → List ℕ → List ℕ → List ℕ → Type 0
 Third ak tek identifier rand_s rand_p id_s text packet =
-    packet ≡ third_head identifier rand_s (length text) ++ (mac_s ak id_s rand_p ++ channel tek 0 (third_head identifier rand_s (length text)) text)
+    packet ≡ third_head identifier rand_s (length text)
+    ++ (mac_s ak id_s rand_p ++ channel tek 0 (third_head identifier rand_s (length text)) text)
 
 -- the fourth message's header
 abbrev pub fourth_head : ℕ → List ℕ → List ℕ
@@ -42,4 +43,5 @@ fourth_head identifier rand_s = head 2 identifier 43 3 rand_s
 
 -- a response under TEK (RFC 4764, 5.4)
 abbrev pub Fourth : List ℕ → ℕ → List ℕ → List ℕ → Type 0
-Fourth tek identifier rand_s packet = packet ≡ fourth_head identifier rand_s ++ channel tek 1 (fourth_head identifier rand_s) success_text
+Fourth tek identifier rand_s packet =
+    packet ≡ fourth_head identifier rand_s ++ channel tek 1 (fourth_head identifier rand_s) success_text

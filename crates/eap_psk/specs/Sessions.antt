@@ -20,7 +20,13 @@ identifier_of packet = octet 1 packet
 
 -- the peer that answers a first packet
 abbrev pub peer_for : Eui → Rand → List ℕ → Peer
-peer_for eui rand_p packet = record { eui = eui; id_s = record { 0 = part 22 8 packet }; rand_s = record { 0 = rand_s_of packet }; rand_p = rand_p }
+peer_for eui rand_p packet =
+    record {
+      eui = eui;
+      id_s = record { 0 = part 22 8 packet };
+      rand_s = record { 0 = rand_s_of packet };
+      rand_p = rand_p;
+    }
 
 -- the RAND_P that a second packet names
 abbrev pub rand_p_in : List ℕ → Rand

@@ -23,7 +23,8 @@ mac_s_tag eui id_s rand_p = MacS eui (mac_s_text id_s.0 rand_p.0)
 
 -- the tag of the third message's channel, with this plain text
 abbrev pub granting_tag : Eui → ℕ → Rand → Rand → List ℕ → PairTag
-granting_tag eui identifier rand_s rand_p text = Channel eui rand_p 0 (third_head identifier rand_s.0 (length text)) text
+granting_tag eui identifier rand_s rand_p text =
+    Channel eui rand_p 0 (third_head identifier rand_s.0 (length text)) text
 
 -- the tag of the fourth message's channel
 abbrev pub success_tag : Eui → ℕ → Rand → Rand → PairTag
@@ -38,7 +39,8 @@ first_tags peer = record { made = mac_p_tag peer.eui peer.id_s peer.rand_s peer.
 -- the server with the second, for this grant
 abbrev pub second_tags : Peer → Granted → TagList
 second_tags peer grant = record {
-  made = mac_s_tag peer.eui peer.id_s peer.rand_p ∷ granting_tag peer.eui 2 peer.rand_s peer.rand_p (granting_text grant) ∷ [];
+  made = mac_s_tag peer.eui peer.id_s peer.rand_p
+      ∷ granting_tag peer.eui 2 peer.rand_s peer.rand_p (granting_text grant) ∷ [];
   opened = mac_p_tag peer.eui peer.id_s peer.rand_s peer.rand_p ∷ [];
 }
 
@@ -46,7 +48,8 @@ second_tags peer grant = record {
 abbrev pub third_tags : Peer → ℕ → Granted → TagList
 third_tags peer identifier grant = record {
   made = success_tag peer.eui identifier peer.rand_s peer.rand_p ∷ [];
-  opened = mac_s_tag peer.eui peer.id_s peer.rand_p ∷ granting_tag peer.eui identifier peer.rand_s peer.rand_p (granting_text grant) ∷ [];
+  opened = mac_s_tag peer.eui peer.id_s peer.rand_p
+      ∷ granting_tag peer.eui identifier peer.rand_s peer.rand_p (granting_text grant) ∷ [];
 }
 
 -- the server with the fourth

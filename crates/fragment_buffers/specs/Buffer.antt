@@ -9,7 +9,15 @@ number_of None = 0
 number_of (Some c) = c
 
 abbrev pub entry_of : Inside → Entry
-entry_of b = record { origin = b.origin; size = b.size; tag = b.tag; note = b.note; since = b.since; chain = number_of b.chain; places = b.places.items }
+entry_of b = record {
+  origin = b.origin;
+  size = b.size;
+  tag = b.tag;
+  note = b.note;
+  since = b.since;
+  chain = number_of b.chain;
+  places = b.places.items;
+}
 
 -- a reassembly of a datagram has a chain
 pub record IsBuffer (b : Inside) : Type 0 where

@@ -10,8 +10,11 @@ pieces_of octets = if nat_le octets 375 then 1 else div_ceil octets 368
 
 -- the k-th piece, from 0: 368 octets, or those that are left
 abbrev pub piece_of : List ℕ → (tag k : ℕ) → Placed
-piece_of datagram tag k = record { size = length datagram; tag = tag; offset = 46 * k; octets = take 368 (drop (368 * k) datagram) }
+piece_of datagram tag k =
+    record { size = length datagram; tag = tag; offset = 46 * k; octets = take 368 (drop (368 * k) datagram) }
 
 -- the pieces; a datagram of up to 375 octets has none, since it goes whole
 unfoldable pub cut : List ℕ → (tag : ℕ) → List Placed
-cut datagram tag = if nat_le (length datagram) 375 then [] else map (piece_of datagram tag) (range_with_len 0 (pieces_of (length datagram)))
+cut datagram tag =
+    if nat_le (length datagram) 375 then [] else map (piece_of datagram tag)
+    (range_with_len 0 (pieces_of (length datagram)))

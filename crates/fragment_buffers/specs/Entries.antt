@@ -19,13 +19,24 @@ pub record Entry : Type 0 where
   pub places : List Place
 
 abbrev pub place_code : Coded Place
-place_code = code_by (ℕ × ℕ) (coded× coded_ℕ coded_ℕ) (λ p. (p.offset, p.length)) (λ q. record { offset = q.0; length = q.1 }) (λ _. refl)
+place_code = code_by (ℕ × ℕ) (coded× coded_ℕ coded_ℕ) (λ p. (p.offset, p.length))
+    (λ q. record { offset = q.0; length = q.1 }) (λ _. refl)
 
 abbrev pub entry_code : Coded Entry
 entry_code =
-    code_by (ℕ × (ℕ × (ℕ × (ℕ × (ℕ × (ℕ × List Place)))))) (coded× coded_ℕ (coded× coded_ℕ (coded× coded_ℕ (coded× coded_ℕ (coded× coded_ℕ (coded× coded_ℕ (coded_list place_code)))))))
+    code_by (ℕ × (ℕ × (ℕ × (ℕ × (ℕ × (ℕ × List Place))))))
+    (coded× coded_ℕ
+    (coded× coded_ℕ (coded× coded_ℕ (coded× coded_ℕ (coded× coded_ℕ (coded× coded_ℕ (coded_list place_code)))))))
     (λ e. (e.origin, (e.size, (e.tag, (e.note, (e.since, (e.chain, e.places)))))))
-    (λ q. record { origin = q.0; size = q.1.0; tag = q.1.1.0; note = q.1.1.1.0; since = q.1.1.1.1.0; chain = q.1.1.1.1.1.0; places = q.1.1.1.1.1.1 })
+    (λ q. record {
+      origin = q.0;
+      size = q.1.0;
+      tag = q.1.1.0;
+      note = q.1.1.1.0;
+      since = q.1.1.1.1.0;
+      chain = q.1.1.1.1.1.0;
+      places = q.1.1.1.1.1.1;
+    })
     (λ _. refl)
 
 abbrev pub entries_code : Coded (List Entry)
@@ -44,11 +55,19 @@ blocks_used es = sum_by (λ e. blocks e.size) es
 
 -- the octets that a chain has at a place
 abbrev pub piece_in : List ℕ → Place → PlacedPiece
-piece_in octets p = record { start = p.offset * 8; octets = slice_range octets (p.offset * 8) (p.offset * 8 + p.length) }
+piece_in octets p =
+    record { start = p.offset * 8; octets = slice_range octets (p.offset * 8) (p.offset * 8 + p.length) }
 
 abbrev pub reassembly_in : PoolState → Entry → Reassembly
 reassembly_in pool e =
-    record { origin = e.origin; size = e.size; tag = e.tag; note = e.note; since = e.since; pieces = map (piece_in (chain_octets pool e.chain)) e.places }
+    record {
+      origin = e.origin;
+      size = e.size;
+      tag = e.tag;
+      note = e.note;
+      since = e.since;
+      pieces = map (piece_in (chain_octets pool e.chain)) e.places;
+    }
 
 -- the reassemblies whose octets the pool holds
 abbrev pub told : PoolState → List Entry → List Reassembly

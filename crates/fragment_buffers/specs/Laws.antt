@@ -38,11 +38,13 @@ no_piece = record { start = 0; octets = [] }
 abbrev pub WholeIsOfItsPieces : Type 0
 WholeIsOfItsPieces =
     (r : Reassembly) (octets : List ℕ) → datagram_of r ≡ Some octets
-    → (length octets ≡ r.size) × ((i : ℕ) → i < r.size → (k : ℕ) × (k < length r.pieces) × (octet_of (get_or r.pieces k no_piece) i ≡ slice_get octets i))
+    → (length octets ≡ r.size) × ((i : ℕ) → i < r.size → (k : ℕ) × (k < length r.pieces)
+    × (octet_of (get_or r.pieces k no_piece) i ≡ slice_get octets i))
 
 -- one that is not whole has a position that lies in no piece
 abbrev pub GapIsInNoPiece : Type 0
-GapIsInNoPiece = (r : Reassembly) → datagram_of r ≡ None → (i : ℕ) × (i < r.size) × All (λ p. octet_of p i ≡ None) r.pieces
+GapIsInNoPiece =
+    (r : Reassembly) → datagram_of r ≡ None → (i : ℕ) × (i < r.size) × All (λ p. octet_of p i ≡ None) r.pieces
 
 -- # Apart
 
@@ -52,7 +54,8 @@ AreApart r = AllPairs (λ p q. overlap p q ≡ false) r.pieces
 
 abbrev pub PiecesStayApart : Type 0
 PiecesStayApart =
-    (held : List Reassembly) (origin : ℕ) (piece : Placed) (note now : ℕ) → All AreApart held → All AreApart (taken held origin piece note now).held × All AreApart (unexpired held now)
+    (held : List Reassembly) (origin : ℕ) (piece : Placed) (note now : ℕ) → All AreApart held
+    → All AreApart (taken held origin piece note now).held × All AreApart (unexpired held now)
 
 -- # The pieces of a datagram come together
 
@@ -65,7 +68,8 @@ pub record Coming : Type 0 where
 -- the reassemblies once these pieces of a datagram came
 abbrev pub after : List Reassembly → (origin : ℕ) → List ℕ → (tag : ℕ) → List Coming → List Reassembly
 after held origin datagram tag [] = held
-after held origin datagram tag (c ∷ cs) = after (taken held origin (piece_of datagram tag c.piece) c.note c.now).held origin datagram tag cs
+after held origin datagram tag (c ∷ cs) =
+    after (taken held origin (piece_of datagram tag c.piece) c.note c.now).held origin datagram tag cs
 
 -- the piece is among those that came
 abbrev pub has_come : ℕ → List Coming → Bool
@@ -87,10 +91,12 @@ pub record Awaits (held : List Reassembly) (origin : ℕ) (datagram : List ℕ) 
 abbrev pub PiecesComeTogether : Type 0
 PiecesComeTogether =
     (held : List Reassembly) (origin : ℕ) (datagram : List ℕ) (tag : ℕ) → Awaits held origin datagram tag
-    → (cs : List Coming) (c : Coming) → (missing : ℕ) → missing < pieces_of (length datagram) → has_come missing cs ≡ false
+    → (cs : List Coming) (c : Coming) → (missing : ℕ) → missing < pieces_of (length datagram)
+    → has_come missing cs ≡ false
     → let t = taken (after held origin datagram tag cs) origin (piece_of datagram tag c.piece) c.note c.now in
     let all = cs ++ c ∷ [] in
-    (((k : ℕ) → k < pieces_of (length datagram) → has_come k all ≡ true) → t ≡ record { held = held; outcome = Whole (note_of_first all) datagram })
+    (((k : ℕ) → k < pieces_of (length datagram) → has_come k all ≡ true)
+    → t ≡ record { held = held; outcome = Whole (note_of_first all) datagram })
     × ((k : ℕ) → k < pieces_of (length datagram) → has_come k all ≡ false → t.outcome ≡ Held)
 
 -- # Chains of the pool that no reassembly has
@@ -109,9 +115,11 @@ pub record AreKept (p q : PoolState) (es : List Entry) (c : ℕ) : Type 0 where
   pub others : (d : ℕ) → (d ≡ c → ⊥) → IsOther p es d → IsOther q es d × (chain_octets q d ≡ chain_octets p d)
 
 abbrev pub OtherChainsKeepReassemblies : Type 0
-OtherChainsKeepReassemblies = (p q : PoolState) (es : List Entry) (c : ℕ) → IsBounded es → Keeps p es → IsBeside p q es c → AreKept p q es c
+OtherChainsKeepReassemblies =
+    (p q : PoolState) (es : List Entry) (c : ℕ) → IsBounded es → Keeps p es → IsBeside p q es c → AreKept p q es c
 
 -- a chain that the pool did not have before is none of a reassembly
 abbrev pub NewChainsAreOthers : Type 0
 NewChainsAreOthers =
-    (p : PoolState) (es : List Entry) (c : ℕ) → IsBounded es → Keeps p es → (IsChain p c → ⊥) → (i : ℕ) → i < length es → (entry_at es i).chain ≡ c → ⊥
+    (p : PoolState) (es : List Entry) (c : ℕ) → IsBounded es → Keeps p es → (IsChain p c → ⊥) → (i : ℕ)
+    → i < length es → (entry_at es i).chain ≡ c → ⊥

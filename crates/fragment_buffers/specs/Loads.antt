@@ -35,7 +35,8 @@ load_back (Command octets) = refl
 -- a load is kept as its octets, and its tag if it has one
 abbrev pub load_code : Coded Load
 load_code =
-    code_by (Option ℕ × List ℕ) (coded× (coded_option coded_ℕ) (coded_list coded_ℕ)) (λ l. (load_tag l, load_octets l)) (λ p. load_of p.0 p.1) (λ l. load_back l)
+    code_by (Option ℕ × List ℕ) (coded× (coded_option coded_ℕ) (coded_list coded_ℕ))
+    (λ l. (load_tag l, load_octets l)) (λ p. load_of p.0 p.1) (λ l. load_back l)
 
 -- a datagram has at most 1,280 octets
 abbrev pub IsShort : Load → Type 0

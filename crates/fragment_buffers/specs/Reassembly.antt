@@ -19,13 +19,22 @@ pub record Reassembly : Type 0 where
   pub pieces : List PlacedPiece
 
 abbrev pub piece_code : Coded PlacedPiece
-piece_code = code_by (ℕ × List ℕ) (coded× coded_ℕ (coded_list coded_ℕ)) (λ p. (p.start, p.octets)) (λ q. record { start = q.0; octets = q.1 }) (λ _. refl)
+piece_code = code_by (ℕ × List ℕ) (coded× coded_ℕ (coded_list coded_ℕ)) (λ p. (p.start, p.octets))
+    (λ q. record { start = q.0; octets = q.1 }) (λ _. refl)
 
 abbrev pub reassembly_code : Coded Reassembly
 reassembly_code =
-    code_by (ℕ × (ℕ × (ℕ × (ℕ × (ℕ × List PlacedPiece))))) (coded× coded_ℕ (coded× coded_ℕ (coded× coded_ℕ (coded× coded_ℕ (coded× coded_ℕ (coded_list piece_code))))))
+    code_by (ℕ × (ℕ × (ℕ × (ℕ × (ℕ × List PlacedPiece)))))
+    (coded× coded_ℕ (coded× coded_ℕ (coded× coded_ℕ (coded× coded_ℕ (coded× coded_ℕ (coded_list piece_code))))))
     (λ r. (r.origin, (r.size, (r.tag, (r.note, (r.since, r.pieces))))))
-    (λ q. record { origin = q.0; size = q.1.0; tag = q.1.1.0; note = q.1.1.1.0; since = q.1.1.1.1.0; pieces = q.1.1.1.1.1 })
+    (λ q. record {
+      origin = q.0;
+      size = q.1.0;
+      tag = q.1.1.0;
+      note = q.1.1.1.0;
+      since = q.1.1.1.1.0;
+      pieces = q.1.1.1.1.1;
+    })
     (λ _. refl)
 
 -- where a piece of a unit stands in its datagram
@@ -34,7 +43,15 @@ placed piece = record { start = piece.offset * 8; octets = piece.octets }
 
 -- the reassembly that begins with a piece
 abbrev pub begun : (origin : ℕ) → Placed → (note now : ℕ) → Reassembly
-begun origin piece note now = record { origin = origin; size = piece.size; tag = piece.tag; note = note; since = now; pieces = placed piece ∷ [] }
+begun origin piece note now =
+    record {
+      origin = origin;
+      size = piece.size;
+      tag = piece.tag;
+      note = note;
+      since = now;
+      pieces = placed piece ∷ [];
+    }
 
 -- # Whole
 

@@ -34,7 +34,8 @@ same_name a b = (a.origin == b.origin) && ((a.size == b.size) && (a.tag == b.tag
 
 -- one of the name is there, or there is room for one more: 8 reassemblies, and 80 blocks
 abbrev pub has_room : List Reassembly → Reassembly → Bool
-has_room held r = list_any (same_name r) held || (nat_lt (length held) 8 && nat_le (blocks_held held + blocks r.size) 80)
+has_room held r =
+    list_any (same_name r) held || (nat_lt (length held) 8 && nat_le (blocks_held held + blocks r.size) 80)
 
 -- # The rule
 

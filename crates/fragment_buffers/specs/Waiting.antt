@@ -16,7 +16,8 @@ pub record Body : Type 0 where
 -- a body is kept as the tuple of its fields
 abbrev pub body_code : Coded Body
 body_code =
-    code_by (ℕ × (ℕ × (ℕ × Load))) (coded× coded_ℕ (coded× coded_ℕ (coded× coded_ℕ load_code))) (λ b. (b.to, (b.note, (b.since, b.load))))
+    code_by (ℕ × (ℕ × (ℕ × Load))) (coded× coded_ℕ (coded× coded_ℕ (coded× coded_ℕ load_code)))
+    (λ b. (b.to, (b.note, (b.since, b.load))))
     (λ p. record { to = p.0; note = p.1.0; since = p.1.1.0; load = p.1.1.1 }) (λ _. refl)
 
 -- whether a body waits for an address

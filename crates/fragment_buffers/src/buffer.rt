@@ -62,7 +62,8 @@ impl Buffer {
         ensures long { length (chain_octets pool.new result.chain) ≡ piece.now.size }
         ensures some { 0 < piece.now.size }
         ensures free { pool.new.free + div_ceil piece.now.size 64 ≡ pool.old.free }
-        ensures others { (c : ℕ) → IsChain pool.old c → IsChain pool.new c × (chain_octets pool.new c ≡ chain_octets pool.old c) }
+        ensures others { (c : ℕ) → IsChain pool.old c
+            → IsChain pool.new c × (chain_octets pool.new c ≡ chain_octets pool.old c) }
     {
         let size = piece.size();
         let Ok(chain) = pool.reserve(size) else {
@@ -125,7 +126,9 @@ impl Buffer {
         requires apart { list_any (meet (place_of piece.now)) self.old.places ≡ false }
         ensures places { self.new ≡ record self.old { places = self.old.places ++ place_of piece.now ∷ [] } }
         ensures free { pool.new.free ≡ pool.old.free }
-        ensures chains { pool.new.chains ≡ map.insert pool.old.chains self.old.chain (overwrite (chain_octets pool.old self.old.chain) (piece.now.offset * 8) piece.now.octets) }
+        ensures chains { pool.new.chains
+            ≡ map.insert pool.old.chains self.old.chain
+            (overwrite (chain_octets pool.old self.old.chain) (piece.now.offset * 8) piece.now.octets) }
     {
         let place = Place::of(piece);
         let Some(chain) = &self.chain else {
@@ -143,10 +146,12 @@ impl Buffer {
         requires chain { length (chain_octets pool.old self.old.chain) ≡ self.old.size }
         ensures chain { self.new.chain ≡ self.old.chain }
         ensures size { self.new.size ≡ self.old.size }
-        ensures told { reassembly_in pool.new self.new ≡ grown (reassembly_in pool.old self.old) (begun self.old.origin piece.now note now) (placed piece.now) }
+        ensures told { reassembly_in pool.new self.new
+            ≡ grown (reassembly_in pool.old self.old) (begun self.old.origin piece.now note now) (placed piece.now) }
         ensures long { length (chain_octets pool.new self.new.chain) ≡ self.new.size }
         ensures free { pool.new.free ≡ pool.old.free }
-        ensures others { (c : ℕ) → (c ≡ self.old.chain → ⊥) → IsChain pool.old c → IsChain pool.new c × (chain_octets pool.new c ≡ chain_octets pool.old c) }
+        ensures others { (c : ℕ) → (c ≡ self.old.chain → ⊥) → IsChain pool.old c
+            → IsChain pool.new c × (chain_octets pool.new c ≡ chain_octets pool.old c) }
     {
         if self.overlaps(piece) {
             self.note = note;

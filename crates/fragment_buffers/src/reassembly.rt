@@ -102,7 +102,8 @@ impl Reassembly {
         ensures answer { result ≡ answer_of (taken (told pool.old self.old) origin piece.now note now).outcome }
         ensures datagram { out.new ≡ octets_of (taken (told pool.old self.old) origin piece.now note now).outcome }
         ensures told { told pool.new self.new ≡ (taken (told pool.old self.old) origin piece.now note now).held }
-        ensures full { IsErr result ↔ (NoneIsNamed self.old origin piece.now × ((8 ≤ length self.old) ⊎ (80 < blocks_used self.old + blocks piece.now.size))) }
+        ensures full { IsErr result ↔ (NoneIsNamed self.old origin piece.now
+            × ((8 ≤ length self.old) ⊎ (80 < blocks_used self.old + blocks piece.now.size))) }
         ensures err { OnErr result ((self.new ≡ self.old) × (pool.new ≡ pool.old)) }
         ensures keeps { Keeps pool.new self.new }
         ensures moves { Moves pool.old pool.new self.old self.new }
@@ -147,9 +148,11 @@ impl Reassembly {
 
     /// The first reassembly of this name.
     fn place_of(&self, origin: Short, size: u16, tag: u16) -> Option<usize>
-        ensures none { IfNone result ((k : ℕ) → k < length self.now → has_name origin size tag (entry_at self.now k) ≡ false) }
+        ensures none { IfNone result ((k : ℕ) → k < length self.now
+            → has_name origin size tag (entry_at self.now k) ≡ false) }
         ensures there { IfSome result (λ i. i < length self.now) }
-        ensures named { IfSome result (λ i. (origin ≡ (entry_at self.now i).origin) × (size ≡ (entry_at self.now i).size) × (tag ≡ (entry_at self.now i).tag)) }
+        ensures named { IfSome result (λ i. (origin ≡ (entry_at self.now i).origin)
+            × (size ≡ (entry_at self.now i).size) × (tag ≡ (entry_at self.now i).tag)) }
         ensures first { IfSome result (λ i. (k : ℕ) → k < i → has_name origin size tag (entry_at self.now k) ≡ false) }
     {
         for (index, buffer) in self.buffers.iter().enumerate() {
@@ -244,7 +247,8 @@ impl Reassembly {
         requires size { (entry_at self.old index).size ≡ piece.now.size }
         requires tag { (entry_at self.old index).tag ≡ piece.now.tag }
         ensures told { told pool.new self.new ≡ slice_set (told pool.old self.old) index
-            (grown (reassembly_in pool.old (entry_at self.old index)) (begun (entry_at self.old index).origin piece.now note now) (placed piece.now)) }
+            (grown (reassembly_in pool.old (entry_at self.old index))
+            (begun (entry_at self.old index).origin piece.now note now) (placed piece.now)) }
         ensures as_many { length self.new ≡ length self.old }
         ensures keeps { Keeps pool.new self.new }
         ensures moves { Moves pool.old pool.new self.old self.new }

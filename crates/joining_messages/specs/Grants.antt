@@ -54,7 +54,9 @@ head_stands octets =
 
 -- the parameter of the key at an index
 unfoldable pub key_stands : ℕ → ℕ → List ℕ → Bool
-key_stands at index octets = stands at 3 octets && (stands (at + 1) 0x11 octets && (stands (at + 2) index octets && sixteen_stand (at + 3) octets))
+key_stands at index octets =
+    stands at 3 octets
+    && (stands (at + 1) 0x11 octets && (stands (at + 2) index octets && sixteen_stand (at + 3) octets))
 
 -- one key, the active one, or two
 abbrev pub keys_stand : List ℕ → Bool

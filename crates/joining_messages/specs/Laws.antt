@@ -21,4 +21,5 @@ GrantsAreRead = (g : Granted) (octets : List ℕ) → SpellsGrant g octets → g
 
 -- the grant that is read out of octets is the one that they spell
 abbrev pub ReadGrantsAreSpelled : Type 0
-ReadGrantsAreSpelled = (g : Granted) (octets : List ℕ) → AreOctets octets → grant_in octets ≡ Some g → SpellsGrant g octets
+ReadGrantsAreSpelled =
+    (g : Granted) (octets : List ℕ) → AreOctets octets → grant_in octets ≡ Some g → SpellsGrant g octets

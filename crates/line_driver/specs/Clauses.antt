@@ -54,14 +54,16 @@ IsStop (Takes next text) = ⊥
 IsStop (Stops text) = Unit {0}
 
 -- a line had its turn, and w was written of its report
-abbrev pub TurnedBy : {M : Type 0} → List ℕ → M → M → Turn M → SinkState → SinkState → Result (Unit {0}) StopReason → Type 0
+abbrev pub TurnedBy : {M : Type 0} → List ℕ → M → M → Turn M → SinkState → SinkState → Result (Unit {0}) StopReason
+    → Type 0
 TurnedBy w m0 m1 turn old new (Ok _) = GoesOn w m0 m1 turn
 TurnedBy w m0 m1 turn old new (Err stops.BadLine) = IsStop turn × (w ≡ turn_text turn)
 TurnedBy w m0 m1 turn old new (Err stops.Memory) = IsPrefixOf w (turn_text turn)
 TurnedBy w m0 m1 turn old new (Err stops.WriteFault) = SinkRose old new × IsPrefixOf w (turn_text turn)
 
 -- a line had its turn
-pub record Turned {M : Type 0} (old new : SinkState) (m0 m1 : M) (turn : Turn M) (result : Result (Unit {0}) StopReason) : Type 0 where
+pub record Turned {M : Type 0} (old new : SinkState) (m0 m1 : M) (turn : Turn M)
+    (result : Result (Unit {0}) StopReason) : Type 0 where
   pub w : List ℕ
   pub wrote : Appends old.taken new.taken w
   pub turned : TurnedBy w m0 m1 turn old new result
@@ -77,7 +79,8 @@ exit_of stops.WriteFault = exits.WriteFault
 
 -- What an exit says, over the octets b that were given, the text w that was written and what b does by the outcome: at the end of
 -- input, that it is in the state `last`, and that w is the whole text; at a bad line, that few octets are read after it.
-abbrev pub Comes : {M : Type 0} → (List ℕ → Bool → Outcome M) → M → SourceState → SourceState → SinkState → SinkState → List ℕ → List ℕ → Exit → Type 0
+abbrev pub Comes : {M : Type 0} → (List ℕ → Bool → Outcome M) → M → SourceState → SourceState → SinkState → SinkState
+    → List ℕ → List ℕ → Exit → Type 0
 Comes outcome last source0 source1 sink0 sink1 b w exits.Fine =
     IsTrue source1.ended × ((outcome b true).ending ≡ Ended last) × (w ≡ (outcome b true).text)
 Comes outcome last source0 source1 sink0 sink1 b w exits.BadScript =
@@ -89,7 +92,8 @@ Comes outcome last source0 source1 sink0 sink1 b w exits.WriteFault =
 Comes outcome last source0 source1 sink0 sink1 b w exits.Memory = IsPrefixOf w (outcome b source1.ended).text
 
 -- What a run did: what the source gave, what the sink took, why it ended so, and where neither can have failed.
-pub record Drives {M : Type 0} (outcome : List ℕ → Bool → Outcome M) (last : M) (source0 source1 : SourceState) (sink0 sink1 : SinkState) (exit : Exit) : Type 0 where
+pub record Drives {M : Type 0} (outcome : List ℕ → Bool → Outcome M) (last : M) (source0 source1 : SourceState)
+    (sink0 sink1 : SinkState) (exit : Exit) : Type 0 where
   pub b : List ℕ
   pub w : List ℕ
   pub gave : Consumes source0.left source1.left b

@@ -27,7 +27,8 @@ lines_from seen count part (c ∷ cs) ended =
     if nat_lt seen 67108864
     then (
     if c == 10
-    then record { number = count + 1; content = content_of part; behind = cs } ∷ lines_from (seen + 1) (count + 1) [] cs ended
+    then record { number = count + 1; content = content_of part; behind = cs }
+    ∷ lines_from (seen + 1) (count + 1) [] cs ended
     else lines_from (seen + 1) count (part ++ c ∷ []) cs ended
     )
     else record { number = count + 1; content = TooMuch; behind = cs } ∷ []

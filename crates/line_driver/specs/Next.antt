@@ -59,7 +59,8 @@ pub record Refilled (source0 source1 : SourceState) (ahead0 ahead1 : List ℕ) (
   pub none : octets ≡ [] → IsTrue ended1
 
 -- A read after the octets ahead, which sees the end of input or not.
-pub record Refills (source0 source1 : SourceState) (ahead0 ahead1 : List ℕ) (ended1 : Bool) (result : Result (Unit {0}) Failed) : Type 0 where
+pub record Refills (source0 source1 : SourceState) (ahead0 ahead1 : List ℕ) (ended1 : Bool)
+    (result : Result (Unit {0}) Failed) : Type 0 where
   pub given : IfOk result (λ _. Refilled source0 source1 ahead0 ahead1 ended1)
   pub over : IsTrue ended1 → IsOver source1
   pub kept : OnErr result ((ahead1 ≡ ahead0) × (ended1 ≡ false) × Keeps source0.left source1.left)
@@ -78,7 +79,8 @@ FeedIs octets stop None = NoFeed (take stop octets)
 
 -- What stands first among octets of which so many may be used: a line feed behind this many others, an octet that is too much, or neither.
 abbrev pub FoundIs : List ℕ → ℕ → Found → Type 0
-FoundIs octets room (Feed at) = (at < room) × (at < length octets) × (slice_index octets at ≡ 10) × NoFeed (take at octets)
+FoundIs octets room (Feed at) =
+    (at < room) × (at < length octets) × (slice_index octets at ≡ 10) × NoFeed (take at octets)
 FoundIs octets room PastRoom = (room < length octets) × NoFeed (take room octets)
 FoundIs octets room Neither = (length octets ≤ room) × NoFeed octets
 
@@ -108,7 +110,9 @@ LineIs seen0 count0 window0 octets seen1 count1 window1 ended1 line None =
     IsTrue ended1 × ((e : Bool) → lines_from seen0 count0 [] (window0 ++ octets) e ≡ [])
 
 -- A line, the end of input, or a failure, and what the source gave for it.
-pub record NextLine (source0 source1 : SourceState) (seen0 count0 : ℕ) (window0 : List ℕ) (ended0 : Bool) (seen1 count1 : ℕ) (window1 : List ℕ) (ended1 : Bool) (line : List ℕ) (result : Result (Option LineKind) Failed) : Type 0 where
+pub record NextLine (source0 source1 : SourceState) (seen0 count0 : ℕ) (window0 : List ℕ) (ended0 : Bool)
+    (seen1 count1 : ℕ) (window1 : List ℕ) (ended1 : Bool) (line : List ℕ)
+    (result : Result (Option LineKind) Failed) : Type 0 where
   pub octets : List ℕ
   pub gave : Consumes source0.left source1.left octets
   pub found : IfOk result (LineIs seen0 count0 window0 octets seen1 count1 window1 ended1 line)

@@ -25,9 +25,12 @@ outcome_turn m line (Takes next text) rest = record { text = text ++ (rest next)
 outcome_turn m line (Stops text) rest = record { text = text; ending = Bad line.number line.behind }
 
 -- what these lines do from a state on
-unfoldable pub outcome_from : {M : Type 0} → (M → ℕ → Content → Turn M) → (M → List ℕ) → M → List Line → Bool → Outcome M
-outcome_from turn end_text m [] ended = record { text = if ended then end_text m else []; ending = if ended then Ended m else Open }
-outcome_from turn end_text m (line ∷ lines) ended = outcome_turn m line (turn m line.number line.content) (λ next. outcome_from turn end_text next lines ended)
+unfoldable pub outcome_from : {M : Type 0} → (M → ℕ → Content → Turn M) → (M → List ℕ) → M → List Line → Bool
+    → Outcome M
+outcome_from turn end_text m [] ended =
+    record { text = if ended then end_text m else []; ending = if ended then Ended m else Open }
+outcome_from turn end_text m (line ∷ lines) ended =
+    outcome_turn m line (turn m line.number line.content) (λ next. outcome_from turn end_text next lines ended)
 
 -- what a script does, where its input has ended or not
 abbrev pub outcome : {M : Type 0} → (M → ℕ → Content → Turn M) → (M → List ℕ) → M → List ℕ → Bool → Outcome M

@@ -23,8 +23,10 @@ IsAllowed (Rerr lost to) = ⊤
 
 -- the one spelling of each
 abbrev pub spelling : Message → List ℕ
-spelling (Rreq number cost origin dest) = 1 ∷ big_bytes 2 number ++ big_bytes 2 cost ++ big_bytes 2 origin ++ big_bytes 2 dest
-spelling (Rrep number cost origin to) = 2 ∷ big_bytes 2 number ++ big_bytes 2 cost ++ big_bytes 2 origin ++ big_bytes 2 to
+spelling (Rreq number cost origin dest) =
+    1 ∷ big_bytes 2 number ++ big_bytes 2 cost ++ big_bytes 2 origin ++ big_bytes 2 dest
+spelling (Rrep number cost origin to) =
+    2 ∷ big_bytes 2 number ++ big_bytes 2 cost ++ big_bytes 2 origin ++ big_bytes 2 to
 spelling (Rerr lost to) = 3 ∷ big_bytes 2 lost ++ big_bytes 2 to
 
 -- the octets are the message's, all of them

@@ -11,4 +11,5 @@ MessagesAreRead = (m : Message) (octets : List ℕ) → Spells m octets → mess
 
 -- the message that is read out of octets is the one that they spell
 abbrev pub ReadMessagesAreSpelled : Type 0
-ReadMessagesAreSpelled = (m : Message) (octets : List ℕ) → AreOctets octets → message_in octets ≡ Some m → Spells m octets
+ReadMessagesAreSpelled =
+    (m : Message) (octets : List ℕ) → AreOctets octets → message_in octets ≡ Some m → Spells m octets

@@ -73,7 +73,8 @@ kind_fault octets =
 -- too long, or else the fields from the left
 unfoldable pub fields_fault : List ℕ → Option (Fault FrameFaultKind)
 fields_fault octets =
-    low_fault octets then high_fault octets then cut_off Short 3 octets then cut_off Short 5 octets then kind_fault octets
+    low_fault octets then high_fault octets then cut_off Short 3 octets then cut_off Short 5 octets
+    then kind_fault octets
 
 abbrev pub frame_fault : List ℕ → Option (Fault FrameFaultKind)
 frame_fault octets = fault_at Long 400 when nat_lt 400 (length octets) then fields_fault octets

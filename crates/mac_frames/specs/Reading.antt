@@ -15,9 +15,15 @@ version_in octets = bits 4 2 (octet 1 octets)
 
 -- by whether the frame is sealed, and whether its target is short
 abbrev pub head_by : Bool → Bool → List ℕ → MacHead
-head_by true short octets = Sealed (ack_in octets) (octet 2 octets) (little_two 3 octets) (little_two 5 octets) (little_two 7 octets) (little_four 10 octets) (octet 14 octets)
-head_by false true octets = Up (ack_in octets) (version_in octets) (octet 2 octets) (little_two 3 octets) (little_two 5 octets) (record { 0 = reverse (part 7 8 octets) })
-head_by false false octets = Down (ack_in octets) (version_in octets) (octet 2 octets) (little_two 3 octets) (record { 0 = reverse (part 5 8 octets) }) (little_two 13 octets)
+head_by true short octets =
+    Sealed (ack_in octets) (octet 2 octets) (little_two 3 octets) (little_two 5 octets) (little_two 7 octets)
+    (little_four 10 octets) (octet 14 octets)
+head_by false true octets =
+    Up (ack_in octets) (version_in octets) (octet 2 octets) (little_two 3 octets) (little_two 5 octets)
+    (record { 0 = reverse (part 7 8 octets) })
+head_by false false octets =
+    Down (ack_in octets) (version_in octets) (octet 2 octets) (little_two 3 octets)
+    (record { 0 = reverse (part 5 8 octets) }) (little_two 13 octets)
 
 unfoldable pub head_in : List ℕ → MacHead
 head_in octets = head_by (is_sealed octets) (has_modes 2 3 (octet 1 octets)) octets

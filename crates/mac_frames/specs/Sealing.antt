@@ -37,10 +37,12 @@ HasTag key head front body = sealed_tag body ≡ ccm_tag 4 key (nonce_of head) f
 -- the payload of a sealed body, where its tag is right
 abbrev pub opened_in : List ℕ → MacHead → List ℕ → List ℕ → Option (List ℕ)
 opened_in key head front body =
-    if bytes_eq (sealed_tag body) (ccm_tag 4 key (nonce_of head) front (payload_in key head body)) then Some (payload_in key head body) else None
+    if bytes_eq (sealed_tag body) (ccm_tag 4 key (nonce_of head) front (payload_in key head body))
+    then Some (payload_in key head body) else None
 
 -- The octets are a frame whose body is the payload, encrypted under the key and the head's nonce, and the
 -- tag of all octets before it and the payload.
 pub record SealedFrame (head : MacHead) (key payload octets : List ℕ) : Type 0 where
   pub sealed : IsSealed head
-  pub frame : Frame head (ccm_text key (nonce_of head) payload ++ ccm_tag 4 key (nonce_of head) (header head) payload) octets
+  pub frame : Frame head (ccm_text key (nonce_of head) payload
+      ++ ccm_tag 4 key (nonce_of head) (header head) payload) octets

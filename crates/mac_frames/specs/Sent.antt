@@ -17,4 +17,5 @@ sent_head to from counter index = Sealed (not (to == to_all)) (counter % 256) PA
 
 -- the body: the payload under the key and the nonce of its head, and the four octets of the tag over header and payload
 abbrev pub sealed_body : List ℕ → MacHead → List ℕ → List ℕ
-sealed_body key head payload = ccm_text key (nonce_of head) payload ++ ccm_tag 4 key (nonce_of head) (header head) payload
+sealed_body key head payload =
+    ccm_text key (nonce_of head) payload ++ ccm_tag 4 key (nonce_of head) (header head) payload

@@ -20,7 +20,8 @@ origin_at octets = if octet 0 octets == 0xBF then 2 else 1
 unfoldable pub hops_fault : List ℕ → Option (Fault UnitFaultKind)
 hops_fault octets =
     fault_at AddressKind 0 when nat_lt (octet 0 octets) 0xB0
-    then (if octet 0 octets == 0xBF then cut_off Short 2 octets then fault_at HopForm 1 when nat_lt (octet 1 octets) 15 else None)
+    then (if octet 0 octets == 0xBF then cut_off Short 2 octets
+    then fault_at HopForm 1 when nat_lt (octet 1 octets) 15 else None)
 
 -- the data of a whole datagram
 unfoldable pub data_fault : ℕ → List ℕ → Option (Fault UnitFaultKind)
@@ -36,7 +37,8 @@ size_fault base at octets =
 unfoldable pub octets_fault : ℕ → ℕ → ℕ → List ℕ → Option (Fault UnitFaultKind)
 octets_fault size offset at octets =
     let n = length octets - at in
-    fault_at PieceForm at when (n == 0 || nat_lt size (offset * 8 + n) || (nat_lt (offset * 8 + n) size && nat_lt 0 (n % 8)))
+    fault_at PieceForm at when (n == 0 || nat_lt size (offset * 8 + n)
+    || (nat_lt (offset * 8 + n) size && nat_lt 0 (n % 8)))
 
 unfoldable pub first_piece_fault : ℕ → List ℕ → Option (Fault UnitFaultKind)
 first_piece_fault at octets =
@@ -58,7 +60,8 @@ unfoldable pub carried_fault : ℕ → List ℕ → Option (Fault UnitFaultKind)
 carried_fault at octets = octet_fault at octets then (if octet at octets == 2 then None else fault_at Dispatch at)
 
 unfoldable pub local_fault : ℕ → List ℕ → Option (Fault UnitFaultKind)
-local_fault at octets = octet_fault at octets then fault_at Dispatch at when (octet at octets == 0 || nat_lt 5 (octet at octets))
+local_fault at octets =
+    octet_fault at octets then fault_at Dispatch at when (octet at octets == 0 || nat_lt 5 (octet at octets))
 
 -- by the octet after a mesh header
 abbrev pub part_fault : ℕ → ℕ → List ℕ → Option (Fault UnitFaultKind)

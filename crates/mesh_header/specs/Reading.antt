@@ -13,14 +13,22 @@ abbrev pub hops_in : List ℕ → ℕ
 hops_in octets = if octet 0 octets == 0xBF then octet 1 octets else octet 0 octets - 0xB0
 
 abbrev pub mesh_in : List ℕ → Mesh
-mesh_in octets = record { hops = hops_in octets; origin = two (origin_at octets) octets; to = two (origin_at octets + 2) octets }
+mesh_in octets =
+    record { hops = hops_in octets; origin = two (origin_at octets) octets; to = two (origin_at octets + 2) octets }
 
 -- the first piece whose size stands at a place, and a later one
 abbrev pub first_piece_at : ℕ → List ℕ → Placed
-first_piece_at at octets = record { size = two at octets - 0xC000; tag = two (at + 2) octets; offset = 0; octets = after (at + 5) octets }
+first_piece_at at octets =
+    record { size = two at octets - 0xC000; tag = two (at + 2) octets; offset = 0; octets = after (at + 5) octets }
 
 abbrev pub later_piece_at : ℕ → List ℕ → Placed
-later_piece_at at octets = record { size = two at octets - 0xE000; tag = two (at + 2) octets; offset = octet (at + 4) octets; octets = after (at + 5) octets }
+later_piece_at at octets =
+    record {
+      size = two at octets - 0xE000;
+      tag = two (at + 2) octets;
+      offset = octet (at + 4) octets;
+      octets = after (at + 5) octets;
+    }
 
 -- what stands behind a mesh header, by its first octet
 abbrev pub part_in : ℕ → Mesh → ℕ → List ℕ → Unit

@@ -32,7 +32,8 @@ use Rattle.node_rules.specs.Meters as meters
 use Rattle.node_rules.specs.States.{State}
 use Rattle.node_rules.specs.Agreement.{Agrees, AgreesWith}
 use Rattle.node_rules.specs.Carrying.{Carries, nothing}
-use Rattle.node_rules.specs.Composing.{command_fault, HasRoom}
+use Rattle.node_rules.specs.Calls.{command_fault}
+use Rattle.node_rules.specs.Composing.{HasRoom}
 use Rattle.node_rules.proofs.Composing.{installed, not_installed, Whole, CutOff, ring_alone, room_kept}
 use Rattle.plc_station.proofs.Carrying.{at_some}
 use Rattle.meter_node.specs.MeterStates.{MeterState, memory_with, node_of, identity_of}

@@ -33,7 +33,8 @@ use Rattle.node_rules.specs.Calls as calls
 use Rattle.node_rules.specs.MemoryDrafts.{in_memory, on_station, is_commanded, command_lack}
 use Rattle.node_rules.specs.States.{State}
 use Rattle.node_rules.specs.Carrying.{Carries}
-use Rattle.node_rules.specs.Composing.{behind, adding, out_with, seen, begun, told, command_alone, command_fault, HasRoom}
+use Rattle.node_rules.specs.Calls.{command_fault}
+use Rattle.node_rules.specs.Composing.{behind, adding, out_with, seen, begun, told, command_alone, HasRoom}
 use Rattle.node_rules.proofs.Composing.{carries_stopped, carries_within, carries_behind, carries_adding, command_plan, command_sent, carried_whole, carried_cut, Whole, CutOff, room_seals, room_refuses, command_units}
 use Rattle.meter_node.specs.MeterStates.{MeterState, memory_with, node_of}
 

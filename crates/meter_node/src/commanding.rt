@@ -8,7 +8,8 @@ ghost use Rattle.node_rules.specs.Meters as meters;
 ghost use Rattle.node_rules.specs.Hearing.{dropped, dropped_for};
 ghost use Rattle.node_rules.specs.Carrying.{Carries, nothing};
 ghost use Rattle.node_rules.specs.Agreement.{Agrees};
-ghost use Rattle.node_rules.specs.Composing.{command_fault, HasRoom};
+ghost use Rattle.node_rules.specs.Calls.{command_fault};
+ghost use Rattle.node_rules.specs.Composing.{HasRoom};
 ghost use Rattle.meter_node.specs.MeterStates.{node_of};
 ghost use Rattle.meter_node.specs.Hearing as hearing;
 

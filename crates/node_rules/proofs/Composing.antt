@@ -25,7 +25,7 @@ use Rattle.node_rules.specs.Memory.{StationMemory, Memory, Load, Command, next_h
 use Rattle.node_rules.specs.Frames.{to_all}
 use Rattle.node_rules.specs.Plans.{resting}
 use Rattle.node_rules.specs.Drafts.{Draft, Ends, empty_draft, sealing, sealed, sealed_by, sealing_key, letters, counters_left, sets_out, body_goes, waits, seeks_once, goes, with_own_number, is_awaited, all_go, units_of, Lack, lack, checked, refused, with_ring}
-use Rattle.node_rules.specs.Calls.{Ringing, sending_ends, lacking, room_fault, command_frames, command_from, send_command, ring_ends, install}
+use Rattle.node_rules.specs.Calls.{Ringing, sending_ends, lacking, room_fault, command_frames, command_from, send_command, ring_ends, install, command_fault}
 use Rattle.node_rules.specs.MemoryDrafts.{with_station, in_memory, on_station}
 use Rattle.node_rules.specs.declared.refusal.SendRefusal.{SendRefusal}
 use Rattle.plc_base.specs.Faults.{◌then◌, ◌when◌}
@@ -35,7 +35,7 @@ use Rattle.group_keys.specs.declared.fault.RingFault.TheVariants.{Store as RingS
 use Rattle.node_rules.specs.declared.refusal.SendRefusal.TheVariants.{NotJoined, CounterSpent}
 use Rattle.node_rules.specs.States.{State}
 use Rattle.node_rules.specs.Carrying.{Carries, given}
-use Rattle.node_rules.specs.Composing.{behind, adding, out_with, seen, begun, told, command_alone, command_fault, HasRoom}
+use Rattle.node_rules.specs.Composing.{behind, adding, out_with, seen, begun, told, command_alone, HasRoom}
 
 -- # A part of what a node holds
 

@@ -87,11 +87,15 @@ send_command l to octets now =
 abbrev pub command_frames : StationMemory → ℕ → ℕ
 command_frames l to = if is_some (next_hop l to) then 1 else (if is_awaited l to then 0 else 1)
 
--- what a command of so many octets lacks, its counters among it
+-- what a command of so many octets for an address lacks, its counters among it, in the words of an answer
+abbrev pub command_fault : {E : Type 0} → Ends E → (Lack → E) → StationMemory → (to octets : ℕ) → Option E
+command_fault ends word l to octets =
+    option_map word (lack l to octets)
+    then Some ends.spent when nat_lt (counters_left l) (command_frames l to)
+
+-- the same in the words of a sender
 abbrev pub room_fault : StationMemory → ℕ → ℕ → Option SendRefusal
-room_fault l to octets =
-    option_map lacking (lack l to octets)
-    then Some CounterSpent when nat_lt (counters_left l) (command_frames l to)
+room_fault = command_fault sending_ends lacking
 
 -- what a command of so many octets for an address would be refused for
 abbrev pub room : StationMemory → ℕ → ℕ → Option SendRefusal

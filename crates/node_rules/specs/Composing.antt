@@ -51,12 +51,6 @@ begun puts memory plain made opened =
 
 -- # Room for a command
 
--- what a command of so many octets for an address lacks, its counters among it, in the words of an answer
-abbrev pub command_fault : {E : Type 0} → Ends E → (Lack → E) → StationMemory → (to octets : ℕ) → Option E
-command_fault ends word l to octets =
-    option_map word (lack l to octets)
-    then Some ends.spent when nat_lt (counters_left l) (command_frames l to)
-
 -- A command of so many octets for an address has room: it lacks nothing, and there are counters for its frames.
 pub record HasRoom (l : StationMemory) (to octets : ℕ) : Type 0 where
   pub lacks : lack l to octets ≡ None

@@ -46,7 +46,7 @@ address_of l = option_map (λ g. g.address) l.ring
 
 -- the next hop of the valid route to an address
 unfoldable pub next_hop : StationMemory → ℕ → Option ℕ
-next_hop l dest = option_map (λ t. t.next) (routing.route_of l.routing dest)
+next_hop l dest = routing.next_of l.routing dest
 
 -- # Sessions of a joining
 

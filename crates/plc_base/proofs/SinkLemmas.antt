@@ -3,7 +3,7 @@ use Rattle.std.proofs.Common.{◌≡◌, ℕ, ◌+◌, ◌-◌, ◌≤◌, Bool,
 use Rattle.std.proofs.lemmas.Bool.{le-ltb}
 use Rattle.plc_base.specs.Causes.{one_more, HasCause}
 use Rattle.std.specs.Io.KnownBytes.{Appends, Keeps}
-use Rattle.plc_base.specs.Streams.{Wrote, SinkState, WritePlan, is_listed, write_fails, plan_after_write, FollowsWritePlan, Writes, PlansRoomFor, SinkFaults}
+use Rattle.plc_base.specs.Streams.{HasWritten, SinkState, WritePlan, is_listed, write_fails, plan_after_write, FollowsWritePlan, Writes, PlansRoomFor, SinkFaults}
 
 -- where no write is listed and there is room, the next one does not fail
 room_passes : (plan : WritePlan) (count : ℕ) → plan.fails ≡ [] → count ≤ plan.room → write_fails plan count ≡ false
@@ -70,7 +70,7 @@ appends_kept (Some x) (Some y) (Some z) xs p q = q ∙ p
 
 -- a write failed after a part of a text
 pub wrote_short : {T E : Type 0} {first middle last : SinkState} (text front rest : List ℕ) (e q : E) → text ≡ front ++ rest → Appends first.taken middle.taken front → SinkFaults first middle (length front)
-    → Writes middle last (Err e) rest → Wrote {T = T} {E = E} first last (Err q) text
+    → Writes middle last (Err e) rest → HasWritten {T = T} {E = E} first last (Err q) text
 wrote_short {T} {E} {first} {middle} {last} text front rest e q whole appends faults failed =
     let long : length front + length rest ≡ length text = sym (ap length whole ∙ length-append front rest) in
     record {

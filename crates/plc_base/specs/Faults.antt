@@ -30,7 +30,8 @@ cut_off short end octets = fault_at short (length octets) when nat_lt (length oc
 
 -- a short address at this place: cut off, which is the first kind, or of no node, which is the second
 unfoldable pub address_fault : {K : Type 0} → K → K → ℕ → List ℕ → Option (Fault K)
-address_fault short no_node at octets = cut_off short (at + 2) octets then fault_at no_node at unless is_address (two at octets)
+address_fault short no_node at octets =
+    cut_off short (at + 2) octets then fault_at no_node at unless is_address (two at octets)
 
 -- A value with this property is read where there is no fault, and else the fault is answered.
 abbrev pub ReadsUnless : {V F : Type 0} → Option F → Result V F → (V → Type 0) → Type 0
@@ -42,4 +43,5 @@ ReadsWhen test result property = MatchOption result (test ≡ false) (λ value. 
 
 -- The same where else this fault is answered.
 abbrev pub ReadsOr : {V F : Type 0} → F → Bool → Result V F → (V → Type 0) → Type 0
-ReadsOr fault test result property = MatchResult result (λ value. (test ≡ true) × property value) (λ e. (test ≡ false) × (e ≡ fault))
+ReadsOr fault test result property =
+    MatchResult result (λ value. (test ≡ true) × property value) (λ e. (test ≡ false) × (e ≡ fault))

@@ -38,7 +38,8 @@ pub record IsTwo (address active : ℕ) (keys : List (Option Key)) : Type 0 wher
   pub grant : IsGrant (granted_of address active keys)
 
 -- the two places are all that there is
-pub two_places : (keys : List (Option Key)) → length keys ≡ 2 → slice_index_or keys 0 None ∷ slice_index_or keys 1 None ∷ [] ≡ keys
+pub two_places : (keys : List (Option Key)) → length keys ≡ 2
+    → slice_index_or keys 0 None ∷ slice_index_or keys 1 None ∷ [] ≡ keys
 two_places [] e = cc
 two_places (a ∷ []) e = cc
 two_places (a ∷ (b ∷ [])) e = refl
@@ -50,7 +51,8 @@ key_code = code_by (List ℕ) (coded_list coded_ℕ) (λ k. k.0) (λ xs. record 
 
 abbrev pub granted_code : Coded Granted
 granted_code =
-    code_by (ℕ × (ℕ × (Option Key × Option Key))) (coded× coded_ℕ (coded× coded_ℕ (coded× (coded_option key_code) (coded_option key_code))))
+    code_by (ℕ × (ℕ × (Option Key × Option Key)))
+    (coded× coded_ℕ (coded× coded_ℕ (coded× (coded_option key_code) (coded_option key_code))))
     (λ g. (g.address, (g.active, (g.key0, g.key1))))
     (λ t. record { address = t.0; active = t.1.0; key0 = t.1.1.0; key1 = t.1.1.1 })
     (λ _. refl)

@@ -70,7 +70,8 @@ store_code =
     (λ _. refl)
   where
     cut_code : Coded Cut
-    cut_code = code_by (ℕ × Bool) (coded× coded_ℕ coded_bool) (λ c. (c.nth, c.keeps_new)) (λ p. record { nth = p.0; keeps_new = p.1 }) (λ _. refl)
+    cut_code = code_by (ℕ × Bool) (coded× coded_ℕ coded_bool) (λ c. (c.nth, c.keeps_new))
+        (λ p. record { nth = p.0; keeps_new = p.1 }) (λ _. refl)
 
 -- A put that a call makes.
 pub record Write : Type 0 where

@@ -8,7 +8,9 @@ use Rattle.plc_base.specs.LeadingPuts.{all_put}
 
 -- The puts of one list after those of another are those of both.
 abbrev pub WritesCompose : Type 0
-WritesCompose = (s m t : Store) (first then : List Write) (done : Bool) → Wrote s first true m → Wrote m then done t → Wrote s (first ++ then) done t
+WritesCompose =
+    (s m t : Store) (first then : List Write) (done : Bool) → Wrote s first true m → Wrote m then done t
+    → Wrote s (first ++ then) done t
 
 -- Where one of the first list failed, none of the second is made.
 abbrev pub WritesStop : Type 0
@@ -31,8 +33,11 @@ AreElsewhere slot puts = All (λ (w : Write). w.slot ≢ slot) puts
 
 -- Puts at other slots leave the record of a slot, whatever becomes of them.
 abbrev pub OtherSlotsStay : Type 0
-OtherSlotsStay = (slot : ℕ) (puts : List Write) (cut : Option Cut) (records : Records) → AreElsewhere slot puts → get (write puts cut records).records slot ≡ get records slot
+OtherSlotsStay =
+    (slot : ℕ) (puts : List Write) (cut : Option Cut) (records : Records) → AreElsewhere slot puts
+    → get (write puts cut records).records slot ≡ get records slot
 
 -- A put changes no slot but its own.
 abbrev pub APutStaysInItsSlot : Type 0
-APutStaysInItsSlot = (records : Records) (slot : ℕ) (octets : List ℕ) → SameOutside slot slot records (insert records slot octets)
+APutStaysInItsSlot =
+    (records : Records) (slot : ℕ) (octets : List ℕ) → SameOutside slot slot records (insert records slot octets)

@@ -27,7 +27,8 @@ stored_number at records = number_in at (get records at.slot)
 
 -- the number is that of the records from before, or a new one
 abbrev pub IsOldOrNewNumber : NumberSlot → ℕ → Records → Records → Type 0
-IsOldOrNewNumber at number old new = (stored_number at new ≡ stored_number at old) ⊎ (stored_number at new ≡ Some number)
+IsOldOrNewNumber at number old new =
+    (stored_number at new ≡ stored_number at old) ⊎ (stored_number at new ≡ Some number)
 
 -- what a read of it answers
 abbrev pub read_result : NumberSlot → Option ℕ → Result ℕ BadStore

@@ -26,5 +26,6 @@ SortedNumbersAreOrdered A =
 -- The sorted keys of a table, looked up one by one, give its entries in the order of their keys.
 abbrev pub SortedKeysFindAll : Type 0 → Type 0
 SortedKeysFindAll A =
-    (layout : Layout A) (table : List A) (sorted : List ℕ) → IsTable layout table → IsPermutation (map layout.key table) sorted → IsSorted nat_cmp sorted
+    (layout : Layout A) (table : List A) (sorted : List ℕ) → IsTable layout table
+    → IsPermutation (map layout.key table) sorted → IsSorted nat_cmp sorted
     → map (entry_of layout table) sorted ≡ map Some (ordered_by layout.key table)

@@ -47,23 +47,28 @@ pub record IsTable {A : Type 0} (layout : Layout A) (table : List A) : Type 0 wh
 
 -- no other place has an entry with this key
 abbrev pub IsFree : {A : Type 0} → Layout A → List A → ℕ → ℕ → Type 0
-IsFree layout table place key = (q : ℕ) → q < length table → q ≢ place → IfSome (slice_get table q) (λ entry. layout.key entry ≢ key)
+IsFree layout table place key =
+    (q : ℕ) → q < length table → q ≢ place → IfSome (slice_get table q) (λ entry. layout.key entry ≢ key)
 
 -- What the table holds as stored is what the records give, and no record stands behind them.
 pub record IsStored {A : Type 0} (layout : Layout A) (table : List A) (records : Records) : Type 0 where
   pub each : (place : ℕ) → place < layout.slots
-      → option_map (layout.read place) (get records (slot_of layout place)) ≡ option_map (λ entry. Some (layout.rest entry)) (slice_get table place)
+      → option_map (layout.read place) (get records (slot_of layout place))
+      ≡ option_map (λ entry. Some (layout.rest entry)) (slice_get table place)
 
 -- no record stands behind the first empty slot
 abbrev pub IsGapless : {A : Type 0} → Layout A → Records → Type 0
-IsGapless layout records = (i j : ℕ) → i < j → j < layout.slots → get records (slot_of layout i) ≡ None → get records (slot_of layout j) ≡ None
+IsGapless layout records =
+    (i j : ℕ) → i < j → j < layout.slots → get records (slot_of layout i) ≡ None
+    → get records (slot_of layout j) ≡ None
 
 -- # Opening
 
 -- the table with the entry of one more record, unless that has no reading or its key stands in the table
 abbrev pub with_record : {A : Type 0} → Layout A → ℕ → List A → List ℕ → Option (List A)
 with_record layout place table octets =
-    option_map_or (λ entry. if is_some (place_of layout table (layout.key entry)) then None else Some (table ++ entry ∷ []))
+    option_map_or (λ entry. if is_some (place_of layout table (layout.key entry))
+    then None else Some (table ++ entry ∷ []))
     (layout.read place octets) None
 
 -- what the records give from a place on, up to the first empty slot, behind the table so far
@@ -71,7 +76,8 @@ unfoldable pub opened_from : {A : Type 0} → Layout A → ℕ → ℕ → Recor
 opened_from layout zero place records table = Ok table
 opened_from layout (suc left) place records table =
     option_map_or
-    (λ octets. option_map_or (λ next. opened_from layout left (place + 1) records next) (with_record layout place table octets) (Err (record { slot = slot_of layout place })))
+    (λ octets. option_map_or (λ next. opened_from layout left (place + 1) records next)
+    (with_record layout place table octets) (Err (record { slot = slot_of layout place })))
     (get records (slot_of layout place)) (Ok table)
 
 -- the table that the records give
@@ -85,12 +91,14 @@ read_into (Err bad) table = Err bad
 
 -- a table that was stored is opened again, each entry at rest
 abbrev pub Reopens : {A : Type 0} → Layout A → Records → Result (List A) BadStore → Type 0
-Reopens {A} layout records result = (table : List A) → IsTable layout table → IsStored layout table records → result ≡ Ok (map layout.rest table)
+Reopens {A} layout records result =
+    (table : List A) → IsTable layout table → IsStored layout table records → result ≡ Ok (map layout.rest table)
 
 -- so it is read into a table
 abbrev pub ReopensInto : {A : Type 0} → Layout A → Records → Result (Unit {0}) BadStore → List A → Type 0
 ReopensInto {A} layout records result new =
-    (table : List A) → IsTable layout table → IsStored layout table records → (result ≡ Ok tt) × (new ≡ map layout.rest table)
+    (table : List A) → IsTable layout table → IsStored layout table records
+    → (result ≡ Ok tt) × (new ≡ map layout.rest table)
 
 -- The same, where every slot has room in the table.
 pub record IsTableOf {A : Type 0} (layout : Layout A) (room : ℕ) (table : List A) : Type 0 where
@@ -114,7 +122,8 @@ pub record IsSecond {A : Type 0} (layout : Layout A) (records : Records) (place 
   pub earlier : ℕ
   pub before : earlier < place
   pub there : IsSome (entry_at layout records place)
-  pub same : option_map layout.key (entry_at layout records earlier) ≡ option_map layout.key (entry_at layout records place)
+  pub same : option_map layout.key (entry_at layout records earlier)
+      ≡ option_map layout.key (entry_at layout records place)
 
 -- The record at a slot has no reading, or is a second one of a key, and no empty slot stands before it.
 pub record IsBad {A : Type 0} (layout : Layout A) (records : Records) (slot : ℕ) : Type 0 where

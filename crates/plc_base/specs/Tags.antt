@@ -18,7 +18,8 @@ IsTag (Channel eui rand_p nonce header text) = (length eui.0 ≡ 8) × (length r
 abbrev pub tag_octets : PairTag → List ℕ
 tag_octets (MacP eui text) = 0 ∷ (eui.0 ++ text)
 tag_octets (MacS eui text) = 1 ∷ (eui.0 ++ text)
-tag_octets (Channel eui rand_p nonce header text) = 2 ∷ (eui.0 ++ (rand_p.0 ++ (big_bytes 4 nonce ++ (length header ∷ (header ++ text)))))
+tag_octets (Channel eui rand_p nonce header text) =
+    2 ∷ (eui.0 ++ (rand_p.0 ++ (big_bytes 4 nonce ++ (length header ∷ (header ++ text)))))
 
 -- Two tags with one spelling are the same.
 abbrev pub OneSpellingOneTag : Type 0

@@ -31,7 +31,8 @@ impl Model for Grant {
 
     ghost inverse = { λ v. record { address = v.address; active = v.active; keys = v.key0 ∷ v.key1 ∷ [] } };
 
-    ghost inverse_ok = { λ a h. ap (λ keys. record { address = a.address; active = a.active; keys = keys }) (two_places a.keys h.two) };
+    ghost inverse_ok = { λ a h. ap (λ keys. record { address = a.address; active = a.active; keys = keys })
+        (two_places a.keys h.two) };
 }
 
 impl Grant {

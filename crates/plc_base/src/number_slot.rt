@@ -45,7 +45,8 @@ impl NumberSlot {
         requires slot { IsNumberSlot self.now }
         requires fits { number < 256 ^ self.now.width }
         requires least { self.now.least ≤ number }
-        ensures store { Stores (K.store keeper.old) (Some (number_write self.now number)) (is_ok result) (K.store keeper.new) }
+        ensures store { Stores (K.store keeper.old) (Some (number_write self.now number)) (is_ok result)
+            (K.store keeper.new) }
         ensures stored { OnOk result (stored_number self.now (K.store keeper.new).records ≡ Some number) }
         // Whatever became of the put, the number is that from before or the new one.
         ensures either { IsOldOrNewNumber self.now number (K.store keeper.old).records (K.store keeper.new).records }

@@ -36,7 +36,8 @@ pub trait SlotEntry: Copy + Default {
         ensures reads_back { layout.read place (layout.octets place self.now) ≡ Some (layout.rest self.now) };
 
     /// What a record gives is as a new start finds it.
-    ghost rests: { (place : ℕ) (octets : List ℕ) (entry : Self) → layout.read place octets ≡ Some entry → layout.rest entry ≡ entry };
+    ghost rests: { (place : ℕ) (octets : List ℕ) (entry : Self) → layout.read place octets ≡ Some entry
+        → layout.rest entry ≡ entry };
 
     /// A new start changes no key.
     ghost keeps_key: { (entry : Self) → layout.key (layout.rest entry) ≡ layout.key entry };
@@ -168,10 +169,12 @@ impl<E: SlotEntry, const N: usize> SlotTable<E, N> {
         requires kept { IsStored E.layout self.old (K.store keeper.old).records }
         ensures table { OnOk result (self.new ≡ set self.old place entry) }
         ensures same { OnErr result (self.new ≡ self.old) }
-        ensures store { Stores (K.store keeper.old) (Some (entry_write E.layout place entry)) (is_ok result) (K.store keeper.new) }
+        ensures store { Stores (K.store keeper.old) (Some (entry_write E.layout place entry)) (is_ok result)
+            (K.store keeper.new) }
         ensures kept { OnOk result (IsStored E.layout self.new (K.store keeper.new).records) }
         // Whatever became of the put, the records are those of the table before or of the one after.
-        ensures either { IsOldOrNew (IsStored E.layout) self.old (set self.old place entry) (K.store keeper.new).records }
+        ensures either { IsOldOrNew (IsStored E.layout) self.old (set self.old place entry)
+            (K.store keeper.new).records }
         ensures elsewhere { OutsideStays E.layout.first (last_of E.layout) (K.store keeper.old) (K.store keeper.new) }
     {
         let _ = &self.entries;
@@ -191,7 +194,8 @@ impl<E: SlotEntry, const N: usize> SlotTable<E, N> {
         requires kept { IsStored E.layout self.old (K.store keeper.old).records }
         ensures table { OnOk result (self.new ≡ self.old ++ entry ∷ []) }
         ensures same { OnErr result (self.new ≡ self.old) }
-        ensures store { Stores (K.store keeper.old) (Some (entry_write E.layout (length self.old) entry)) (is_ok result) (K.store keeper.new) }
+        ensures store { Stores (K.store keeper.old) (Some (entry_write E.layout (length self.old) entry))
+            (is_ok result) (K.store keeper.new) }
         ensures kept { OnOk result (IsStored E.layout self.new (K.store keeper.new).records) }
         ensures either { IsOldOrNew (IsStored E.layout) self.old (self.old ++ entry ∷ []) (K.store keeper.new).records }
         ensures elsewhere { OutsideStays E.layout.first (last_of E.layout) (K.store keeper.old) (K.store keeper.new) }
@@ -253,7 +257,8 @@ fn store_entry<E: SlotEntry, K: Keeper>(
 ) -> Result<(), Failed>
     requires place { place < E.layout.slots }
     requires storable { IsTrue (E.layout.storable entry.now) }
-    ensures store { Puts (K.store keeper.old) (slot_of E.layout place) (E.layout.octets place entry.now) (is_ok result) (K.store keeper.new) }
+    ensures store { Puts (K.store keeper.old) (slot_of E.layout place) (E.layout.octets place entry.now)
+        (is_ok result) (K.store keeper.new) }
     ensures reads_back { E.layout.read place (E.layout.octets place entry.now) ≡ Some (E.layout.rest entry.now) }
     ensures elsewhere { OutsideStays E.layout.first (last_of E.layout) (K.store keeper.old) (K.store keeper.new) }
 {

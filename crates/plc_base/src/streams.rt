@@ -1,7 +1,7 @@
 //! The two traits of the outside.
 ghost use Rattle.std.specs.Prelude.{◌<◌, ◌≤◌, length, IfOk};
 ghost use Rattle.std.specs.Io.{ReadsAtMost};
-ghost use Rattle.plc_base.specs.Streams.{SourceState, SinkState, Reads, Writes, Wrote};
+ghost use Rattle.plc_base.specs.Streams.{SourceState, SinkState, Reads, Writes, HasWritten};
 
 /// A call of the outside failed, and the object counted it.
 #[derive(Clone, Copy, Debug, PartialEq, Eq)]
@@ -37,7 +37,7 @@ pub trait Sink {
 
 /// Writes the whole text. Where the sink fails, a prefix of it was written.
 pub fn write_all<K: Sink>(sink: &mut K, text: &[u8]) -> Result<(), Failed>
-    ensures { Wrote (K.state sink.old) (K.state sink.new) result text.now }
+    ensures { HasWritten (K.state sink.old) (K.state sink.new) result text.now }
 {
     let mut rest = text;
     while !rest.is_empty() {

@@ -37,11 +37,13 @@ impl<K: Keeper + Drop> Station<K> {
         requires room { IfSome self.old.memory (λ l. routing.is_full l.routing origin now ≡ false) }
         requires valid { 1 ≤ rank.number }
         requires number { IfSome self.old.memory (λ l. l.own_number.last < 65535) }
-        requires left { IfSome self.old.memory (λ l. l.counter.next + (length (leaving grant.now.address origin by l.waiting) + 1) ≤ 4294967295) }
+        requires left { IfSome self.old.memory
+            (λ l. l.counter.next + (length (leaving grant.now.address origin by l.waiting) + 1) ≤ 4294967295) }
         requires empty { out.old ≡ nothing }
         requires fresh { self.old.replied ≡ None }
         ensures carries { IfSome self.old.memory (λ l. Carries self.old (drafts.sealing drafts.alone hearing.dropped
-            (drafts.tells by (message.Rrep (l.own_number.last + 1) 0 grant.now.address origin) (hearing.offers_numbered grant.now.address origin rank by now l)) tt) result out.new self.new) }
+            (drafts.tells by (message.Rrep (l.own_number.last + 1) 0 grant.now.address origin)
+            (hearing.offers_numbered grant.now.address origin rank by now l)) tt) result out.new self.new) }
         ensures agrees { Agrees self.new }
         ensures replied { IfSome self.old.memory (λ l. self.new.replied ≡ reply_sent_by
             (drafts.tells by (message.Rrep (l.own_number.last + 1) 0 grant.now.address origin)
@@ -84,7 +86,9 @@ impl<K: Keeper + Drop> Station<K> {
 
     // Whether a rank that is offered is not to be taken: the address is the own one, or the rank does not beat that which it has.
     pub(crate) fn is_no_better(&self, own: Short, origin: Short, number: u16, cost: u32) -> bool
-        ensures { IfSome self.now.memory (λ l. result ≡ ((origin == own) || not (routing.is_better l.routing origin (record { number = number; cost = cost })))) }
+        ensures { IfSome self.now.memory
+            (λ l. result ≡ ((origin == own) || not
+            (routing.is_better l.routing origin (record { number = number; cost = cost })))) }
     {
         origin.number() == own.number() || !self.parts.routing.is_better(origin, number, cost)
     }
@@ -107,7 +111,9 @@ impl<K: Keeper + Drop> Station<K> {
         requires valid { 1 ≤ number }
         requires empty { out.old ≡ nothing }
         requires fresh { self.old.replied ≡ None }
-        ensures hears { IfSome self.old.memory (λ l. Hears self.old (hearing.hear_request l grant.now.address by origin dest (record { number = number; cost = cost }) now) result out.new self.new) }
+        ensures hears { IfSome self.old.memory
+            (λ l. Hears self.old (hearing.hear_request l grant.now.address by origin dest
+            (record { number = number; cost = cost }) now) result out.new self.new) }
         ensures agrees { Agrees self.new }
     {
         if self.is_no_better(grant.address, origin, number, cost) {

@@ -50,7 +50,8 @@ impl<K: Keeper + Drop> Station<K> {
         requires left { IfSome self.old.memory (λ l. l.counter.next + 1 ≤ 4294967295) }
         requires empty { out.old ≡ nothing }
         ensures carries { IfSome self.old.memory (λ l. Carries self.old (drafts.sealing drafts.alone calls.sending_ends
-            (drafts.body_goes grant.now.address hop to 0 (Command octets.now) (drafts.empty_draft l)) how.Sent) result out.new self.new) }
+            (drafts.body_goes grant.now.address hop to 0 (Command octets.now)
+            (drafts.empty_draft l)) how.Sent) result out.new self.new) }
         ensures agrees { Agrees self.new }
         ensures replied { self.new.replied ≡ self.old.replied }
     {
@@ -109,7 +110,8 @@ impl<K: Keeper + Drop> Station<K> {
         requires left { IfSome self.old.memory (λ l. l.counter.next + 1 ≤ 4294967295) }
         requires empty { out.old ≡ nothing }
         ensures carries { IfSome self.old.memory (λ l. Carries self.old (drafts.sealing drafts.alone calls.sending_ends
-            (drafts.waits to 0 (Command octets.now) now (drafts.seeks grant.now.address to (drafts.empty_draft l))) how.Waiting) result out.new self.new) }
+            (drafts.waits to 0 (Command octets.now) now
+            (drafts.seeks grant.now.address to (drafts.empty_draft l))) how.Waiting) result out.new self.new) }
         ensures agrees { Agrees self.new }
         ensures replied { self.new.replied ≡ self.old.replied }
     {
@@ -141,7 +143,9 @@ impl<K: Keeper + Drop> Station<K> {
         requires some { 1 ≤ length octets.now }
         requires fits { length octets.now ≤ 374 }
         requires empty { out.old ≡ nothing }
-        ensures carries { IfSome self.old.memory (λ l. Carries self.old (calls.command_from l grant.now.address to octets.now now) result out.new self.new) }
+        ensures carries { IfSome self.old.memory
+            (λ l. Carries self.old
+            (calls.command_from l grant.now.address to octets.now now) result out.new self.new) }
         ensures agrees { Agrees self.new }
         ensures replied { self.new.replied ≡ self.old.replied }
     {
@@ -180,8 +184,10 @@ impl<K: Keeper + Drop> Station<K> {
         requires agrees { Agrees self.old }
         requires some { 1 ≤ length body.now }
         requires fits { length body.now ≤ 374 }
-        ensures halted { IfNone self.old.memory ((result ≡ Err SendRefusal.Halted) × (out.new ≡ nothing) × (self.new ≡ self.old)) }
-        ensures carries { IfSome self.old.memory (λ l. Carries self.old (calls.send_command l to body.now now) result out.new self.new) }
+        ensures halted { IfNone self.old.memory
+            ((result ≡ Err SendRefusal.Halted) × (out.new ≡ nothing) × (self.new ≡ self.old)) }
+        ensures carries { IfSome self.old.memory
+            (λ l. Carries self.old (calls.send_command l to body.now now) result out.new self.new) }
         ensures agrees { Agrees self.new }
         ensures replied { self.new.replied ≡ self.old.replied }
     {

@@ -38,7 +38,9 @@ impl<K: Keeper + Drop> Station<K> {
         requires agrees { Agrees self.old }
         requires left { IfSome self.old.memory (λ l. l.counter.next ≤ 4294967295) }
         requires empty { out.now ≡ nothing }
-        ensures carries { IfSome self.old.memory (λ l. Carries self.old (drafts.sealing drafts.alone hearing.dropped (hearing.loses lost by l) heard.Broken) result out.now self.new) }
+        ensures carries { IfSome self.old.memory
+            (λ l. Carries self.old (drafts.sealing drafts.alone hearing.dropped
+            (hearing.loses lost by l) heard.Broken) result out.now self.new) }
         ensures agrees { Agrees self.new }
         ensures replied { self.new.replied ≡ self.old.replied }
     {
@@ -95,7 +97,8 @@ impl<K: Keeper + Drop> Station<K> {
         requires agrees { Agrees self.old }
         requires ring { IfSome self.old.memory (λ l. l.ring ≡ Some grant.now) }
         requires empty { out.old ≡ nothing }
-        ensures carries { IfSome self.old.memory (λ l. Carries self.old (hearing.hear_error l grant.now.address by lost to) result out.new self.new) }
+        ensures carries { IfSome self.old.memory
+            (λ l. Carries self.old (hearing.hear_error l grant.now.address by lost to) result out.new self.new) }
         ensures agrees { Agrees self.new }
         ensures replied { self.new.replied ≡ self.old.replied }
     {

@@ -64,7 +64,8 @@ impl<K: Keeper + Drop> Station<K> {
     ) -> Result<Accepted, FrameRefusal>
         requires running { IsSome self.old.memory }
         requires agrees { Agrees self.old }
-        ensures carries { IfSome self.old.memory (λ l. Carries self.old (accepting.admit l from counter accepted) result nothing self.new) }
+        ensures carries { IfSome self.old.memory
+            (λ l. Carries self.old (accepting.admit l from counter accepted) result nothing self.new) }
         ensures agrees { Agrees self.new }
         ensures replied { self.new.replied ≡ self.old.replied }
         ensures same { IfOk result (λ got. got ≡ accepted) }
@@ -95,7 +96,9 @@ impl<K: Keeper + Drop> Station<K> {
         requires index { index ≤ 1 }
         requires frame { Frame raw.now.head raw.now.body.now (raw.now.header.now ++ raw.now.body.now) }
         ensures carries { IfSome self.old.memory (λ l. Carries self.old
-            (accepting.with_key l (arrived_with network raw.now.head raw.now.header.now raw.now.body.now) to from counter (ring.key_in_ring l.ring index))
+            (accepting.with_key l
+            (arrived_with network raw.now.head raw.now.header.now raw.now.body.now) to from counter
+            (ring.key_in_ring l.ring index))
             result nothing self.new) }
         ensures agrees { Agrees self.new }
         ensures replied { self.new.replied ≡ self.old.replied }
@@ -155,7 +158,9 @@ impl<K: Keeper + Drop> Station<K> {
     pub fn accept(&mut self, octets: &[u8]) -> Result<Accepted, FrameRefusal>
         requires agrees { Agrees self.old }
         ensures halted { IfNone self.old.memory ((result ≡ Err FrameRefusal.Halted) × (self.new ≡ self.old)) }
-        ensures carries { IfSome self.old.memory (λ l. Carries self.old (accepting.accept l self.old.eui (arrived network octets.now)) result nothing self.new) }
+        ensures carries { IfSome self.old.memory
+            (λ l. Carries self.old (accepting.accept l self.old.eui
+            (arrived network octets.now)) result nothing self.new) }
         ensures agrees { Agrees self.new }
         ensures replied { self.new.replied ≡ self.old.replied }
         ensures fits { IfOk result (λ got. Fits got) }

@@ -78,7 +78,9 @@ impl<K: Keeper + Drop> Station<K> {
         requires allowed { messages.IsAllowed message }
         requires empty { out.old ≡ nothing }
         requires fresh { self.old.replied ≡ None }
-        ensures hears { IfSome self.old.memory (λ l. Hears self.old (hearing.hear_message l grant.now.address by all link now message) result out.new self.new) }
+        ensures hears { IfSome self.old.memory
+            (λ l. Hears self.old
+            (hearing.hear_message l grant.now.address by all link now message) result out.new self.new) }
         ensures agrees { Agrees self.new }
     {
         match message {
@@ -132,7 +134,9 @@ impl<K: Keeper + Drop> Station<K> {
         requires ring { IfSome self.old.memory (λ l. l.ring ≡ Some grant.now) }
         requires empty { out.old ≡ nothing }
         requires fresh { self.old.replied ≡ None }
-        ensures hears { IfSome self.old.memory (λ l. Hears self.old (hearing.hear_command l grant.now.address by all code body link now) result out.new self.new) }
+        ensures hears { IfSome self.old.memory
+            (λ l. Hears self.old
+            (hearing.hear_command l grant.now.address by all code body link now) result out.new self.new) }
         ensures agrees { Agrees self.new }
     {
         if code == 1 {
@@ -171,7 +175,9 @@ impl<K: Keeper + Drop> Station<K> {
         requires fits { spelled_length unit ≤ 381 }
         requires empty { out.old ≡ nothing }
         requires fresh { self.old.replied ≡ None }
-        ensures hears { IfSome self.old.memory (λ l. Hears self.old (hearing.hear_sealed l grant.now.address by all unit link note now) result out.new self.new) }
+        ensures hears { IfSome self.old.memory
+            (λ l. Hears self.old
+            (hearing.hear_sealed l grant.now.address by all unit link note now) result out.new self.new) }
         ensures agrees { Agrees self.new }
     {
         match unit {
@@ -216,7 +222,8 @@ impl<K: Keeper + Drop> Station<K> {
         requires fits { Fits got.now }
         requires empty { out.old ≡ nothing }
         requires fresh { self.old.replied ≡ None }
-        ensures hears { IfSome self.old.memory (λ l. Hears self.old (hearing.hear l got.now cost note now) result out.new self.new) }
+        ensures hears { IfSome self.old.memory
+            (λ l. Hears self.old (hearing.hear l got.now cost note now) result out.new self.new) }
         ensures agrees { Agrees self.new }
     {
         let Some(unit) = unit_in(got.payload.octets()) else {
@@ -266,9 +273,11 @@ impl<K: Keeper + Drop> Station<K> {
         requires running { IsSome self.old.memory }
         requires agrees { Agrees self.old }
         requires fits { Fits got.now }
-        ensures carries { IfSome self.old.memory (λ l. Carries self.old (hearing.hear l got.now cost note now) result out.new self.new) }
+        ensures carries { IfSome self.old.memory
+            (λ l. Carries self.old (hearing.hear l got.now cost note now) result out.new self.new) }
         ensures agrees { Agrees self.new }
-        ensures replied { IfSome self.old.memory (λ l. self.new.replied ≡ reply_sent (hearing.hear l got.now cost note now) self.new.memory) }
+        ensures replied { IfSome self.old.memory
+            (λ l. self.new.replied ≡ reply_sent (hearing.hear l got.now cost note now) self.new.memory) }
     {
         out.clear();
         self.replied = None;

@@ -32,7 +32,8 @@ impl<K: Keeper + Drop> Station<K> {
         requires better { IfSome self.old.memory (λ l. routing.is_better l.routing origin rank ≡ true) }
         requires room { IfSome self.old.memory (λ l. routing.is_full l.routing origin now ≡ false) }
         requires valid { 1 ≤ rank.number }
-        requires left { IfSome self.old.memory (λ l. l.counter.next + length (leaving grant.now.address origin by l.waiting) ≤ 4294967295) }
+        requires left { IfSome self.old.memory
+            (λ l. l.counter.next + length (leaving grant.now.address origin by l.waiting) ≤ 4294967295) }
         requires empty { out.old ≡ nothing }
         ensures carries { IfSome self.old.memory (λ l. Carries self.old (drafts.sealing drafts.alone hearing.dropped
             (hearing.offers grant.now.address origin rank by now l) tt) result out.new self.new) }
@@ -76,8 +77,10 @@ impl<K: Keeper + Drop> Station<K> {
         requires valid { 1 ≤ number }
         requires empty { out.old ≡ nothing }
         ensures carries { IfSome self.old.memory (λ l. Carries self.old
-            (drafts.checked hearing.dropped l (hearing.rank_fault l grant.now.address origin (record { number = number; cost = cost }) now)
-            (hearing.learns l grant.now.address by origin (record { number = number; cost = cost }) now)) result out.new self.new) }
+            (drafts.checked hearing.dropped l
+            (hearing.rank_fault l grant.now.address origin (record { number = number; cost = cost }) now)
+            (hearing.learns l grant.now.address by origin
+            (record { number = number; cost = cost }) now)) result out.new self.new) }
         ensures agrees { Agrees self.new }
         ensures replied { self.new.replied ≡ self.old.replied }
     {

@@ -61,7 +61,9 @@ impl<K: Keeper + Drop> Station<K> {
         requires fits { spelled_length unit.now ≤ 381 }
         requires left { IfSome self.old.memory (λ l. l.counter.next + 1 ≤ 4294967295) }
         requires empty { out.old ≡ nothing }
-        ensures carries { IfSome self.old.memory (λ l. Carries self.old (drafts.sealing drafts.alone hearing.dropped (drafts.goes to unit.now note (drafts.empty_draft l)) tt) result out.new self.new) }
+        ensures carries { IfSome self.old.memory
+            (λ l. Carries self.old (drafts.sealing drafts.alone hearing.dropped
+            (drafts.goes to unit.now note (drafts.empty_draft l)) tt) result out.new self.new) }
         ensures agrees { Agrees self.new }
         ensures replied { self.new.replied ≡ self.old.replied }
     {
@@ -81,8 +83,10 @@ impl<K: Keeper + Drop> Station<K> {
         requires agrees { Agrees self.old }
         requires ring { IfSome self.old.memory (λ l. l.ring ≡ Some grant.now) }
         requires empty { out.old ≡ nothing }
-        ensures carries { IfSome self.old.memory (λ l. Carries self.old (drafts.choose (mesh.now.origin == grant.now.address)
-            (hearing.drop_it l hearing_drops.NoRoute) (hearing.report_by l mesh.now (next_hop l mesh.now.origin))) result out.new self.new) }
+        ensures carries { IfSome self.old.memory
+            (λ l. Carries self.old (drafts.choose (mesh.now.origin == grant.now.address)
+            (hearing.drop_it l hearing_drops.NoRoute)
+            (hearing.report_by l mesh.now (next_hop l mesh.now.origin))) result out.new self.new) }
         ensures agrees { Agrees self.new }
         ensures replied { self.new.replied ≡ self.old.replied }
     {
@@ -118,7 +122,9 @@ impl<K: Keeper + Drop> Station<K> {
         requires allowed { IsAllowed unit.now }
         requires fits { spelled_length unit.now ≤ 381 }
         requires empty { out.old ≡ nothing }
-        ensures carries { IfSome self.old.memory (λ l. Carries self.old (hearing.forward l grant.now.address mesh.now unit.now note) result out.new self.new) }
+        ensures carries { IfSome self.old.memory
+            (λ l. Carries self.old
+            (hearing.forward l grant.now.address mesh.now unit.now note) result out.new self.new) }
         ensures agrees { Agrees self.new }
         ensures replied { self.new.replied ≡ self.old.replied }
     {
@@ -153,7 +159,9 @@ impl<K: Keeper + Drop> Station<K> {
         requires allowed { IsAllowed unit }
         requires fits { spelled_length unit ≤ 381 }
         requires empty { out.old ≡ nothing }
-        ensures carries { IfSome self.old.memory (λ l. Carries self.old (hearing.hear_over_mesh l grant.now.address unit note now) result out.new self.new) }
+        ensures carries { IfSome self.old.memory
+            (λ l. Carries self.old
+            (hearing.hear_over_mesh l grant.now.address unit note now) result out.new self.new) }
         ensures agrees { Agrees self.new }
         ensures replied { self.new.replied ≡ self.old.replied }
     {

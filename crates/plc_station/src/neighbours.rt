@@ -44,7 +44,8 @@ impl<K: Keeper + Drop> Station<K> {
         requires fits { length body.now ≤ 379 }
         requires target { to ≢ 0xFFFE }
         requires room { length out.old.frames < 24 }
-        ensures carries { IfSome self.old.memory (λ l. CarriesAfter self.old (drafts.sealing drafts.alone local.local_ends
+        ensures carries { IfSome self.old.memory
+            (λ l. CarriesAfter self.old (drafts.sealing drafts.alone local.local_ends
             (drafts.goes to (units.Local code body.now) 0 (drafts.empty_draft l)) tt) result out.old out.new self.new) }
         ensures agrees { Agrees self.new }
         ensures replied { self.new.replied ≡ self.old.replied }
@@ -81,7 +82,8 @@ impl<K: Keeper + Drop> Station<K> {
         requires some { 1 ≤ length body.now }
         requires fits { length body.now ≤ 379 }
         requires room { length out.old.frames < 24 }
-        ensures carries { IfSome self.old.memory (λ l. CarriesAfter self.old (local.send_local l code to body.now) result out.old out.new self.new) }
+        ensures carries { IfSome self.old.memory
+            (λ l. CarriesAfter self.old (local.send_local l code to body.now) result out.old out.new self.new) }
         ensures agrees { Agrees self.new }
         ensures replied { self.new.replied ≡ self.old.replied }
     {

@@ -28,7 +28,9 @@ impl Parts {
     /// What the records of a keeper give. BadStore where one of them has no reading.
     #[tactic(auto, unfolding(node_rules::specs::StoreReading::station_of))]
     pub(crate) fn open<K: Keeper>(keeper: &K) -> Result<Parts, BadStore>
-        ensures station { MatchResult result (λ p. station_of (K.store keeper.now).records ≡ Ok (station_in p no_bodies)) (λ bad. station_of (K.store keeper.now).records ≡ Err bad) }
+        ensures station { MatchResult result
+            (λ p. station_of (K.store keeper.now).records ≡ Ok (station_in p no_bodies))
+            (λ bad. station_of (K.store keeper.now).records ≡ Err bad) }
         ensures agrees { IsGapless peers (K.store keeper.now).records → IsGapless ranks (K.store keeper.now).records
             → IfOk result (λ p. AgreesWith (station_in p no_bodies) (K.store keeper.now).records) }
     {

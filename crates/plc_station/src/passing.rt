@@ -13,7 +13,8 @@ impl<K: Keeper + Drop> Station<K> {
     pub fn broke(&mut self, next: Short) -> Result<(), Halted>
         requires agrees { Agrees self.old }
         ensures halted { IfNone self.old.memory ((result ≡ Err (record {})) × (self.new ≡ self.old)) }
-        ensures ended { IfSome self.old.memory (λ l. (result ≡ Ok tt) × (self.new ≡ record self.old { memory = Some (calls.broke next l) })) }
+        ensures ended { IfSome self.old.memory
+            (λ l. (result ≡ Ok tt) × (self.new ≡ record self.old { memory = Some (calls.broke next l) })) }
         ensures agrees { Agrees self.new }
     {
         if self.halted {

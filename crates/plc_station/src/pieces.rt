@@ -39,7 +39,8 @@ impl<K: Keeper + Drop> Station<K> {
         requires running { IsSome self.old.memory }
         requires agrees { Agrees self.old }
         requires empty { out.now ≡ nothing }
-        ensures carries { IfSome self.old.memory (λ l. Carries self.old (hearing.gather l from piece.now note now) result out.now self.new) }
+        ensures carries { IfSome self.old.memory
+            (λ l. Carries self.old (hearing.gather l from piece.now note now) result out.now self.new) }
         ensures agrees { Agrees self.new }
         ensures replied { self.new.replied ≡ self.old.replied }
     {

@@ -16,7 +16,8 @@ impl<K: Keeper + Drop> Station<K> {
     pub fn preset_counter(&mut self, value: u32) -> Result<(), PresetFault>
         requires running { IsSome self.old.memory }
         requires agrees { Agrees self.old }
-        ensures carries { IfSome self.old.memory (λ l. Carries self.old (calls.preset_counter l value) result nothing self.new) }
+        ensures carries { IfSome self.old.memory
+            (λ l. Carries self.old (calls.preset_counter l value) result nothing self.new) }
         ensures agrees { Agrees self.new }
         ensures replied { self.new.replied ≡ self.old.replied }
     {
@@ -33,7 +34,8 @@ impl<K: Keeper + Drop> Station<K> {
         requires running { IsSome self.old.memory }
         requires agrees { Agrees self.old }
         requires value { 1 ≤ value }
-        ensures carries { IfSome self.old.memory (λ l. Carries self.old (calls.preset_number l value) result nothing self.new) }
+        ensures carries { IfSome self.old.memory
+            (λ l. Carries self.old (calls.preset_number l value) result nothing self.new) }
         ensures agrees { Agrees self.new }
         ensures replied { self.new.replied ≡ self.old.replied }
     {
@@ -52,7 +54,9 @@ impl<K: Keeper + Drop> Station<K> {
         requires better { IfSome self.old.memory (λ l. routing.is_better l.routing to (calls.near_rank cost) ≡ true) }
         requires room { IfSome self.old.memory (λ l. routing.is_full l.routing to now ≡ false) }
         ensures carries { IfSome self.old.memory (λ l. Carries self.old
-            (drafts.sealing drafts.alone calls.presetting_ends (drafts.with_rank to (calls.near_rank cost) to now (drafts.empty_draft l)) tt) result nothing self.new) }
+            (drafts.sealing drafts.alone calls.presetting_ends
+            (drafts.with_rank to (calls.near_rank cost) to now
+            (drafts.empty_draft l)) tt) result nothing self.new) }
         ensures agrees { Agrees self.new }
         ensures replied { self.new.replied ≡ self.old.replied }
     {
@@ -74,7 +78,8 @@ impl<K: Keeper + Drop> Station<K> {
     pub fn preset_near(&mut self, to: Short, cost: LinkCost, now: u64) -> Result<(), PresetFault>
         requires running { IsSome self.old.memory }
         requires agrees { Agrees self.old }
-        ensures carries { IfSome self.old.memory (λ l. Carries self.old (calls.preset_near l to cost now) result nothing self.new) }
+        ensures carries { IfSome self.old.memory
+            (λ l. Carries self.old (calls.preset_near l to cost now) result nothing self.new) }
         ensures agrees { Agrees self.new }
         ensures replied { self.new.replied ≡ self.old.replied }
     {

@@ -37,11 +37,13 @@ impl<K: Keeper + Drop> Station<K> {
         requires better { IfSome self.old.memory (λ l. routing.is_better l.routing origin rank ≡ true) }
         requires room { IfSome self.old.memory (λ l. routing.is_full l.routing origin now ≡ false) }
         requires valid { 1 ≤ rank.number }
-        requires left { IfSome self.old.memory (λ l. l.counter.next + (length (leaving grant.now.address origin by l.waiting) + 1) ≤ 4294967295) }
+        requires left { IfSome self.old.memory
+            (λ l. l.counter.next + (length (leaving grant.now.address origin by l.waiting) + 1) ≤ 4294967295) }
         requires empty { out.old ≡ nothing }
         requires fresh { self.old.replied ≡ None }
         ensures carries { IfSome self.old.memory (λ l. Carries self.old (drafts.sealing drafts.alone hearing.dropped
-            (drafts.tells hop (message.Rrep rank.number rank.cost origin to) (hearing.offers grant.now.address origin rank by now l)) tt) result out.new self.new) }
+            (drafts.tells hop (message.Rrep rank.number rank.cost origin to)
+            (hearing.offers grant.now.address origin rank by now l)) tt) result out.new self.new) }
         ensures agrees { Agrees self.new }
         ensures replied { IfSome self.old.memory (λ l. self.new.replied ≡ reply_sent_by
             (drafts.tells hop (message.Rrep rank.number rank.cost origin to)
@@ -99,7 +101,8 @@ impl<K: Keeper + Drop> Station<K> {
         requires empty { out.old ≡ nothing }
         requires fresh { self.old.replied ≡ None }
         ensures hears { IfSome self.old.memory (λ l. Hears self.old
-            (hearing.hear_reply_for l grant.now.address by origin to (record { number = number; cost = cost }) now (Some hop)) result out.new self.new) }
+            (hearing.hear_reply_for l grant.now.address by origin to (record { number = number; cost = cost }) now
+            (Some hop)) result out.new self.new) }
         ensures agrees { Agrees self.new }
     {
         if self.is_no_better(grant.address, origin, number, cost) {
@@ -140,7 +143,9 @@ impl<K: Keeper + Drop> Station<K> {
         requires valid { 1 ≤ number }
         requires empty { out.old ≡ nothing }
         requires fresh { self.old.replied ≡ None }
-        ensures hears { IfSome self.old.memory (λ l. Hears self.old (hearing.hear_reply l grant.now.address by origin to (record { number = number; cost = cost }) now) result out.new self.new) }
+        ensures hears { IfSome self.old.memory
+            (λ l. Hears self.old (hearing.hear_reply l grant.now.address by origin to
+            (record { number = number; cost = cost }) now) result out.new self.new) }
         ensures agrees { Agrees self.new }
     {
         if to.number() == grant.address.number() {

@@ -15,7 +15,8 @@ impl<K: Keeper + Drop> Station<K> {
     pub fn install(&mut self, grant: &Grant) -> Result<(), RingFault>
         requires running { IsSome self.old.memory }
         requires agrees { Agrees self.old }
-        ensures carries { IfSome self.old.memory (λ l. Carries self.old (calls.install l grant.now) result nothing self.new) }
+        ensures carries { IfSome self.old.memory
+            (λ l. Carries self.old (calls.install l grant.now) result nothing self.new) }
         ensures agrees { Agrees self.new }
         ensures replied { self.new.replied ≡ self.old.replied }
     {
@@ -37,7 +38,8 @@ impl<K: Keeper + Drop> Station<K> {
         requires agrees { Agrees self.old }
         requires index { index ≤ 1 }
         requires joined { IfSome self.old.memory (λ l. IsSome l.ring) }
-        ensures carries { IfSome self.old.memory (λ l. Carries self.old (calls.put_key l index key.now) result nothing self.new) }
+        ensures carries { IfSome self.old.memory
+            (λ l. Carries self.old (calls.put_key l index key.now) result nothing self.new) }
         ensures agrees { Agrees self.new }
         ensures replied { self.new.replied ≡ self.old.replied }
     {
@@ -59,7 +61,10 @@ impl<K: Keeper + Drop> Station<K> {
         requires agrees { Agrees self.old }
         requires index { index ≤ 1 }
         requires held { IfSome self.old.memory (λ l. is_some (ring.key_in_ring l.ring index) ≡ true) }
-        ensures carries { IfSome self.old.memory (λ l. Carries self.old (calls.ring_ends (drafts.with_ring (ring.with_active l.ring index) (drafts.empty_draft l))) result nothing self.new) }
+        ensures carries { IfSome self.old.memory
+            (λ l. Carries self.old
+            (calls.ring_ends (drafts.with_ring (ring.with_active l.ring index)
+            (drafts.empty_draft l))) result nothing self.new) }
         ensures agrees { Agrees self.new }
         ensures replied { self.new.replied ≡ self.old.replied }
     {
@@ -80,7 +85,8 @@ impl<K: Keeper + Drop> Station<K> {
         requires running { IsSome self.old.memory }
         requires agrees { Agrees self.old }
         requires index { index ≤ 1 }
-        ensures carries { IfSome self.old.memory (λ l. Carries self.old (calls.activate l index) result nothing self.new) }
+        ensures carries { IfSome self.old.memory
+            (λ l. Carries self.old (calls.activate l index) result nothing self.new) }
         ensures agrees { Agrees self.new }
         ensures replied { self.new.replied ≡ self.old.replied }
     {

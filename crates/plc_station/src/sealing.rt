@@ -75,7 +75,12 @@ pub(crate) fn seal_request(grant: &Grant, counter: u32, number: u16, dest: Short
     requires empty { out.old ≡ nothing }
     ensures { out.new ≡ record nothing {
       frames = map (spelled network) (drafts.sealed_by (Some grant.now) counter
-          (record { to = 0xFFFF; unit = mesh.Local 1 (messages.spelling (message.Rreq number 0 grant.now.address dest)); note = 0 } ∷ []));
+          (record {
+            to = 0xFFFF;
+            unit = mesh.Local 1 (messages.spelling
+                (message.Rreq number 0 grant.now.address dest));
+            note = 0;
+          } ∷ []));
     } }
 {
     let message = Message::Rreq {

@@ -40,7 +40,8 @@ impl<K: Keeper + Drop> Station<K> {
         requires left { IfSome self.old.memory (λ l. l.counter.next + pieces_of (length datagram.now) ≤ 4294967295) }
         requires empty { out.old ≡ nothing }
         ensures carries { IfSome self.old.memory (λ l. Carries self.old (drafts.sealing drafts.alone calls.sending_ends
-            (drafts.body_goes grant.now.address hop to note (Datagram datagram.now l.next_tag) (calls.tag_taken datagram.now (drafts.empty_draft l))) how.Sent) result out.new self.new) }
+            (drafts.body_goes grant.now.address hop to note (Datagram datagram.now l.next_tag)
+            (calls.tag_taken datagram.now (drafts.empty_draft l))) how.Sent) result out.new self.new) }
         ensures agrees { Agrees self.new }
         ensures replied { self.new.replied ≡ self.old.replied }
     {
@@ -78,7 +79,8 @@ impl<K: Keeper + Drop> Station<K> {
         requires left { IfSome self.old.memory (λ l. l.counter.next ≤ 4294967295) }
         requires empty { out.old ≡ nothing }
         ensures carries { IfSome self.old.memory (λ l. Carries self.old (drafts.sealing drafts.alone calls.sending_ends
-            (drafts.waits to note (Datagram datagram.now l.next_tag) now (calls.tag_taken datagram.now (drafts.empty_draft l))) how.Waiting) result out.new self.new) }
+            (drafts.waits to note (Datagram datagram.now l.next_tag) now
+            (calls.tag_taken datagram.now (drafts.empty_draft l))) how.Waiting) result out.new self.new) }
         ensures agrees { Agrees self.new }
         ensures replied { self.new.replied ≡ self.old.replied }
     {
@@ -114,7 +116,9 @@ impl<K: Keeper + Drop> Station<K> {
         requires left { IfSome self.old.memory (λ l. l.counter.next + 1 ≤ 4294967295) }
         requires empty { out.old ≡ nothing }
         ensures carries { IfSome self.old.memory (λ l. Carries self.old (drafts.sealing drafts.alone calls.sending_ends
-            (drafts.waits to note (Datagram datagram.now l.next_tag) now (drafts.seeks grant.now.address to (calls.tag_taken datagram.now (drafts.empty_draft l)))) how.Waiting) result out.new self.new) }
+            (drafts.waits to note (Datagram datagram.now l.next_tag) now
+            (drafts.seeks grant.now.address to
+            (calls.tag_taken datagram.now (drafts.empty_draft l)))) how.Waiting) result out.new self.new) }
         ensures agrees { Agrees self.new }
         ensures replied { self.new.replied ≡ self.old.replied }
     {
@@ -148,7 +152,9 @@ impl<K: Keeper + Drop> Station<K> {
         requires agrees { Agrees self.old }
         requires ring { IfSome self.old.memory (λ l. l.ring ≡ Some grant.now) }
         requires empty { out.old ≡ nothing }
-        ensures carries { IfSome self.old.memory (λ l. Carries self.old (calls.send_from l grant.now.address to datagram.now note now) result out.new self.new) }
+        ensures carries { IfSome self.old.memory
+            (λ l. Carries self.old
+            (calls.send_from l grant.now.address to datagram.now note now) result out.new self.new) }
         ensures agrees { Agrees self.new }
         ensures replied { self.new.replied ≡ self.old.replied }
     {
@@ -193,8 +199,10 @@ impl<K: Keeper + Drop> Station<K> {
         out: &mut Out,
     ) -> Result<SentHow, SendRefusal>
         requires agrees { Agrees self.old }
-        ensures halted { IfNone self.old.memory ((result ≡ Err SendRefusal.Halted) × (out.new ≡ nothing) × (self.new ≡ self.old)) }
-        ensures carries { IfSome self.old.memory (λ l. Carries self.old (calls.send l to datagram.now note now) result out.new self.new) }
+        ensures halted { IfNone self.old.memory
+            ((result ≡ Err SendRefusal.Halted) × (out.new ≡ nothing) × (self.new ≡ self.old)) }
+        ensures carries { IfSome self.old.memory
+            (λ l. Carries self.old (calls.send l to datagram.now note now) result out.new self.new) }
         ensures agrees { Agrees self.new }
         ensures replied { self.new.replied ≡ self.old.replied }
     {

@@ -80,7 +80,8 @@ impl<K: Keeper + Drop> Station<K> {
           replied = None;
         }) }
         ensures running { IfOk result (λ s. IsSome s.memory) }
-        ensures agrees { IsGapless peers (K.store keeper).records → IsGapless ranks (K.store keeper).records → IfOk result (λ s. Agrees s) }
+        ensures agrees { IsGapless peers (K.store keeper).records → IsGapless ranks (K.store keeper).records
+            → IfOk result (λ s. Agrees s) }
         ensures refused { IfErr result (λ e. (e.1 ≡ keeper) × IsOpenFault (station_of (K.store keeper).records) e.0) }
     {
         let Ok(bodies) = Bodies::new(alloc) else {
@@ -101,7 +102,8 @@ impl<K: Keeper + Drop> Station<K> {
 
     /// Lends the keeper. What is put there may end the agreement of the station with it.
     pub fn keeper_mut(&mut self) -> &mut K
-        ensures* lends { sem 𝓛 (Lends (the_row K.row K.Keeper) K.row self.entry result (λ w. record self.entry.now { store = K.store w })) }
+        ensures* lends { sem 𝓛 (Lends (the_row K.row K.Keeper) K.row self.entry result
+            (λ w. record self.entry.now { store = K.store w })) }
         ensures value { K.store result.now ≡ self.old.store }
     {
         &mut self.keeper
@@ -134,8 +136,12 @@ impl<K: Keeper + Drop> Station<K> {
     /// agrees with it again.
     pub fn restart(&mut self) -> Result<(), BadStore>
         ensures answer { result ≡ read_answer (station_of self.old.store.records) }
-        ensures state { self.new ≡ record self.old { memory = if_read (station_of self.old.store.records); replied = None } }
-        ensures agrees { IsGapless peers self.old.store.records → IsGapless ranks self.old.store.records → Agrees self.new }
+        ensures state { self.new ≡ record self.old {
+          memory = if_read (station_of self.old.store.records);
+          replied = None;
+        } }
+        ensures agrees { IsGapless peers self.old.store.records → IsGapless ranks self.old.store.records
+            → Agrees self.new }
         ensures again { IsSome self.old.memory → Agrees self.old → Agrees self.new }
     {
         self.halted = true;

@@ -15,7 +15,8 @@ use Rattle.fragment_buffers.specs.Waiting.{Body}
 
 -- the frame of a unit with this head under a key
 abbrev pub frame_with : MacHead → Key → Outgoing → OutFrame
-frame_with head key o = record { octets = header_then head (sealed_body key.0 head (spelling o.unit)); note = o.note; key = Some key }
+frame_with head key o =
+    record { octets = header_then head (sealed_body key.0 head (spelling o.unit)); note = o.note; key = Some key }
 
 -- the frame of a unit under a grant's active key, with a counter
 unfoldable pub unit_frame : Granted → Key → ℕ → Outgoing → OutFrame
@@ -33,7 +34,8 @@ with_frames frames out = record out { frames = frames }
 -- the frames of so many pieces of a datagram, the first ones
 abbrev pub pieces_sent : Granted → Key → (first to hop note : ℕ) → List ℕ → (tag count : ℕ) → List OutFrame
 pieces_sent g key first to hop note datagram tag count =
-    frames_of g key first (take count (all_go hop note (map (λ piece. Part (own_mesh g.address to) piece) (cut datagram tag))))
+    frames_of g key first
+    (take count (all_go hop note (map (λ piece. Part (own_mesh g.address to) piece) (cut datagram tag))))
 
 -- the body at a place
 abbrev pub body_at : List Body → ℕ → Body

@@ -128,7 +128,8 @@ impl Bodies {
     ) -> Result<Taken, BufferFull>
         ensures answer { result ≡ answer_of (taken self.old.reassemblies origin piece.now note now).outcome }
         ensures datagram { out.new ≡ octets_of (taken self.old.reassemblies origin piece.now note now).outcome }
-        ensures held { self.new ≡ record self.old { reassemblies = (taken self.old.reassemblies origin piece.now note now).held } }
+        ensures held { self.new
+            ≡ record self.old { reassemblies = (taken self.old.reassemblies origin piece.now note now).held } }
     {
         self.reassembly
             .take(&mut self.pool, origin, piece, note, now, out)
@@ -166,7 +167,10 @@ impl Bodies {
         requires fits { length octets.now ≤ 1280 }
         requires command { tag ≡ None → length octets.now ≤ 374 }
         requires room { no_room_in self.old.waiting (length octets.now) ≡ false }
-        ensures { self.new ≡ record self.old { waiting = self.old.waiting ++ record { to = to; note = note; since = since; load = load_of tag octets.now } ∷ [] } }
+        ensures { self.new ≡ record self.old {
+          waiting = self.old.waiting
+              ++ record { to = to; note = note; since = since; load = load_of tag octets.now } ∷ [];
+        } }
     {
         let size = octets.len() as u16;
         let Ok(chain) = self.pool.reserve(size) else {
@@ -226,7 +230,8 @@ impl Bodies {
         requires aes { aes.now ≡ key.now.0 }
         requires left { first + units_in (body_at self.now.waiting index).load ≤ 4294967295 }
         requires room { length out.old.frames + units_in (body_at self.now.waiting index).load ≤ 24 }
-        ensures { out.new ≡ with_frames (out.old.frames ++ frames_of grant.now key.now first (units_by grant.now.address hop (body_at self.now.waiting index))) out.old }
+        ensures { out.new ≡ with_frames (out.old.frames ++ frames_of grant.now key.now first
+            (units_by grant.now.address hop (body_at self.now.waiting index))) out.old }
     {
         let waiting = &self.waiting[index];
         let mut octets = [0; 1280];
@@ -263,9 +268,12 @@ impl Bodies {
     )
         requires there { index < length self.now.waiting }
         requires aes { aes.now ≡ key.now.0 }
-        requires left { first + length (leaving grant.now.address dest hop (body_at self.now.waiting index ∷ [])) ≤ 4294967295 }
-        requires room { length out.old.frames + length (leaving grant.now.address dest hop (body_at self.now.waiting index ∷ [])) ≤ 24 }
-        ensures { out.new ≡ with_frames (out.old.frames ++ frames_of grant.now key.now first (leaving grant.now.address dest hop (body_at self.now.waiting index ∷ []))) out.old }
+        requires left { first + length (leaving grant.now.address dest hop
+            (body_at self.now.waiting index ∷ [])) ≤ 4294967295 }
+        requires room { length out.old.frames + length
+            (leaving grant.now.address dest hop (body_at self.now.waiting index ∷ [])) ≤ 24 }
+        ensures { out.new ≡ with_frames (out.old.frames ++ frames_of grant.now key.now first
+            (leaving grant.now.address dest hop (body_at self.now.waiting index ∷ []))) out.old }
     {
         if !self.waits_at(index, dest) {
             return;
@@ -297,7 +305,8 @@ impl Bodies {
         requires aes { aes.now ≡ key.now.0 }
         requires left { first + length (leaving grant.now.address dest hop self.now.waiting) ≤ 4294967295 }
         requires room { length out.old.frames + length (leaving grant.now.address dest hop self.now.waiting) ≤ 24 }
-        ensures { out.new ≡ with_frames (out.old.frames ++ frames_of grant.now key.now first (leaving grant.now.address dest hop self.now.waiting)) out.old }
+        ensures { out.new ≡ with_frames (out.old.frames ++ frames_of grant.now key.now first
+            (leaving grant.now.address dest hop self.now.waiting)) out.old }
     {
         let before = out.frames.frames().len();
         for index in 0..self.waiting.len() {
@@ -389,7 +398,10 @@ impl Bodies {
 
     /// Drops the reassemblies that began 60 seconds ago or before, and the bodies that came 30 seconds ago or before.
     pub fn expire(&mut self, now: u64)
-        ensures { self.new ≡ record { reassemblies = unexpired self.old.reassemblies now; waiting = still_waiting now self.old.waiting } }
+        ensures { self.new ≡ record {
+          reassemblies = unexpired self.old.reassemblies now;
+          waiting = still_waiting now self.old.waiting;
+        } }
     {
         self.expire_gathered(now);
         self.expire_waiting(now);

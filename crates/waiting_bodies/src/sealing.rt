@@ -30,7 +30,8 @@ pub fn seal(
     requires allowed { IsAllowed unit.now }
     requires fits { spelled_length unit.now ≤ 381 }
     requires room { length out.old.frames < 24 }
-    ensures { out.new ≡ with_frames (out.old.frames ++ unit_frame grant.now key.now counter (record { to = to; unit = unit.now; note = note }) ∷ []) out.old }
+    ensures { out.new ≡ with_frames (out.old.frames ++ unit_frame grant.now key.now counter
+        (record { to = to; unit = unit.now; note = note }) ∷ []) out.old }
 {
     let mut payload = FrameBuf::new();
     write_unit(unit, &mut payload);
@@ -82,7 +83,8 @@ fn seal_cut(
     requires left { first + pieces_of (length datagram.now) ≤ 4294967295 }
     requires room { length out.old.frames + pieces_of (length datagram.now) ≤ 24 }
     ensures { out.new ≡ with_frames (out.old.frames ++ frames_of grant.now key.now first
-        (loads.all_go hop note (map (λ piece. mesh.Part (loads.own_mesh grant.now.address to) piece) (cut datagram.now tag)))) out.old }
+        (loads.all_go hop note (map (λ piece. mesh.Part (loads.own_mesh grant.now.address to) piece)
+        (cut datagram.now tag)))) out.old }
 {
     for k in 0..pieces(datagram.len() as u16) {
         let piece = cut_piece(datagram, tag, k);

@@ -4,7 +4,8 @@ use Rattle.std.specs.Option.{option_map}
 use Rattle.std.proofs.lemmas.Result.{err_from_is_err_and}
 use Rattle.plc_base.specs.Addresses.{eui_number}
 use Rattle.node_rules.specs.Hearing.{dropped, dropped_for}
-use Rattle.node_rules.specs.Composing.{HasRoom, command_fault}
+use Rattle.node_rules.specs.Calls.{command_fault}
+use Rattle.node_rules.specs.Composing.{HasRoom}
 use Rattle.node_rules.specs.Meters as meters
 use Rattle.node_rules.specs.declared.refusal.Dropped.TheVariants.{BadUnit}
 use Rattle.plc_station.proofs.Carrying.{at_some}

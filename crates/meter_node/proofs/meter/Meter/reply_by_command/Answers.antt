@@ -3,7 +3,8 @@ use Rattle.std.specs.Option.{option_map}
 use Rattle.std.proofs.lemmas.Result.{err_from_is_err_and}
 use Rattle.joining_messages.specs.declared.message.JoinBody.TheVariants as body
 use Rattle.node_rules.specs.Hearing.{dropped, dropped_for}
-use Rattle.node_rules.specs.Composing.{HasRoom, command_fault}
+use Rattle.node_rules.specs.Calls.{command_fault}
+use Rattle.node_rules.specs.Composing.{HasRoom}
 use Rattle.node_rules.specs.Memory as memory
 use Rattle.node_rules.specs.Joining.{command_of, message}
 use Rattle.node_rules.specs.Meters as meters

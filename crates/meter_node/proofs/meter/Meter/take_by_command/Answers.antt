@@ -5,7 +5,8 @@ use Rattle.plc_base.specs.Faults.{◌then◌, ◌unless◌}
 use Rattle.joining_messages.specs.declared.message.JoinBody.TheVariants as body
 use Rattle.eap_psk.specs.Keys.{keys_of}
 use Rattle.node_rules.specs.Hearing.{dropped, dropped_for}
-use Rattle.node_rules.specs.Composing.{HasRoom, command_fault}
+use Rattle.node_rules.specs.Calls.{command_fault}
+use Rattle.node_rules.specs.Composing.{HasRoom}
 use Rattle.node_rules.specs.Memory as memory
 use Rattle.node_rules.specs.Joining.{command_of, message}
 use Rattle.node_rules.specs.Meters as meters
