@@ -13,3 +13,8 @@ pub mod Booking
 pub mod Reaching
 pub mod Kicks
 pub mod Challenges
+pub mod SayingRules
+pub mod AskingRules
+pub mod AnsweringRules
+pub mod LineRules
+pub mod HearingRules

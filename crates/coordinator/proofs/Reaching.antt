@@ -61,7 +61,7 @@ module _ (l : StationMemory) (to : ℕ) where
       by f (Some g) (Some y) h n = refl
 
   -- what the station says of the room, where it has an address
-  at_home : (octets : ℕ) → address_of l ≡ Some 0 → calls.room l to octets ≡ calls.room_fault l to octets
+  pub at_home : (octets : ℕ) → address_of l ≡ Some 0 → calls.room l to octets ≡ calls.room_fault l to octets
   at_home octets home = rw home refl
 
   by_route : (octets : ℕ) → is_some (next_hop l to) ≡ true → calls.room_fault l to octets ≡ (Some CounterSpent when nat_lt (counters_left l) 1)
@@ -100,7 +100,7 @@ module _ (l : StationMemory) (to : ℕ) where
   is_none None u h = refl
   is_none (Some x) u h = absurd (cc)
 
-  is_some_of : (o : Option SendRefusal) (reason : SendRefusal) → ◌≡◌ {A = Result (Unit {0}) SendRefusal} (Err reason) (room_answer o) → o ≡ Some reason
+  pub is_some_of : (o : Option SendRefusal) (reason : SendRefusal) → ◌≡◌ {A = Result (Unit {0}) SendRefusal} (Err reason) (room_answer o) → o ≡ Some reason
   is_some_of None reason h = absurd (cc)
   is_some_of (Some x) reason h = cc
 

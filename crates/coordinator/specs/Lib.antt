@@ -7,3 +7,5 @@ pub mod Doings
 pub mod Ordering
 pub mod Telling
 pub mod Kicking
+pub mod Saying
+pub mod Answering

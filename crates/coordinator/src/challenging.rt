@@ -31,14 +31,14 @@ impl<K: Keeper + Drop> Coordinator<K> {
     }
 
     // Whether a session of a meter can't be opened: it has none, and 8 are open.
-    fn sessions_full(&self, eui: Eui) -> bool
+    pub(crate) fn sessions_full(&self, eui: Eui) -> bool
         ensures { IfSome (node_of self.now).memory (λ m. result ≡ rules.sessions_full m eui) }
     {
         self.sessions.full_for(eui)
     }
 
     // The oldest random value.
-    fn oldest(&self) -> Option<Rand>
+    pub(crate) fn oldest(&self) -> Option<Rand>
         ensures { IfSome (node_of self.now).memory (λ m. result ≡ words.oldest m) }
     {
         self.randoms.oldest()
@@ -59,7 +59,7 @@ impl<K: Keeper + Drop> Coordinator<K> {
     }
 
     // A session begins, with the oldest random value.
-    fn begin_session(&mut self, session: Session)
+    pub(crate) fn begin_session(&mut self, session: Session)
         requires running { IsSome (node_of self.old).memory }
         requires holds { Holds (node_of self.old) }
         requires room { IfSome (node_of self.old).memory (λ m. rules.sessions_full m session.server.eui ≡ false) }

@@ -1,0 +1,165 @@
+//! What the coordinator makes of a frame that it accepted.
+ghost use Rattle.std.specs.Prelude.{◌≡◌, Some, None, IfSome, IsSome};
+ghost use Rattle.joining_messages.specs.Messages.{IsMessage};
+ghost use Rattle.joining_messages.specs.Reading.{join_in};
+ghost use Rattle.joining_messages.specs.declared.message.JoinBody.TheVariants as body;
+ghost use Rattle.plc_station.specs.Heard.{Fits};
+ghost use Rattle.node_rules.specs.Hearing as hearing;
+ghost use Rattle.node_rules.specs.Coordinators as rules;
+ghost use Rattle.node_rules.specs.Carrying.{Carries, nothing};
+ghost use Rattle.coordinator.specs.CoordinatorStates.{node_of, identity_of};
+ghost use Rattle.coordinator.specs.CoordinatorAgreement.{Holds};
+
+use crate::coordinator::Coordinator;
+use joining_base::{joining_command, read_message};
+use joining_messages::{JoinBody, JoinMessage};
+use node_rules::{Accepted, CoordinatorHeard, Dropped, Heard, Way};
+use plc_base::{Eui, FrameBuf, Keeper, LinkCost, Out};
+
+// Whether a JOIN of a meter may come so.
+fn may_come(way: Way, eui: Eui) -> bool
+    ensures { result ≡ rules.may_come way eui }
+{
+    match way {
+        Way::Air(from) => from.number() == eui.number(),
+        Way::Near(_) => false,
+        Way::Mesh(_) => true,
+    }
+}
+
+// What the station made of a frame, as the coordinator says it.
+fn heard_by_station(heard: Result<Heard, Dropped>) -> Result<CoordinatorHeard, Dropped>
+    ensures { result ≡ rules.heard_by_station heard }
+{
+    match heard {
+        Ok(heard) => Ok(CoordinatorHeard::Station(heard)),
+        Err(reason) => Err(reason),
+    }
+}
+
+impl<K: Keeper + Drop> Coordinator<K> {
+    // Hears a JOIN: without a packet the meter asks, and with one it answers.
+    fn hear_packet(
+        &mut self,
+        way: &Way,
+        eui: Eui,
+        packet: &[u8],
+        now: u64,
+        out: &mut Out,
+    ) -> Result<CoordinatorHeard, Dropped>
+        requires running { IsSome (node_of self.old).memory }
+        requires holds { Holds (node_of self.old) }
+        requires empty { out.old ≡ nothing }
+        ensures carries { IfSome (node_of self.old).memory (λ m. Carries (node_of self.old)
+            (rules.hear_join (identity_of self.old) m way.now eui (body.Join packet.now) now)
+            result out.new (node_of self.new)) }
+        ensures holds { Holds (node_of self.new) }
+    {
+        if packet.is_empty() {
+            return self.asked(way, eui, now, out);
+        }
+        self.answered(eui, packet, now, out)
+    }
+
+    // Hears a joining message, which is a JOIN or nothing for the coordinator.
+    fn hear_body(
+        &mut self,
+        way: &Way,
+        eui: Eui,
+        body: &JoinBody,
+        now: u64,
+        out: &mut Out,
+    ) -> Result<CoordinatorHeard, Dropped>
+        requires running { IsSome (node_of self.old).memory }
+        requires holds { Holds (node_of self.old) }
+        requires empty { out.old ≡ nothing }
+        ensures carries { IfSome (node_of self.old).memory (λ m. Carries (node_of self.old)
+            (rules.hear_join (identity_of self.old) m way.now eui body.now now) result out.new (node_of self.new)) }
+        ensures holds { Holds (node_of self.new) }
+    {
+        match body {
+            JoinBody::Join { eap } => self.hear_packet(way, eui, eap.octets(), now, out),
+            JoinBody::Challenge { .. } => return Err(Dropped::BadUnit),
+            JoinBody::Accept { .. } => return Err(Dropped::BadUnit),
+            JoinBody::Decline => return Err(Dropped::BadUnit),
+            JoinBody::Kick => return Err(Dropped::BadUnit),
+            JoinBody::Activate { .. } => return Err(Dropped::BadUnit),
+        }
+    }
+
+    // Hears a joining command that the station handed on.
+    fn hear_joining(
+        &mut self,
+        way: &Way,
+        octets: &FrameBuf,
+        now: u64,
+        out: &mut Out,
+    ) -> Result<CoordinatorHeard, Dropped>
+        requires running { IsSome (node_of self.old).memory }
+        requires holds { Holds (node_of self.old) }
+        requires empty { out.old ≡ nothing }
+        ensures carries { IfSome (node_of self.old).memory (λ m. Carries (node_of self.old)
+            (rules.hear_join_in (identity_of self.old) m way.now (join_in octets.now) now)
+            result out.new (node_of self.new)) }
+        ensures holds { Holds (node_of self.new) }
+    {
+        let Some(join) = read_message(octets.octets()) else {
+            return Err(Dropped::BadUnit);
+        };
+        if !may_come(*way, join.eui) {
+            return Err(Dropped::BadUnit);
+        }
+        self.hear_body(way, join.eui, &join.body, now, out)
+    }
+
+    // What the station makes of a frame.
+    fn hear_frame(
+        &mut self,
+        got: &Accepted,
+        cost: LinkCost,
+        note: u32,
+        now: u64,
+        out: &mut Out,
+    ) -> Result<Heard, Dropped>
+        requires running { IsSome (node_of self.old).memory }
+        requires holds { Holds (node_of self.old) }
+        requires fits { Fits got.now }
+        ensures carries { IfSome self.old.station.memory (λ l. Carries self.old.station
+            (hearing.hear l got.now cost note now) result out.new self.new.station) }
+        ensures beside { self.new ≡ record self.old { station = self.new.station } }
+        ensures holds { Holds (node_of self.new) }
+    {
+        // No more ranks are kept than have a slot, so none is put among the entries of the book.
+        let _ranks = self.station.routing().entries();
+        self.station.hear(got, cost, note, now, out)
+    }
+
+    /// Hears a frame that was accepted, over a link of this cost, under a number of the caller's, at a time in seconds. A meter's
+    /// joining message is answered, and all else is what its station makes of it; what goes out is in `out`.
+    ///
+    /// A meter that asks is challenged where it is allowed, and declined else. The second packet (RFC 4764) of its session is answered
+    /// with its grant, whose keys are noted as issued; the fourth ends the session. Dropped for the first reason that its rule names;
+    /// after Store it is halted.
+    pub fn hear(
+        &mut self,
+        got: &Accepted,
+        cost: LinkCost,
+        note: u32,
+        now: u64,
+        out: &mut Out,
+    ) -> Result<CoordinatorHeard, Dropped>
+        requires running { IsSome (node_of self.old).memory }
+        requires holds { Holds (node_of self.old) }
+        requires fits { Fits got.now }
+        ensures carries { IfSome (node_of self.old).memory (λ m. Carries (node_of self.old)
+            (rules.hear_coordinator (identity_of self.old) m got.now cost note now)
+            result out.new (node_of self.new)) }
+        ensures holds { Holds (node_of self.new) }
+    {
+        let heard = self.hear_frame(got, cost, note, now, out);
+        match joining_command(heard) {
+            Ok(command) => self.hear_joining(&command.way, &command.body, now, out),
+            Err(other) => heard_by_station(other),
+        }
+    }
+}

@@ -1,0 +1,131 @@
+//! What the coordinator says to a meter in answer, by the way of the meter's session.
+ghost use Rattle.std.specs.Prelude.{◌≡◌, ◌≤◌, Some, IfSome, IsSome, IfOk, IfErr, length};
+ghost use Rattle.joining_messages.specs.Messages.{IsMessage};
+ghost use Rattle.node_rules.specs.declared.heard.Way.TheVariants as ways;
+ghost use Rattle.node_rules.specs.Joining.{command_of};
+ghost use Rattle.node_rules.specs.Hearing.{dropped, dropped_for};
+ghost use Rattle.node_rules.specs.Calls.{command_fault};
+ghost use Rattle.node_rules.specs.Carrying.{Carries, nothing};
+ghost use Rattle.node_rules.specs.Composing.{HasRoom};
+ghost use Rattle.coordinator.specs.CoordinatorStates.{node_of};
+ghost use Rattle.coordinator.specs.CoordinatorAgreement.{Holds};
+ghost use Rattle.coordinator.specs.Telling as telling;
+ghost use Rattle.coordinator.specs.Saying as saying;
+
+use crate::coordinator::Coordinator;
+use joining_base::{dropped_send, push_down, write_command};
+use joining_messages::JoinMessage;
+use node_rules::{Dropped, Way};
+use plc_base::{FrameBuf, Keeper, Out, Short, TagList};
+
+// The address of the coordinator.
+fn home() -> Short
+    ensures { result ≡ 0 }
+{
+    Short::new(0).unwrap()
+}
+
+impl<K: Keeper + Drop> Coordinator<K> {
+    // What a command of so many octets for an address would be dropped for.
+    fn command_room(&self, to: Short, octets: u16) -> Result<(), Dropped>
+        requires running { IsSome (node_of self.now).memory }
+        requires holds { Holds (node_of self.now) }
+        requires fits { octets ≤ 374 }
+        ensures room { IfOk result (λ _. IfSome (node_of self.now).memory (λ m. HasRoom m.station to octets)) }
+        ensures refused { IfErr result (λ reason. IfSome (node_of self.now).memory (λ m.
+            command_fault dropped dropped_for m.station to octets ≡ Some reason)) }
+    {
+        match self.station.room(to, octets) {
+            Ok(()) => Ok(()),
+            Err(reason) => Err(dropped_send(reason)),
+        }
+    }
+
+    // What a message over the mesh would be dropped for.
+    fn mesh_room(&self, to: Short, message: &JoinMessage) -> Result<(), Dropped>
+        requires running { IsSome (node_of self.now).memory }
+        requires holds { Holds (node_of self.now) }
+        requires message { IsMessage message.now }
+        ensures room { IfOk result (λ _. IfSome (node_of self.now).memory (λ m. telling.RoomFor m to message.now)) }
+        ensures refused { IfErr result (λ reason. IfSome (node_of self.now).memory (λ m.
+            command_fault dropped dropped_for m.station to (length (command_of message.now)) ≡ Some reason)) }
+    {
+        let mut octets = FrameBuf::new();
+        write_command(message, &mut octets);
+        self.command_room(to, octets.len() as u16)
+    }
+
+    // What a message to a meter would be dropped for.
+    pub(crate) fn say_room(&self, way: Way, message: &JoinMessage) -> Result<(), Dropped>
+        requires running { IsSome (node_of self.now).memory }
+        requires holds { Holds (node_of self.now) }
+        requires message { IsMessage message.now }
+        ensures room { IfOk result (λ _. IfSome (node_of self.now).memory (λ m. saying.RoomToSay m way message.now)) }
+        ensures refused { IfErr result (λ reason. IfSome (node_of self.now).memory (λ m.
+            saying.say_fault m way message.now ≡ Some reason)) }
+    {
+        match way {
+            Way::Air(_) => return Ok(()),
+            Way::Near(_) => return Ok(()),
+            Way::Mesh(to) => return self.mesh_room(to, message),
+        }
+    }
+
+    // Says a message for which there is room over the mesh, and gives out these pair tags with it.
+    fn say_over_mesh(
+        &mut self,
+        to: Short,
+        message: &JoinMessage,
+        mut tags: TagList,
+        now: u64,
+        out: &mut Out,
+    ) -> Result<(), Dropped>
+        requires running { IsSome (node_of self.old).memory }
+        requires holds { Holds (node_of self.old) }
+        requires message { IsMessage message.now }
+        requires room { IfSome (node_of self.old).memory (λ m. telling.RoomFor m to message.now) }
+        ensures carries { IfSome (node_of self.old).memory (λ m. Carries (node_of self.old)
+            (saying.saying m (ways.Mesh to) message.now tags now) result out.new (node_of self.new)) }
+        ensures holds { Holds (node_of self.new) }
+    {
+        let Ok(()) = self.tell(to, message, now, out) else {
+            tags.made.clear();
+            out.tags = tags;
+            return Err(Dropped::Store);
+        };
+        out.tags = tags;
+        Ok(())
+    }
+
+    // Says a message for which there is room, and gives out these pair tags with it.
+    pub(crate) fn say(
+        &mut self,
+        way: Way,
+        message: &JoinMessage,
+        tags: TagList,
+        now: u64,
+        out: &mut Out,
+    ) -> Result<(), Dropped>
+        requires running { IsSome (node_of self.old).memory }
+        requires holds { Holds (node_of self.old) }
+        requires message { IsMessage message.now }
+        requires room { IfSome (node_of self.old).memory (λ m. saying.RoomToSay m way message.now) }
+        requires empty { out.old ≡ nothing }
+        ensures carries { IfSome (node_of self.old).memory (λ m. Carries (node_of self.old)
+            (saying.saying m way message.now tags now) result out.new (node_of self.new)) }
+        ensures holds { Holds (node_of self.new) }
+    {
+        match way {
+            Way::Air(_) => {
+                push_down(message, home(), out);
+                out.tags = tags;
+                return Ok(());
+            }
+            Way::Near(_) => {
+                out.tags = tags;
+                return Ok(());
+            }
+            Way::Mesh(to) => return self.say_over_mesh(to, message, tags, now, out),
+        }
+    }
+}
