@@ -20,4 +20,5 @@ pub mod Carrying
 pub mod Neighbours
 pub mod Composing
 pub mod Laws
+pub mod Tables
 pub mod Replies

@@ -7,6 +7,7 @@ mod heard;
 mod laws;
 mod refusal;
 mod shown;
+mod table_laws;
 
 pub use heard::{Accepted, CoordinatorHeard, Heard, MeterHeard, Path, Reply, SentHow, Way};
 pub use laws::{
@@ -24,3 +25,4 @@ pub use refusal::{
     PresetFault, RandomFault, SendRefusal,
 };
 pub use shown::{Shown, ShownPeer, ShownPeers, ShownRef, ShownRoute, ShownRoutes};
+pub use table_laws::{carrying_out_keeps_tables, plans_write_in_place};

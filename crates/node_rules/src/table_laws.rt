@@ -1,0 +1,19 @@
+//! Laws of the tables of a store, whatever becomes of a plan's writes. Each is the contract of a function that does nothing.
+ghost use Rattle.node_rules.specs.Tables.{StationsWriteInPlace, MetersWriteInPlace, CoordinatorsWriteInPlace, WritesKeepTables, CarryingOutKeepsTables};
+
+/// Each write of a plan to the marks, the ranks or the book replaces an entry that is held, or adds one right after them: of all
+/// plans of a station, of a meter and of the coordinator, where the marks and the ranks have at most as many entries as slots.
+#[tactic(auto)]
+pub fn plans_write_in_place()
+    ensures stations { StationsWriteInPlace }
+    ensures meters { MetersWriteInPlace }
+    ensures coordinators { CoordinatorsWriteInPlace }
+{}
+
+/// Where the records give what is held of the tables, such writes leave no table with a gap, whichever of them fails: a restart finds
+/// every entry that was stored.
+#[tactic(auto)]
+pub fn carrying_out_keeps_tables<M, A>()
+    ensures carried { CarryingOutKeepsTables M A }
+    ensures wrote { WritesKeepTables }
+{}
