@@ -14,3 +14,4 @@ pub mod Refusals
 pub mod Bounds
 pub mod Outcomes
 pub mod Rooms
+pub mod Blank
