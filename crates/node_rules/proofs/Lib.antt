@@ -17,3 +17,4 @@ pub mod Tables
 pub mod TablePlans
 pub mod Outcomes
 pub mod Rooms
+pub mod Blank
