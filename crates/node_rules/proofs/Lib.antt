@@ -15,6 +15,7 @@ pub mod Refusals
 pub mod Bounds
 pub mod Tables
 pub mod TablePlans
+pub mod HomePuts
 pub mod Outcomes
 pub mod Rooms
 pub mod Blank

@@ -65,11 +65,11 @@ module _ (R : ring.Ring → Type 0) (b : book.Book) (l : StationMemory) where
   accept_puts p (Stays answer) = All-nil (PutOf R b l)
   accept_puts p (Marks from count accepted room) = mark_of R b l from count
 
-  local_puts : (code : ℕ) (to : Option ℕ) (body : List ℕ) → AreOf R b l (send_local l code to body).puts
+  pub local_puts : (code : ℕ) (to : Option ℕ) (body : List ℕ) → AreOf R b l (send_local l code to body).puts
   local_puts code to body =
       puts_by R b l alone local_ends l (Puts R b l) (λ d f. f) _ (sealed_shape alone local_ends l (Puts R b l) (local_draft l code to body) tt (goes_puts R b l _ _ 0 (empty_draft l) (begun_puts R b l l)))
 
-  near_puts : (to cost now : ℕ) → AreOf R b l (calls.preset_near l to cost now).puts
+  pub near_puts : (to cost now : ℕ) → AreOf R b l (calls.preset_near l to cost now).puts
   near_puts to cost now =
       puts_by R b l alone calls.presetting_ends l (Puts R b l) (λ d f. f) _
       (checked_shape alone calls.presetting_ends l (Puts R b l) (calls.preset_fault l to cost now) _ (Ended (with_rank to (calls.near_rank cost) to now (empty_draft l)) tt (ranked_puts R b l to (calls.near_rank cost) to now)))
@@ -134,7 +134,7 @@ begin_puts R m granted h = by_test (is_some m.station.ring)
     by_test false = ring_puts R m.book m.station (Some granted) (empty_draft m.station) h (begun_puts R m.book m.station m.station)
 
 -- the rings that the coordinator puts have the address of its own one
-abbrev HomeOf : Memory → ring.Ring → Type 0
+abbrev pub HomeOf : Memory → ring.Ring → Type 0
 HomeOf m r = SameHome m.station.ring r
 
 pub coordinators_in_place : CoordinatorsWriteInPlace

@@ -21,4 +21,5 @@ pub mod Neighbours
 pub mod Composing
 pub mod Laws
 pub mod Tables
+pub mod Home
 pub mod Replies

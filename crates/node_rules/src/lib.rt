@@ -25,4 +25,7 @@ pub use refusal::{
     PresetFault, RandomFault, SendRefusal,
 };
 pub use shown::{Shown, ShownPeer, ShownPeers, ShownRef, ShownRoute, ShownRoutes};
-pub use table_laws::{carrying_out_keeps_tables, plans_write_in_place};
+pub use table_laws::{
+    carrying_out_keeps_home, carrying_out_keeps_tables, coordinators_write_home,
+    plans_write_in_place,
+};
