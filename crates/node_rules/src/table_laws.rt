@@ -11,16 +11,16 @@ pub fn plans_write_in_place()
     ensures coordinators { CoordinatorsWriteInPlace }
 {}
 
-/// Where the records give what is held of the tables, such writes leave no table with a gap, whichever of them fails: a restart finds
-/// every entry that was stored.
+/// Where the records give what is held of the tables, such writes leave no record after the first empty slot of its table, whichever
+/// of them fails: opening reads up to that slot, so it reads them all.
 #[tactic(auto)]
 pub fn carrying_out_keeps_tables<M, A>()
     ensures carried { CarryingOutKeepsTables M A }
     ensures wrote { WritesKeepTables }
 {}
 
-/// A coordinator of the address 0, or without a ring, puts no ring of another address, where the grant that it begins with has that
-/// address.
+/// A coordinator that has the address 0, or no ring, stores no ring of another address, if the grant that it begins with has the
+/// address 0.
 #[tactic(auto)]
 pub fn coordinators_write_home()
     ensures { CoordinatorsWriteHome }
