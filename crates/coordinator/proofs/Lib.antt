@@ -13,3 +13,5 @@ pub mod Booking
 pub mod Reaching
 pub mod Kicks
 pub mod Challenges
+pub mod Rereading
+pub mod Beginnings

@@ -7,6 +7,7 @@ mod enrolling;
 mod entries;
 mod keys;
 mod kicking;
+mod opening;
 mod orders;
 mod sessions;
 mod telling;
