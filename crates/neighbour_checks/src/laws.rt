@@ -1,6 +1,6 @@
 //! Laws of acknowledgements and of histories, over their definitions alone: each stands as the contract of a function that does
 //! nothing.
-ghost use Rattle.neighbour_checks.specs.Laws.{AcksAreRead, ReadAcksAreSpelled, OneMoreEntry, NobodyAtTheStart, AtMost64};
+ghost use Rattle.neighbour_checks.specs.Laws.{AcksAreRead, ReadAcksAreSpelled, OneMoreEntry, NobodyAtTheStart, AtMost64, HeldOnce};
 
 /// The acknowledgement that octets spell is read out of them.
 pub fn acks_are_read()
@@ -18,7 +18,8 @@ pub fn one_more_entry()
     ensures more { OneMoreEntry }
 {}
 
-/// After every history at most 64 neighbours are open or listed.
+/// After every history at most 64 neighbours are open or listed, none of them twice.
 pub fn at_most_64()
-    ensures { AtMost64 }
+    ensures neighbours { AtMost64 }
+    ensures once { HeldOnce }
 {}
