@@ -6,11 +6,9 @@ use Rattle.group_keys.specs.KeyBook.{address_of}
 use Rattle.joining_messages.specs.declared.message.JoinBody.TheVariants.{Activate}
 use Rattle.node_rules.specs.declared.refusal.CoordinatorRefusal.TheVariants.{NotAllowed, NotIssued}
 use Rattle.node_rules.specs.Memory.{Memory}
-use Rattle.node_rules.specs.MemoryDrafts.{with_memory_by}
 use Rattle.node_rules.specs.Joining.{message}
-use Rattle.node_rules.specs.Drafts.{empty_draft, choose, refused}
-use Rattle.node_rules.specs.Coordinators.{orders, allowed_entry, was_issued, activate}
-use Rattle.coordinator.specs.Ordering.{ordering, as_it_is}
+use Rattle.node_rules.specs.Drafts.{choose, refused}
+use Rattle.node_rules.specs.Coordinators.{orders, allowed_entry, was_issued, activate, activate_at}
 
 module _ (m : Memory) (eui : Eui) (index now : ℕ) where
   pub not_allowed : None ≡ allowed_entry m eui → refused {H = Unit {0}} orders m NotAllowed ≡ activate m eui index now
@@ -25,6 +23,6 @@ module _ (m : Memory) (eui : Eui) (index now : ℕ) where
   not_issued entry to e a i = rw (← e, ← a, ← i) refl
 
   pub ordered : (entry : BookEntry) (to : ℕ) → Some entry ≡ allowed_entry m eui → Some to ≡ address_of m.book eui → true ≡ was_issued m entry index
-      → ordering as_it_is m to (message entry.eui (Activate index)) now ≡ activate m eui index now
-  unfolding choose with_memory_by empty_draft
+      → activate_at m to (message entry.eui (Activate index)) now ≡ activate m eui index now
+  unfolding choose
   ordered entry to e a i = rw (← e, ← a, ← i) refl

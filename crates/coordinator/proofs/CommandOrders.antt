@@ -8,7 +8,7 @@ use Rattle.node_rules.specs.declared.heard.SentHow.{SentHow}
 use Rattle.node_rules.specs.declared.refusal.SendRefusal.{SendRefusal}
 use Rattle.node_rules.specs.declared.refusal.SendRefusal.TheVariants as sends
 use Rattle.node_rules.specs.Memory.{StationMemory, Memory, Command, address_of, next_hop}
-use Rattle.node_rules.specs.MemoryDrafts.{in_memory, with_station, with_memory_by, on_station, is_commanded}
+use Rattle.node_rules.specs.MemoryDrafts.{in_memory, with_station, on_station, is_commanded}
 use Rattle.node_rules.specs.Plans.{Plan, within, resting}
 use Rattle.node_rules.specs.Drafts.{Draft, Lack, OfRoom, OfNumbers, alone, empty_draft, sets_out, lack, is_awaited, counters_left, refused, sealing, sealed, checked, waits, seeks_once, body_goes, goes, with_own_number}
 use Rattle.node_rules.specs.Calls.{sending_ends, lacking, how, send_command, command_from}
@@ -16,7 +16,7 @@ use Rattle.node_rules.specs.Joining.{command_of}
 use Rattle.node_rules.specs.Coordinators as rules
 use Rattle.node_rules.specs.States.{State}
 use Rattle.node_rules.specs.Carrying.{Carries}
-use Rattle.coordinator.specs.Ordering.{order_answer, ordering, as_it_is}
+use Rattle.coordinator.specs.Ordering.{order_answer}
 use Rattle.coordinator.proofs.Within.{KeepsHome, counter_below, number_below, append_below}
 
 -- # The plan of the order is that of the command
@@ -44,8 +44,8 @@ module _ (m : Memory) (to : ℕ) (join : JoinMessage) (now : ℕ) where
   by_lack own (Some OfRoom) = refl
   by_lack own (Some OfNumbers) = refl
 
-  pub order_plan : address_of m.station ≡ Some 0 → within (λ l. with_station l m) order_answer (send_command m.station to (command_of join) now) ≡ ordering as_it_is m to join now
-  unfolding with_memory_by sending commanding empty_draft is_commanded on_station
+  pub order_plan : address_of m.station ≡ Some 0 → within (λ l. with_station l m) order_answer (send_command m.station to (command_of join) now) ≡ rules.activate_at m to join now
+  unfolding sending commanding empty_draft is_commanded on_station
   order_plan home =
       rw home (by_lack 0 (lack m.station to (length (command_of join))))
 

@@ -18,3 +18,5 @@ pub mod AskingRules
 pub mod AnsweringRules
 pub mod LineRules
 pub mod HearingRules
+pub mod Rereading
+pub mod Beginnings

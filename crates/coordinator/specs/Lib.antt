@@ -3,6 +3,7 @@ pub mod CoordinatorStates
 pub mod Tables
 pub mod CoordinatorReading
 pub mod CoordinatorAgreement
+pub mod Opening
 pub mod Doings
 pub mod Ordering
 pub mod Telling

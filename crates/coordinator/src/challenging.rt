@@ -92,10 +92,7 @@ impl<K: Keeper + Drop> Coordinator<K> {
             (rules.challenge_by self.old.station.eui m to now server) result out.new (node_of self.new)) }
         ensures holds { Holds (node_of self.new) }
     {
-        match self.message_room(to, message) {
-            Err(reason) => return Err(reason),
-            Ok(()) => {}
-        }
+        self.message_room(to, message)?;
         self.begin_session(Session {
             server,
             way: Way::Mesh(to),

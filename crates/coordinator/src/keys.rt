@@ -1,8 +1,8 @@
 //! The group keys that the coordinator draws and seals with.
-ghost use Rattle.std.specs.Prelude.{◌≡◌, ◌≤◌, ◌==◌, true, false, is_some, Err, Some, None, IfSome, IfNone, IsSome};
+ghost use Rattle.std.specs.Prelude.{◌≡◌, ◌≤◌, ◌==◌, true, false, Err, Some, None, IfSome, IfNone, IsSome};
 ghost use Rattle.std.specs.Option.{option_map_or};
 ghost use Rattle.plc_base.specs.Grant as grants;
-ghost use Rattle.group_keys.specs.KeyRing as ring;
+ghost use Rattle.node_rules.specs.Calls as calls;
 ghost use Rattle.node_rules.specs.Drafts as drafts;
 ghost use Rattle.node_rules.specs.MemoryDrafts as words;
 ghost use Rattle.node_rules.specs.Coordinators as rules;
@@ -29,7 +29,7 @@ impl<K: Keeper + Drop> Coordinator<K> {
     // Whether a key is held at an index.
     fn has_key(&self, index: u8) -> bool
         requires { index ≤ 1 }
-        ensures { IfSome (node_of self.now).memory (λ m. result ≡ is_some (ring.key_in_ring m.station.ring index)) }
+        ensures { IfSome (node_of self.now).memory (λ m. result ≡ calls.has_key m.station index) }
     {
         self.station.ring().key(index).is_some()
     }
@@ -41,7 +41,7 @@ impl<K: Keeper + Drop> Coordinator<K> {
         requires index { index ≤ 1 }
         ensures carries { IfSome (node_of self.old).memory (λ m.
             Carries (node_of self.old) (drafts.sealing words.in_memory rules.orders
-            (words.on_station (drafts.with_ring (ring.with_key m.station.ring index key.now)) (drafts.empty_draft m)) tt)
+            (words.on_station (calls.with_key_at m.station index key.now) (drafts.empty_draft m)) tt)
             result nothing (node_of self.new)) }
         ensures holds { Holds (node_of self.new) }
     {
@@ -56,10 +56,10 @@ impl<K: Keeper + Drop> Coordinator<K> {
         requires running { IsSome (node_of self.old).memory }
         requires holds { Holds (node_of self.old) }
         requires index { index ≤ 1 }
-        requires held { IfSome (node_of self.old).memory (λ m. is_some (ring.key_in_ring m.station.ring index) ≡ true) }
+        requires held { IfSome (node_of self.old).memory (λ m. calls.has_key m.station index ≡ true) }
         ensures carries { IfSome (node_of self.old).memory (λ m.
             Carries (node_of self.old) (drafts.sealing words.in_memory rules.orders
-            (words.on_station (drafts.with_ring (ring.with_active m.station.ring index)) (drafts.empty_draft m)) tt)
+            (words.on_station (calls.with_active m.station index) (drafts.empty_draft m)) tt)
             result nothing (node_of self.new)) }
         ensures holds { Holds (node_of self.new) }
     {

@@ -10,6 +10,7 @@ mod entries;
 mod hearing;
 mod keys;
 mod kicking;
+mod opening;
 mod orders;
 mod saying;
 mod sessions;

@@ -91,8 +91,7 @@ impl<K: Keeper + Drop> Coordinator<K> {
         requires holds { Holds (node_of self.old) }
         requires message { IsMessage message.now }
         ensures carries { IfSome (node_of self.old).memory (λ m.
-            Carries (node_of self.old) (ordering.ordering ordering.as_it_is m to message.now now) result
-            out.new (node_of self.new)) }
+            Carries (node_of self.old) (rules.activate_at m to message.now now) result out.new (node_of self.new)) }
         ensures holds { Holds (node_of self.new) }
     {
         let mut octets = FrameBuf::new();

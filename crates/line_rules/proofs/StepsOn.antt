@@ -41,11 +41,11 @@ more_flights [] gs more h = tt
 more_flights (f ∷ fs) [] more h = absurd h
 more_flights (f ∷ fs) (g ∷ gs) more h = (h.0, more_flights fs gs more h.1)
 
-lost_flight : (fs : List Flight) (place : ℕ) (f : Flight) → slice_get fs place ≡ Some f → KeepsFlights fs (slice_set fs place (record f { lost = true }))
-lost_flight [] place f e = tt
-lost_flight (g ∷ fs) zero f e =
-    (subst (λ x. SameFlight g (record x { lost = true })) (same_Some _ _ e) (record { from = refl; octets = refl; key = refl; note = refl; lost = λ _. refl }), same_flights fs)
-lost_flight (g ∷ fs) (suc place) f e = (same_flight g, lost_flight fs place f e)
+-- one flight in the place of another, which it is but for whether it was lost
+same_in_place : (fs : List Flight) (place : ℕ) (f h : Flight) → slice_get fs place ≡ Some f → SameFlight f h → KeepsFlights fs (slice_set fs place h)
+same_in_place [] place f h e same = tt
+same_in_place (g ∷ fs) zero f h e same = (subst (λ x. SameFlight x h) (sym (same_Some _ _ e)) same, same_flights fs)
+same_in_place (g ∷ fs) (suc place) f h e same = (same_flight g, same_in_place fs place f h e same)
 
 -- # Worlds
 
@@ -220,14 +220,14 @@ module _ (ciphers : Ciphers) (w : World) where
       by_number true e = absurd (none-some f e)
       by_number false e = e
 
-  loses_go : (number : ℕ) (f : Flight) → flight_at w number ≡ Some f → GoesOn w (record (ran w) { flights = slice_set w.flights (number - 1) (record f { lost = true }) })
-  loses_go number f e =
+  loses_go : (number : ℕ) (f h : Flight) → flight_at w number ≡ Some f → SameFlight f h → GoesOn w (record (ran w) { flights = slice_set w.flights (number - 1) h })
+  loses_go number f h e same =
       let g = ran_goes w in
-      record { events = g.events; clock = g.clock; running = g.running; nodes = g.nodes; flights = lost_flight w.flights (number - 1) f (flight_place number f e); made = g.made }
+      record { events = g.events; clock = g.clock; running = g.running; nodes = g.nodes; flights = same_in_place w.flights (number - 1) f h (flight_place number f e) same; made = g.made }
 
   lose_shape : (number : ℕ) → StepShape w (lose w number)
   unfolding lose
-  lose_shape number = once _ (at_flight number _ (λ f e. Taken _ (loses_go number f e)))
+  lose_shape number = once _ (at_flight number _ (λ f e. Taken _ (loses_go number f _ e (record { from = refl; octets = refl; key = refl; note = refl; lost = λ _. refl }))))
 
   tick_shape : (seconds : ℕ) → StepShape w (tick w seconds)
   unfolding tick

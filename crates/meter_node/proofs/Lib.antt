@@ -5,3 +5,4 @@ pub mod ChallengeRules
 pub mod HearingRules
 pub mod ChallengeSteps
 pub mod DispatchRules
+pub mod AcceptingRules

@@ -2,3 +2,4 @@ pub mod Sessions
 pub mod MeterStates
 pub mod Reading
 pub mod Hearing
+pub mod Laws

@@ -255,8 +255,9 @@ impl<K: Keeper + Drop> Meter<K> {
     /// Hears a frame that was accepted, over a link of this cost, under a number of the caller's, at a time in seconds. A joining
     /// message is carried on or answered, and all else is what its station makes of it; what goes out is in `out`.
     ///
-    /// Dropped for the first reason that its rule names. A frame that came up to its address came to a joined meter, as `accept`
-    /// answers one only there.
+    /// Dropped for the first reason that its rule names. After Store it is halted and nothing goes out, after the others nothing has
+    /// changed. A frame that came up to its address has to have come to a joined meter: what `accept` of its station answers has, by
+    /// the law [`accepted_frames_came`](crate::accepted_frames_came).
     pub fn hear(
         &mut self,
         got: &Accepted,

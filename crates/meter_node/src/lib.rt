@@ -7,6 +7,7 @@ mod challenges;
 mod commanding;
 mod hearing;
 mod joining;
+mod laws;
 mod meter;
 mod packets;
 mod pair_key;
@@ -14,4 +15,5 @@ mod session;
 #[cfg(test)]
 mod tests;
 
+pub use laws::accepted_frames_came;
 pub use meter::Meter;

@@ -4,13 +4,15 @@ use Rattle.std.specs.Option.{option_map_or}
 use Rattle.std.proofs.lemmas.List.{length-append}
 use Rattle.plc_base.specs.declared.key.Key.{Key}
 use Rattle.plc_base.specs.Grant.{Granted}
+use Rattle.group_keys.specs.KeyBook.{Book}
 use Rattle.group_keys.specs.KeyRing as ring
 use Rattle.node_rules.specs.Memory.{StationMemory}
 use Rattle.node_rules.specs.Plans.{Plan, resting}
 use Rattle.node_rules.specs.Drafts.{StationPlace, Ends, Outgoing, letters, sealed_by, sealing_key}
 use Rattle.node_rules.specs.Laws.{IsBounded, HearingIsBounded, AMetersHearingIsBounded, ACoordinatorsHearingIsBounded, ASendIsBounded, AJoinIsBounded, AnOrderIsBounded}
 use Rattle.node_rules.proofs.Sizes.{pending_bound}
-use Rattle.node_rules.proofs.Words.{IsDone, InTurn-append, in_turn, counter_turn}
+use Rattle.node_rules.proofs.Words.{InTurn-append, in_turn, counter_turn}
+use Rattle.node_rules.proofs.TablePuts.{AnyRing, Does}
 use Rattle.node_rules.proofs.Shapes.{Shape, Rests, Keeps, Ended}
 use Rattle.node_rules.proofs.HearingShapes.{hear_shape}
 use Rattle.node_rules.proofs.CallShapes.{send_shape, send_command_shape}
@@ -34,22 +36,22 @@ sealed_few (Some g) first units = with_key g (sealing_key g) first units
 
 -- # Plans
 
-module _ {M H E : Type 0} (h : StationPlace M) (ends : Ends E) (m : M) (l : StationMemory) where
-  pub bounded : (p : Plan M (Result H E)) → Shape h ends m (IsDone l) p → IsBounded l p
+module _ {M H E : Type 0} (h : StationPlace M) (ends : Ends E) (m : M) (l : StationMemory) {R : ring.Ring → Type 0} {listed : Book} where
+  pub bounded : (p : Plan M (Result H E)) → Shape h ends m (Does R listed l) p → IsBounded l p
   unfolding resting
   bounded p (Rests answer) = record { frames = λ w. omega arith; writes = tt }
   bounded p (Keeps n answer) = record { frames = λ w. omega arith; writes = tt }
   bounded p (Ended d answer f) = record {
     frames = λ w.
-        let few = f.few (pending_bound l w) in
+        let few = f.done.few (pending_bound l w) in
         let letters_few = sealed_few (h.station d.memory).ring (h.station d.memory).counter.next d.units in
         let both = length-append d.plain (sealed_by (h.station d.memory).ring (h.station d.memory).counter.next d.units) in
         omega arith;
-    writes = in_turn 0 4 _ (InTurn-append 0 3 4 d.puts _ f.turns (counter_turn (h.station d.memory).counter (length d.units)));
+    writes = in_turn 0 4 _ (InTurn-append 0 3 4 d.puts _ f.done.turns (counter_turn (h.station d.memory).counter (length d.units)));
   }
 
 pub hears : HearingIsBounded
-hears l got cost note now = bounded _ _ l l _ (hear_shape l got cost note now)
+hears l got cost note now = bounded _ _ l l _ (hear_shape AnyRing [] l got cost note now)
 
 pub meters_hear : AMetersHearingIsBounded
 meters_hear x m got cost note now = bounded _ _ m m.station _ (meter_shape x m got cost note now)
@@ -58,7 +60,7 @@ pub coordinators_hear : ACoordinatorsHearingIsBounded
 coordinators_hear own m got cost note now = bounded _ _ m m.station _ (coordinator_shape own m got cost note now)
 
 pub sends_bounded : ASendIsBounded
-sends_bounded l to octets note now = (bounded _ _ l l _ (send_shape l to octets note now), bounded _ _ l l _ (send_command_shape l to octets now))
+sends_bounded l to octets note now = (bounded _ _ l l _ (send_shape AnyRing [] l to octets note now), bounded _ _ l l _ (send_command_shape AnyRing [] l to octets now))
 
 pub joins_bounded : AJoinIsBounded
 joins_bounded x m agent now = (bounded _ _ m m.station _ (joins_shape x m agent now), bounded _ _ m m.station _ (leaves_shape x m))

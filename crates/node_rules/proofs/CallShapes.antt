@@ -15,6 +15,7 @@ use Rattle.frame_counters.specs.PeerMarks as marks
 use Rattle.plc_base.specs.SlotTables as slots
 use Rattle.plc_base.specs.Writes.{puts_of}
 use Rattle.std.proofs.lemmas.List.Quantifiers.{position-Some}
+use Rattle.group_keys.specs.KeyBook.{Book}
 use Rattle.group_keys.specs.KeyRing as ring
 use Rattle.node_rules.specs.declared.heard.Accepted.{Accepted}
 use Rattle.node_rules.specs.declared.refusal.FrameRefusal.{FrameRefusal}
@@ -29,6 +30,7 @@ use Rattle.node_rules.specs.Calls.{Sending, sending_ends, send_from, send, comma
 use Rattle.node_rules.specs.Laws.{RefusesCleanly, IsMark, MarksAtMost, OnlyMarks, AcceptingOnlyMarks}
 use Rattle.node_rules.proofs.Shapes.{checked_by, Shape, Rests, checked_shape, sealed_shape, option_shape}
 use Rattle.node_rules.proofs.Words.{IsDone, Fits, begun_fits, tagged_fits, sets_out_fits}
+use Rattle.node_rules.proofs.TablePuts.{Does, Puts, begun_puts, tagged_puts, sets_out_puts}
 use Rattle.node_rules.proofs.Sizes.{load_bound}
 
 -- # Accepting
@@ -99,10 +101,14 @@ module _ (l : StationMemory) where
     opened = refl;
   }
 
-  -- # Sending
+pub only_marks : AcceptingOnlyMarks
+only_marks l own a few = accepts_marks l _ few (accept_shape l own a)
 
+-- # Sending
+
+module _ (R : ring.Ring → Type 0) (listed : Book) (l : StationMemory) where
   abbrev SendShape : Sending → Type 0
-  SendShape p = Shape alone sending_ends l (IsDone l) p
+  SendShape p = Shape alone sending_ends l (Does R listed l) p
 
   -- nothing goes out before the body, so what waits does not count
   abbrev alone_station : StationMemory
@@ -111,6 +117,9 @@ module _ (l : StationMemory) where
   sends_done : (d : Draft StationMemory) → Fits alone_station 4 3 d → IsDone l d
   sends_done d f = let n = f.count in record { few = λ h. omega arith; turns = f.turns }
 
+  sends_does : (d : Draft StationMemory) → Fits alone_station 4 3 d → Puts R listed l d → Does R listed l d
+  sends_does d f p = record { done = sends_done d f; puts = p }
+
   -- the tag is taken where the datagram is cut
   tag_fits : (octets : List ℕ) → Fits alone_station 0 2 (tag_taken octets (empty_draft l))
   tag_fits octets = by_size (nat_le (length octets) 375)
@@ -118,6 +127,13 @@ module _ (l : StationMemory) where
       by_size : (b : Bool) → Fits alone_station 0 2 (if b then empty_draft l else with_next_tag (empty_draft l))
       by_size true = begun_fits alone_station 2 l
       by_size false = tagged_fits alone_station (empty_draft l) (begun_fits alone_station 1 l)
+
+  tag_puts : (octets : List ℕ) → Puts R listed l (tag_taken octets (empty_draft l))
+  tag_puts octets = by_size (nat_le (length octets) 375)
+    where
+      by_size : (b : Bool) → Puts R listed l (if b then empty_draft l else with_next_tag (empty_draft l))
+      by_size true = begun_puts R listed l l
+      by_size false = tagged_puts R listed l (empty_draft l) (begun_puts R listed l l)
 
   -- a send without a fault is of at most 1,280 octets
   short : (to : ℕ) (datagram : List ℕ) → send_fault l to datagram ≡ None → length datagram ≤ 1280
@@ -130,8 +146,9 @@ module _ (l : StationMemory) where
 
   from_shape : (own to : ℕ) (datagram : List ℕ) (note now : ℕ) → SendShape (send_from l own to datagram note now)
   from_shape own to datagram note now = checked_by _ _ _ _ (send_fault l to datagram) _ (λ e.
-      sealed_shape alone sending_ends l (IsDone l) (sets_out own to note (Datagram datagram l.next_tag) now (tag_taken datagram (empty_draft l))) (how l to)
-      (sends_done _ (sets_out_fits alone_station 4 own to note (Datagram datagram l.next_tag) now (tag_taken datagram (empty_draft l)) (omega arith) (load_bound (Datagram datagram l.next_tag) (short to datagram e)).1 (tag_fits datagram))))
+      sealed_shape alone sending_ends l (Does R listed l) (sets_out own to note (Datagram datagram l.next_tag) now (tag_taken datagram (empty_draft l))) (how l to)
+      (sends_does _ (sets_out_fits alone_station 4 own to note (Datagram datagram l.next_tag) now (tag_taken datagram (empty_draft l)) (omega arith) (load_bound (Datagram datagram l.next_tag) (short to datagram e)).1 (tag_fits datagram))
+      (sets_out_puts R listed l own to note (Datagram datagram l.next_tag) now (tag_taken datagram (empty_draft l)) (tag_puts datagram))))
 
   pub send_shape : (to : ℕ) (datagram : List ℕ) (note now : ℕ) → SendShape (send l to datagram note now)
   send_shape to datagram note now = option_shape _ _ _ _ (λ own. send_from l own to datagram note now) (address_of l) (refused sending_ends l sends.NotJoined)
@@ -139,8 +156,6 @@ module _ (l : StationMemory) where
 
   pub send_command_shape : (to : ℕ) (octets : List ℕ) (now : ℕ) → SendShape (send_command l to octets now)
   send_command_shape to octets now = option_shape _ _ _ _ (λ own. command_from l own to octets now) (address_of l) (refused sending_ends l sends.NotJoined)
-      (λ own. checked_shape _ _ _ _ _ _ (sealed_shape alone sending_ends l (IsDone l) (sets_out own to 0 (Command octets) now (empty_draft l)) (how l to) (sends_done _ (sets_out_fits alone_station 4 own to 0 (Command octets) now (empty_draft l) (omega arith) (omega arith) (begun_fits alone_station 2 l)))))
+      (λ own. checked_shape _ _ _ _ _ _ (sealed_shape alone sending_ends l (Does R listed l) (sets_out own to 0 (Command octets) now (empty_draft l)) (how l to) (sends_does _ (sets_out_fits alone_station 4 own to 0 (Command octets) now (empty_draft l) (omega arith) (omega arith) (begun_fits alone_station 2 l))
+      (sets_out_puts R listed l own to 0 (Command octets) now (empty_draft l) (begun_puts R listed l l)))))
       (Rests _)
-
-pub only_marks : AcceptingOnlyMarks
-only_marks l own a few = accepts_marks l _ few (accept_shape l own a)

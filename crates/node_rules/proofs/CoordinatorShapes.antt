@@ -1,5 +1,5 @@
 -- The plan of each rule and each order of the coordinator is of a shape.
-use Rattle.std.proofs.Common.{◌≡◌, ℕ, Bool, true, false, List, [], ◌∷◌, Option, Some, None, Result, refl}
+use Rattle.std.proofs.Common.{◌≡◌, ℕ, ◌≤◌, Bool, true, false, List, [], ◌∷◌, length, Option, Some, None, Result, refl, subst}
 use Rattle.std.specs.Prelude.{is_some, ◌&&◌, nat_lt, ◌+◌, if◌then◌else◌}
 use Rattle.std.specs.Option.{option_map_or}
 use Rattle.plc_base.specs.declared.address.Eui.{Eui}
@@ -8,6 +8,7 @@ use Rattle.plc_base.specs.declared.key.Rand.{Rand}
 use Rattle.plc_base.specs.Grant.{Granted}
 use Rattle.group_keys.specs.declared.key_book.BookEntry.{BookEntry}
 use Rattle.group_keys.specs.KeyBook as book
+use Rattle.group_keys.specs.KeyRing as ring
 use Rattle.joining_messages.specs.declared.message.JoinMessage.{JoinMessage}
 use Rattle.joining_messages.specs.declared.message.JoinBody.{JoinBody}
 use Rattle.joining_messages.specs.declared.message.JoinBody.TheVariants as body
@@ -32,27 +33,31 @@ use Rattle.eap_psk.specs.Sessions.{rand_p_in}
 use Rattle.node_rules.specs.MemoryDrafts.{with_memory_by, is_commanded, in_memory, oldest, Unread, unread}
 use Rattle.node_rules.specs.Coordinators.{CoordinatorIdentity, Hearing, drop_it, ends, session_of, allowed_entry, grant_for, declines, challenges, open_session, asked, keys_for, take_second, accepts, take_fourth, take_packet, answered, hear_join, hear_join_in, heard_by, hear_coordinator, with_book_entry, changed, Ordering, orders, allow, depot_by, depot, rekey, activate_self, challenge_by, challenge_at, challenge, allowed_address, activate_by, activate, kick_by, kick, changes, kick_goes, without_session}
 use Rattle.node_rules.proofs.Shapes.{Rests, rests_shape, checked_shape, choose_shape, sealed_shape, sealing_shape, option_shape}
-use Rattle.node_rules.proofs.Words.{IsDone, memory_leaves, Fits, begun_fits, commanded_done, remembered_fits, entered_fits, quiet_done}
+use Rattle.node_rules.proofs.TablePuts.{Does, Began, SameHome, key_home, active_home, memory_does, begins, rings, commands_does, remembers, enters, enters_first, enters_session, place_for_again, place_for_small, quiet_does}
 use Rattle.node_rules.proofs.HearingShapes.{StationShape, hear_shape}
 use Rattle.node_rules.proofs.MemoryDraftShapes.{MemoryShape, within_shape}
 
-ruleset words = (rests_shape, checked_shape, choose_shape, sealed_shape, sealing_shape, memory_leaves)
+ruleset words = (rests_shape, checked_shape, choose_shape, sealed_shape, sealing_shape, memory_does, enters_first, enters_session)
 
 module _ (own : CoordinatorIdentity) (m : Memory) where
+  -- the rings that it puts have the address of its own one
+  abbrev Home : ring.Ring → Type 0
+  Home r = SameHome m.station.ring r
+
   abbrev IsRule : Hearing → Type 0
-  IsRule p = MemoryShape dropped m p
+  IsRule p = MemoryShape Home dropped m p
 
   chosen : (test : Bool) (p q : Hearing) → IsRule p → IsRule q → IsRule (choose test p q)
-  chosen test p q s t = choose_shape in_memory dropped m (IsDone m.station) test p q s t
+  chosen test p q s t = choose_shape in_memory dropped m (Does Home m.book m.station) test p q s t
 
   passed : (fault : Option Dropped) (p : Hearing) → IsRule p → IsRule (checked dropped m fault p)
-  passed fault p s = checked_shape in_memory dropped m (IsDone m.station) fault p s
+  passed fault p s = checked_shape in_memory dropped m (Does Home m.book m.station) fault p s
 
-  ended : (d : Draft Memory) (answer : CoordinatorHeard) → IsDone m.station d → IsRule (ends m d answer)
-  ended d answer done = sealed_shape in_memory dropped m (IsDone m.station) d answer done
+  ended : (d : Draft Memory) (answer : CoordinatorHeard) → Does Home m.book m.station d → IsRule (ends m d answer)
+  ended d answer done = sealed_shape in_memory dropped m (Does Home m.book m.station) d answer done
 
   by_option : {X : Type 0} (f : X → Hearing) (o : Option X) (p : Hearing) → ((y : X) → IsRule (f y)) → IsRule p → IsRule (option_map_or f o p)
-  by_option f o p s t = option_shape in_memory dropped m (IsDone m.station) f o p s t
+  by_option f o p s t = option_shape in_memory dropped m (Does Home m.book m.station) f o p s t
 
   -- # What is heard
 
@@ -110,78 +115,98 @@ module _ (own : CoordinatorIdentity) (m : Memory) where
   join_in_shape way None now = Rests _
   join_in_shape way (Some join) now = chosen _ _ _ (join_shape way join.eui join.body now) (Rests _)
 
-  heard_by_shape : (now : ℕ) (p : Plan StationMemory (Result Heard Dropped)) (u : Option Unread) → StationShape m.station p → IsRule (heard_by own m now p u)
-  heard_by_shape now p None s = within_shape heard.Station m p s
+  heard_by_shape : (now : ℕ) (p : Plan StationMemory (Result Heard Dropped)) (u : Option Unread) → StationShape Home m.book m.station p → IsRule (heard_by own m now p u)
+  heard_by_shape now p None s = within_shape Home heard.Station m p s
   heard_by_shape now p (Some u) s = join_in_shape u.way (join_in u.body) now
 
-  pub coordinator_shape : (got : Accepted) (cost note now : ℕ) → MemoryShape dropped m (hear_coordinator own m got cost note now)
+  pub coordinator_shape : (got : Accepted) (cost note now : ℕ) → MemoryShape Home dropped m (hear_coordinator own m got cost note now)
   coordinator_shape got cost note now =
-      let p = station_rules.hear m.station got cost note now in heard_by_shape now p (unread p.answer) (hear_shape m.station got cost note now)
+      let p = station_rules.hear m.station got cost note now in heard_by_shape now p (unread p.answer) (hear_shape Home m.book m.station got cost note now)
 
   -- # Orders
 
   abbrev IsOrder : {A : Type 0} → Ordering A → Type 0
-  IsOrder p = MemoryShape orders m p
+  IsOrder p = MemoryShape Home orders m p
 
   by_part : {A X : Type 0} (f : X → Ordering A) (o : Option X) (p : Ordering A) → ((y : X) → IsOrder (f y)) → IsOrder p → IsOrder (option_map_or f o p)
-  by_part f o p s t = option_shape in_memory orders m (IsDone m.station) f o p s t
+  by_part f o p s t = option_shape in_memory orders m (Does Home m.book m.station) f o p s t
 
   by_choice : {A : Type 0} (test : Bool) (p q : Ordering A) → IsOrder p → IsOrder q → IsOrder (choose test p q)
-  by_choice test p q s t = choose_shape in_memory orders m (IsDone m.station) test p q s t
+  by_choice test p q s t = choose_shape in_memory orders m (Does Home m.book m.station) test p q s t
 
-  changed_fits : (e : BookEntry) → Fits m.station 0 1 (changed m e)
-  changed_fits e = by_change (changes m e)
+  changed_began : (e : BookEntry) → Began Home m.book m.station (changed m e)
+  changed_began e = by_change (changes m e)
     where
-      by_change : (b : Bool) → Fits m.station 0 1 (if b then with_memory_by (without_session e.eui) (with_book_entry e (empty_draft m)) else empty_draft m)
-      by_change true = remembered_fits m.station _ _ (entered_fits m.station e _ (begun_fits m.station 1 m))
-      by_change false = begun_fits m.station 1 m
+      by_change : (b : Bool) → Began Home m.book m.station (if b then with_memory_by (without_session e.eui) (with_book_entry e (empty_draft m)) else empty_draft m)
+      by_change true = remembers Home m.book m.station _ _ (enters_first Home m e)
+      by_change false = begins Home m.book m.station m
 
-  kick_goes_done : (to : ℕ) (join : JoinMessage) (d : Draft Memory) → Fits m.station 0 1 d → IsDone m.station (kick_goes m to join d)
-  kick_goes_done to join d f = by_route (is_some (next_hop m.station to) && nat_lt 0 (counters_left m.station))
+  -- the entry of a meter that was changed stays in its place
+  changed_place : (e : BookEntry) → book.place_for (changed m e).memory.book e.eui ≤ length m.book
+  unfolding empty_draft with_memory_by with_book_entry
+  changed_place e = by_change (changes m e)
     where
-      by_route : (b : Bool) → IsDone m.station (if b then is_commanded to join 0 d else d)
-      by_route true = commanded_done m.station to join 0 d f
-      by_route false = quiet_done m.station d f
+      by_change : (b : Bool) → let d : Draft Memory = (if b then with_memory_by (without_session e.eui) (with_book_entry e (empty_draft m)) else empty_draft m) in book.place_for d.memory.book e.eui ≤ length m.book
+      by_change true = place_for_again m.book e
+      by_change false = place_for_small m.book e.eui
 
-  pub allow_shape : (eui : Eui) (psk : Key) → MemoryShape orders m (allow m eui psk)
-  allow_shape eui psk = by_choice _ _ _ (sealing_shape in_memory orders m (IsDone m.station) (changed m (book.allowed_entry eui psk (book.entry_for m.book eui))) (book.place_for m.book eui + 1) (quiet_done m.station _ (changed_fits (book.allowed_entry eui psk (book.entry_for m.book eui))))) (Rests _)
+  kick_goes_does : (to : ℕ) (join : JoinMessage) (d : Draft Memory) → Began Home m.book m.station d → Does Home m.book m.station (kick_goes m to join d)
+  kick_goes_does to join d f = by_route (is_some (next_hop m.station to) && nat_lt 0 (counters_left m.station))
+    where
+      by_route : (b : Bool) → Does Home m.book m.station (if b then is_commanded to join 0 d else d)
+      by_route true = commands_does Home m.book m.station to join 0 d f
+      by_route false = quiet_does Home m.book m.station d f
 
-  depot_by_shape : (eui : Eui) (psk : Key) (d : Draft Memory) → Fits m.station 0 1 d → MemoryShape orders m (depot_by m eui psk d)
-  depot_by_shape eui psk d f = by_part (λ granted. option_map_or (λ e. sealing in_memory orders (with_book_entry (book.issued_entry eui granted e) d) granted) (book.allowed_one d.memory.book eui) (refused orders m refusal.MetersFull)) (grant_for d.memory eui) (refused orders m refusal.MetersFull)
+  pub allow_shape : (eui : Eui) (psk : Key) → MemoryShape Home orders m (allow m eui psk)
+  allow_shape eui psk =
+      let e = book.allowed_entry eui psk (book.entry_for m.book eui) in
+      by_choice _ _ _ (sealing_shape in_memory orders m (Does Home m.book m.station) (changed m e) (book.place_for m.book eui + 1) (quiet_does Home m.book m.station _ (changed_began e))) (Rests _)
+
+  depot_by_shape : (eui : Eui) (psk : Key) (d : Draft Memory) → book.place_for d.memory.book eui ≤ length m.book → Began Home m.book m.station d → MemoryShape Home orders m (depot_by m eui psk d)
+  depot_by_shape eui psk d small f = by_part (λ granted. option_map_or (λ e. sealing in_memory orders (with_book_entry (book.issued_entry eui granted e) d) granted) (book.allowed_one d.memory.book eui) (refused orders m refusal.MetersFull)) (grant_for d.memory eui) (refused orders m refusal.MetersFull)
       (λ granted. by_part (λ e. sealing in_memory orders (with_book_entry (book.issued_entry eui granted e) d) granted) (book.allowed_one d.memory.book eui) (refused orders m refusal.MetersFull)
-      (λ e. sealing_shape _ _ _ _ _ _ (quiet_done m.station _ (entered_fits m.station (book.issued_entry eui granted e) d f))) (Rests _)) (Rests _)
+      (λ e. sealing_shape _ _ _ _ _ _ (quiet_does Home m.book m.station _ (enters Home m.book m.station (book.issued_entry eui granted e) d small f))) (Rests _)) (Rests _)
 
-  pub depot_shape : (eui : Eui) (psk : Key) → MemoryShape orders m (depot m eui psk)
-  depot_shape eui psk = by_choice _ _ _ (depot_by_shape eui psk (changed m (book.allowed_entry eui psk (book.entry_for m.book eui))) (changed_fits (book.allowed_entry eui psk (book.entry_for m.book eui)))) (Rests _)
+  -- the entry that allows a meter is that meter's
+  allows_meter : (eui : Eui) (psk : Key) (before : Option BookEntry) → (book.allowed_entry eui psk before).eui ≡ eui
+  allows_meter eui psk None = refl
+  allows_meter eui psk (Some e) = refl
 
-  pub rekey_shape : (index : ℕ) (key : Key) → MemoryShape orders m (rekey m index key)
-  rekey_shape index key = search words depth 16
+  pub depot_shape : (eui : Eui) (psk : Key) → MemoryShape Home orders m (depot m eui psk)
+  depot_shape eui psk =
+      let e = book.allowed_entry eui psk (book.entry_for m.book eui) in
+      by_choice _ _ _ (depot_by_shape eui psk (changed m e) (subst (λ x. book.place_for (changed m e).memory.book x ≤ length m.book) (allows_meter eui psk (book.entry_for m.book eui)) (changed_place e)) (changed_began e)) (Rests _)
 
-  pub activate_self_shape : (index : ℕ) → MemoryShape orders m (activate_self m index)
-  activate_self_shape index = search words depth 16
+  pub rekey_shape : (index : ℕ) (key : Key) → MemoryShape Home orders m (rekey m index key)
+  rekey_shape index key = by_choice _ _ _ (Rests _) (sealing_shape _ _ _ _ _ _ (quiet_does Home m.book m.station _
+      (rings Home m.book m.station (ring.with_key m.station.ring index key) (empty_draft m) (key_home m.station.ring index key) (begins Home m.book m.station m))))
 
-  challenge_by_shape : (to now : ℕ) (server : Server) → MemoryShape orders m (challenge_by own.eui m to now server)
+  pub activate_self_shape : (index : ℕ) → MemoryShape Home orders m (activate_self m index)
+  activate_self_shape index = by_choice _ _ _ (sealing_shape _ _ _ _ _ _ (quiet_does Home m.book m.station _
+      (rings Home m.book m.station (ring.with_active m.station.ring index) (empty_draft m) (active_home m.station.ring index) (begins Home m.book m.station m)))) (Rests _)
+
+  challenge_by_shape : (to now : ℕ) (server : Server) → MemoryShape Home orders m (challenge_by own.eui m to now server)
   challenge_by_shape to now server = search words depth 16
 
-  challenge_at_shape : (eui : Eui) (now to : ℕ) → MemoryShape orders m (challenge_at own.eui m eui now to)
+  challenge_at_shape : (eui : Eui) (now to : ℕ) → MemoryShape Home orders m (challenge_at own.eui m eui now to)
   challenge_at_shape eui now to = checked_shape _ _ _ _ _ _
       (by_part (λ value. challenge_by own.eui m to now (server_for eui own.eui value)) (oldest m) (refused orders m refusal.NoRandom) (λ value. challenge_by_shape to now (server_for eui own.eui value)) (Rests _))
 
-  pub challenge_shape : (eui : Eui) (now : ℕ) → MemoryShape orders m (challenge own.eui m eui now)
+  pub challenge_shape : (eui : Eui) (now : ℕ) → MemoryShape Home orders m (challenge own.eui m eui now)
   challenge_shape eui now = by_part (challenge_at own.eui m eui now) (allowed_address m eui) (refused orders m refusal.NotAllowed) (λ to. challenge_at_shape eui now to) (Rests _)
 
-  activate_by_shape : (e : BookEntry) (index now to : ℕ) → MemoryShape orders m (activate_by m e index now to)
+  activate_by_shape : (e : BookEntry) (index now to : ℕ) → MemoryShape Home orders m (activate_by m e index now to)
   activate_by_shape e index now to = search words depth 16
 
-  pub activate_shape : (eui : Eui) (index now : ℕ) → MemoryShape orders m (activate m eui index now)
+  pub activate_shape : (eui : Eui) (index now : ℕ) → MemoryShape Home orders m (activate m eui index now)
   activate_shape eui index now = by_part (λ e. option_map_or (activate_by m e index now) (book.address_of m.book eui) (refused orders m refusal.NotAllowed)) (allowed_entry m eui) (refused orders m refusal.NotAllowed)
       (λ e. by_part (activate_by m e index now) (book.address_of m.book eui) (refused orders m refusal.NotAllowed) (λ to. activate_by_shape e index now to) (Rests _)) (Rests _)
 
-  kick_by_shape : (e : BookEntry) (to : ℕ) → MemoryShape orders m (kick_by m e to)
-  kick_by_shape e to = sealing_shape in_memory orders m (IsDone m.station)
+  kick_by_shape : (e : BookEntry) (to : ℕ) → MemoryShape Home orders m (kick_by m e to)
+  kick_by_shape e to = sealing_shape in_memory orders m (Does Home m.book m.station)
       (kick_goes m to (message e.eui body.Kick) (with_memory_by (without_session e.eui) (with_book_entry (book.kicked_entry e.eui e) (empty_draft m)))) tt
-      (kick_goes_done to _ _ (remembered_fits m.station _ _ (entered_fits m.station _ _ (begun_fits m.station 1 m))))
+      (kick_goes_does to _ _ (remembers Home m.book m.station _ _ (enters_first Home m (book.kicked_entry e.eui e))))
 
-  pub kick_shape : (eui : Eui) → MemoryShape orders m (kick m eui)
+  pub kick_shape : (eui : Eui) → MemoryShape Home orders m (kick m eui)
   kick_shape eui = by_part (λ e. option_map_or (kick_by m e) (book.address_of m.book eui) (refused orders m refusal.NotAllowed)) (allowed_entry m eui) (refused orders m refusal.NotAllowed)
       (λ e. by_part (kick_by m e) (book.address_of m.book eui) (refused orders m refusal.NotAllowed) (λ to. kick_by_shape e to) (Rests _)) (Rests _)

@@ -1,4 +1,4 @@
--- The plan of each rule of a station is of a shape.
+-- The plan of each rule of a station is of a shape, over any book and any rings that are put.
 use Rattle.std.proofs.Common.{ℕ, Bool, true, false, List, [], ◌∷◌, Option, Some, None, Err}
 use Rattle.std.specs.Prelude.{if◌then◌else◌}
 use Rattle.std.specs.Option.{option_map_or}
@@ -10,6 +10,8 @@ use Rattle.mesh_header.specs.Reading.{unit_in}
 use Rattle.loadng_messages.specs.declared.message.Message.{Message}
 use Rattle.loadng_messages.specs.declared.message.Message.TheVariants.{Rreq, Rrep, Rerr}
 use Rattle.loadng_messages.specs.Reading.{message_in}
+use Rattle.group_keys.specs.KeyBook.{Book}
+use Rattle.group_keys.specs.KeyRing as ring
 use Rattle.routing_set.specs.declared.rank.Rank.{Rank}
 use Rattle.routing_set.specs.RoutingSet as routing
 use Rattle.fragment_buffers.specs.Reassembly.{PlacedPiece, Reassembly, placed, begun as piece_begun, datagram_of, repeats}
@@ -25,12 +27,12 @@ use Rattle.node_rules.specs.Plans.{resting}
 use Rattle.node_rules.specs.Drafts.{alone}
 use Rattle.node_rules.specs.Hearing.{Hearing, dropped, drop_it, hear_request, hear_reply_for, hear_reply, hear_error, tells_on, loses, forward_by, forward, report_by, gathered, gather, hear_message, hear_message_in, hear_command, hear_over_mesh, hear_sealed, hear_plain, is_joining, hear_unit, hear_unit_in, hear}
 use Rattle.node_rules.proofs.Shapes.{Shape, Rests, Keeps, rests_shape, checked_shape, choose_shape, sealed_shape}
-use Rattle.node_rules.proofs.Words.{IsDone, leaves, error_done, error_on_done}
+use Rattle.node_rules.proofs.TablePuts.{Does, station_does, error_does, error_on_does}
 
-abbrev pub StationShape : StationMemory → Hearing → Type 0
-StationShape l p = Shape alone dropped l (IsDone l) p
+abbrev pub StationShape : (ring.Ring → Type 0) → Book → StationMemory → Hearing → Type 0
+StationShape R listed l p = Shape alone dropped l (Does R listed l) p
 
-ruleset words = (rests_shape, checked_shape, choose_shape, sealed_shape, leaves)
+ruleset words = (rests_shape, checked_shape, choose_shape, sealed_shape, station_does)
 
 -- # Gathered pieces
 
@@ -59,56 +61,56 @@ taken_came (r ∷ rest) anew p =
     (either (repeats r.pieces p) _ _ (Held _) (settled_came (datagram_of (pieces.grown r anew p)) (pieces.grown r anew p) rest))
     (behind_came r _ (taken_came rest anew p))
 
-module _ (l : StationMemory) where
-  came_shape : (from : ℕ) (t : pieces.Taking) → Came t → StationShape l (gathered l from t)
+module _ (R : ring.Ring → Type 0) (listed : Book) (l : StationMemory) where
+  came_shape : (from : ℕ) (t : pieces.Taking) → Came t → StationShape R listed l (gathered l from t)
   unfolding gathered resting
   came_shape from t (Held held) = Keeps (record l { reassemblies = held }) heard.Held
   came_shape from t (Whole held note octets) = Keeps (record l { reassemblies = held }) (heard.Up from note octets)
 
-  full_shape : (from : ℕ) → StationShape l (gathered l from (record { held = l.reassemblies; outcome = pieces.Full }))
+  full_shape : (from : ℕ) → StationShape R listed l (gathered l from (record { held = l.reassemblies; outcome = pieces.Full }))
   unfolding gathered resting
   full_shape from = Rests (Err BufferFull)
 
-  by_room : (b : Bool) (from : ℕ) (t : pieces.Taking) → Came t → StationShape l (gathered l from (if b then t else record { held = l.reassemblies; outcome = pieces.Full }))
+  by_room : (b : Bool) (from : ℕ) (t : pieces.Taking) → Came t → StationShape R listed l (gathered l from (if b then t else record { held = l.reassemblies; outcome = pieces.Full }))
   by_room true from t c = came_shape from t c
   by_room false from t c = full_shape from
 
-  gather_shape : (from : ℕ) (piece : Placed) (note now : ℕ) → StationShape l (gather l from piece note now)
+  gather_shape : (from : ℕ) (piece : Placed) (note now : ℕ) → StationShape R listed l (gather l from piece note now)
   unfolding pieces.taken
   gather_shape from piece note now =
       by_room (pieces.has_room l.reassemblies (piece_begun from piece note now)) from _ (taken_came l.reassemblies (piece_begun from piece note now) (placed piece))
 
   -- # The rules
 
-  request_shape : (own by origin dest : ℕ) (rank : Rank) (now : ℕ) → StationShape l (hear_request l own by origin dest rank now)
+  request_shape : (own by origin dest : ℕ) (rank : Rank) (now : ℕ) → StationShape R listed l (hear_request l own by origin dest rank now)
   request_shape own by origin dest rank now = search words depth 16
 
-  reply_for_shape : (own by origin to : ℕ) (rank : Rank) (now : ℕ) (hop : Option ℕ) → StationShape l (hear_reply_for l own by origin to rank now hop)
+  reply_for_shape : (own by origin to : ℕ) (rank : Rank) (now : ℕ) (hop : Option ℕ) → StationShape R listed l (hear_reply_for l own by origin to rank now hop)
   reply_for_shape own by origin to rank now None = search words depth 16
   reply_for_shape own by origin to rank now (Some hop) = search words depth 16
 
-  reply_shape : (own by origin to : ℕ) (rank : Rank) (now : ℕ) → StationShape l (hear_reply l own by origin to rank now)
+  reply_shape : (own by origin to : ℕ) (rank : Rank) (now : ℕ) → StationShape R listed l (hear_reply l own by origin to rank now)
   reply_shape own by origin to rank now = search (words, reply_for_shape own by origin to rank now (next_hop l to)) depth 16
 
-  tells_on_done : (lost to by : ℕ) (hop : Option ℕ) → IsDone l (tells_on lost to hop (loses lost by l))
-  tells_on_done lost to by None = error_done l (λ r. routing.without_next_to r lost by)
-  tells_on_done lost to by (Some hop) = error_on_done l hop _ 0 (λ r. routing.without_next_to r lost by)
+  tells_on_done : (lost to by : ℕ) (hop : Option ℕ) → Does R listed l (tells_on lost to hop (loses lost by l))
+  tells_on_done lost to by None = error_does R listed l (λ r. routing.without_next_to r lost by)
+  tells_on_done lost to by (Some hop) = error_on_does R listed l hop _ 0 (λ r. routing.without_next_to r lost by)
 
-  error_shape : (own by lost to : ℕ) → StationShape l (hear_error l own by lost to)
+  error_shape : (own by lost to : ℕ) → StationShape R listed l (hear_error l own by lost to)
   error_shape own by lost to = sealed_shape _ _ _ _ _ _ (tells_on_done lost to by _)
 
-  report_shape : (mesh : Mesh) (hop : Option ℕ) → StationShape l (report_by l mesh hop)
+  report_shape : (mesh : Mesh) (hop : Option ℕ) → StationShape R listed l (report_by l mesh hop)
   report_shape mesh None = search words depth 16
   report_shape mesh (Some hop) = search words depth 16
 
-  forward_by_shape : (own : ℕ) (mesh : Mesh) (unit : MeshUnit) (note : ℕ) (hop : Option ℕ) → StationShape l (forward_by l own mesh unit note hop)
+  forward_by_shape : (own : ℕ) (mesh : Mesh) (unit : MeshUnit) (note : ℕ) (hop : Option ℕ) → StationShape R listed l (forward_by l own mesh unit note hop)
   forward_by_shape own mesh unit note None = search (words, report_shape mesh (next_hop l mesh.origin)) depth 16
   forward_by_shape own mesh unit note (Some hop) = search words depth 16
 
-  forward_shape : (own : ℕ) (mesh : Mesh) (unit : MeshUnit) (note : ℕ) → StationShape l (forward l own mesh unit note)
+  forward_shape : (own : ℕ) (mesh : Mesh) (unit : MeshUnit) (note : ℕ) → StationShape R listed l (forward l own mesh unit note)
   forward_shape own mesh unit note = forward_by_shape own mesh unit note (next_hop l mesh.to)
 
-  message_shape : (own by : ℕ) (all : Bool) (cost now : ℕ) (message : Message) → StationShape l (hear_message l own by all cost now message)
+  message_shape : (own by : ℕ) (all : Bool) (cost now : ℕ) (message : Message) → StationShape R listed l (hear_message l own by all cost now message)
   message_shape own by true cost now (Rreq number c origin dest) = request_shape own by origin dest _ now
   message_shape own by true cost now (Rrep number c origin to) = search words depth 16
   message_shape own by true cost now (Rerr lost to) = search words depth 16
@@ -116,41 +118,41 @@ module _ (l : StationMemory) where
   message_shape own by false cost now (Rrep number c origin to) = reply_shape own by origin to _ now
   message_shape own by false cost now (Rerr lost to) = error_shape own by lost to
 
-  message_in_shape : (own by : ℕ) (all : Bool) (cost now : ℕ) (message : Option Message) → StationShape l (hear_message_in l own by all cost now message)
+  message_in_shape : (own by : ℕ) (all : Bool) (cost now : ℕ) (message : Option Message) → StationShape R listed l (hear_message_in l own by all cost now message)
   message_in_shape own by all cost now None = search words depth 16
   message_in_shape own by all cost now (Some message) = message_shape own by all cost now message
 
-  command_shape : (own by : ℕ) (all : Bool) (code : ℕ) (body : List ℕ) (cost now : ℕ) → StationShape l (hear_command l own by all code body cost now)
+  command_shape : (own by : ℕ) (all : Bool) (code : ℕ) (body : List ℕ) (cost now : ℕ) → StationShape R listed l (hear_command l own by all code body cost now)
   command_shape own by all code body cost now = search (words, message_in_shape own by all cost now (message_in body)) depth 16
 
-  mesh_shape : (own : ℕ) (unit : MeshUnit) (note now : ℕ) → StationShape l (hear_over_mesh l own unit note now)
+  mesh_shape : (own : ℕ) (unit : MeshUnit) (note now : ℕ) → StationShape R listed l (hear_over_mesh l own unit note now)
   mesh_shape own (units.Whole mesh octets) note now = choose_shape _ _ _ _ _ _ _ (Rests _) (forward_shape own mesh _ note)
   mesh_shape own (units.Part mesh piece) note now = choose_shape _ _ _ _ _ _ _ (gather_shape mesh.origin piece note now) (forward_shape own mesh _ note)
   mesh_shape own (units.Carried mesh body) note now = choose_shape _ _ _ _ _ _ _ (Rests _) (forward_shape own mesh _ note)
   mesh_shape own (units.Local code body) note now = Rests _
 
-  sealed_unit_shape : (own by : ℕ) (all : Bool) (unit : MeshUnit) (cost note now : ℕ) → StationShape l (hear_sealed l own by all unit cost note now)
+  sealed_unit_shape : (own by : ℕ) (all : Bool) (unit : MeshUnit) (cost note now : ℕ) → StationShape R listed l (hear_sealed l own by all unit cost note now)
   sealed_unit_shape own by all (units.Local code body) cost note now = command_shape own by all code body cost now
   sealed_unit_shape own by all (units.Whole mesh octets) cost note now = choose_shape _ _ _ _ _ _ _ (Rests _) (mesh_shape own (units.Whole mesh octets) note now)
   sealed_unit_shape own by all (units.Part mesh piece) cost note now = choose_shape _ _ _ _ _ _ _ (Rests _) (mesh_shape own (units.Part mesh piece) note now)
   sealed_unit_shape own by all (units.Carried mesh body) cost note now = choose_shape _ _ _ _ _ _ _ (Rests _) (mesh_shape own (units.Carried mesh body) note now)
 
-  plain_shape : (answer : List ℕ → Heard) (body : Option (List ℕ)) → StationShape l (hear_plain l answer body)
+  plain_shape : (answer : List ℕ → Heard) (body : Option (List ℕ)) → StationShape R listed l (hear_plain l answer body)
   plain_shape answer None = Rests _
   plain_shape answer (Some body) = Rests _
 
-  addressed_shape : (own : Option ℕ) (by : ℕ) (all : Bool) (unit : MeshUnit) (cost note now : ℕ) → StationShape l (option_map_or (λ a. hear_sealed l a by all unit cost note now) own (drop_it l BadUnit))
+  addressed_shape : (own : Option ℕ) (by : ℕ) (all : Bool) (unit : MeshUnit) (cost note now : ℕ) → StationShape R listed l (option_map_or (λ a. hear_sealed l a by all unit cost note now) own (drop_it l BadUnit))
   addressed_shape None by all unit cost note now = Rests _
   addressed_shape (Some own) by all unit cost note now = sealed_unit_shape own by all unit cost note now
 
-  unit_shape : (path : Path) (unit : MeshUnit) (cost note now : ℕ) → StationShape l (hear_unit l path unit cost note now)
+  unit_shape : (path : Path) (unit : MeshUnit) (cost note now : ℕ) → StationShape R listed l (hear_unit l path unit cost note now)
   unit_shape (paths.Sealed from all key) unit cost note now = addressed_shape (address_of l) from all unit cost note now
   unit_shape (paths.Up from) unit cost note now = plain_shape _ (is_joining unit)
   unit_shape (paths.Down from) unit cost note now = plain_shape _ (is_joining unit)
 
-  unit_in_shape : (path : Path) (unit : Option MeshUnit) (cost note now : ℕ) → StationShape l (hear_unit_in l path unit cost note now)
+  unit_in_shape : (path : Path) (unit : Option MeshUnit) (cost note now : ℕ) → StationShape R listed l (hear_unit_in l path unit cost note now)
   unit_in_shape path None cost note now = Rests _
   unit_in_shape path (Some unit) cost note now = unit_shape path unit cost note now
 
-  pub hear_shape : (got : Accepted) (cost note now : ℕ) → StationShape l (hear l got cost note now)
+  pub hear_shape : (got : Accepted) (cost note now : ℕ) → StationShape R listed l (hear l got cost note now)
   hear_shape got cost note now = unit_in_shape got.path (unit_in got.payload) cost note now

@@ -4,6 +4,7 @@ pub mod Unread
 pub mod Halting
 pub mod Sizes
 pub mod Words
+pub mod TablePuts
 pub mod Shapes
 pub mod HearingShapes
 pub mod CallShapes
@@ -12,5 +13,9 @@ pub mod MeterShapes
 pub mod CoordinatorShapes
 pub mod Refusals
 pub mod Bounds
+pub mod Tables
+pub mod TablePlans
+pub mod HomePuts
 pub mod Outcomes
 pub mod Rooms
+pub mod Blank

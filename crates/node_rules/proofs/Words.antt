@@ -190,8 +190,6 @@ module _ (l : StationMemory) where
   pub error_on_done : (to : ℕ) (unit : MeshUnit) (note : ℕ) (change : routing.Routing → routing.Routing) → IsDone l (goes to unit note (with_routing_by change (empty_draft l)))
   error_on_done to unit note change = done (0 + 1) 3 _ (omega arith) (omega arith) (goes_fits 0 3 to unit note _ (rerouted_fits 0 3 change _ (begun_fits 3 l)))
 
-pub ruleset leaves = (learns_done, sends_on_done, answers_done, goes_done, error_done, error_on_done)
-
 -- # Bodies that set out
 
 module _ (l : StationMemory) where

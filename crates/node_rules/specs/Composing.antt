@@ -1,7 +1,6 @@
 -- Plans that are made of plans, as a meter and the coordinator make theirs of what their station does.
-use Rattle.std.specs.Prelude.{◌≡◌, ℕ, ◌++◌, nat_lt, List, [], map, Bool, false, if◌then◌else◌, Option, Some, None, IsSome, Result, Ok, Err, ⊤}
+use Rattle.std.specs.Prelude.{◌≡◌, ℕ, ◌++◌, nat_lt, List, [], map, Bool, false, if◌then◌else◌, None, IsSome, Result, Ok, Err, ⊤}
 use Rattle.std.specs.Option.{option_map}
-use Rattle.plc_base.specs.Faults.{◌then◌, ◌when◌}
 use Rattle.plc_base.specs.declared.out_frame.Out.{Out}
 use Rattle.plc_base.specs.declared.tags.PairTag.{PairTag}
 use Rattle.plc_base.specs.Keeper.{Write}
@@ -13,7 +12,7 @@ use Rattle.node_rules.specs.declared.heard.Way.{Way}
 use Rattle.node_rules.specs.declared.heard.Way.TheVariants.{Air, Near, Mesh}
 use Rattle.node_rules.specs.Memory.{StationMemory, Load}
 use Rattle.node_rules.specs.Plans.{Plan}
-use Rattle.node_rules.specs.Drafts.{Draft, Ends, Lack, lack, counters_left, alone, empty_draft, sealing, sets_out}
+use Rattle.node_rules.specs.Drafts.{Draft, Ends, lack, counters_left, alone, empty_draft, sealing, sets_out}
 use Rattle.node_rules.specs.Calls.{command_frames, sending_ends, how}
 use Rattle.node_rules.specs.States.{State}
 

@@ -2,7 +2,7 @@
 use Rattle.std.specs.Option.{option_map}
 use Rattle.fragment_buffers.specs.Taking.{blocks_held}
 use Rattle.std.specs.Prelude.{IfSome, ◌<◌, ◌^◌, ◌≡◌, ◌⊎◌, ℕ, ◌-◌, ◌≤◌, ◌==◌, All, List, [], ◌∷◌, ◌++◌, length, Option, Some, None, Result, Ok, Err, if◌then◌else◌}
-use Rattle.std.specs.FinMap.{insert}
+use Rattle.std.specs.FinMap.{empty, insert}
 use Rattle.plc_base.specs.declared.keeper.Cut.{Cut}
 use Rattle.plc_base.specs.Keeper.{Records, Write}
 use Rattle.plc_base.specs.declared.address.Eui.{Eui}
@@ -25,7 +25,8 @@ use Rattle.node_rules.specs.Coordinators as coordinator_rules
 use Rattle.node_rules.specs.Drafts.{blocks_waiting}
 pub use Rattle.fragment_buffers.specs.Loads.{IsShort}
 use Rattle.fragment_buffers.specs.Loads.{Load, Datagram, Command}
-use Rattle.node_rules.specs.Memory.{StationMemory, Body, Memory, Node, node_address, node_route}
+use Rattle.node_rules.specs.Memory.{StationMemory, Body, Memory, Node, Role, node_address, node_route}
+use Rattle.node_rules.specs.StoreReading.{memory_of, remembering, blank_station}
 use Rattle.node_rules.specs.Plans.{Plan, Outcome, carry_out}
 use Rattle.node_rules.specs.NodeSteps.{acts, stays}
 
@@ -284,3 +285,9 @@ pub record OnlyMarks {M A : Type 0} (p : Plan M A) : Type 0 where
 abbrev pub AcceptingOnlyMarks : Type 0
 AcceptingOnlyMarks =
     (l : StationMemory) (own : Eui) (a : Option Arrived) → length l.marks ≤ 64 → OnlyMarks (accept l own a)
+
+-- # New nodes
+
+-- a store without records gives a blank memory to a node of either role
+abbrev pub AnEmptyStoreIsBlank : Type 0
+AnEmptyStoreIsBlank = (role : Role) → memory_of role empty ≡ Ok (remembering blank_station [])

@@ -20,4 +20,6 @@ pub mod Carrying
 pub mod Neighbours
 pub mod Composing
 pub mod Laws
+pub mod Tables
+pub mod Home
 pub mod Replies

@@ -15,7 +15,7 @@ ghost use Rattle.plc_base.specs.declared.out_frame.Out.{Out};
 ghost use Rattle.node_rules.specs.Carrying.{Carries, IsCarriedOut};
 ghost use Rattle.node_rules.specs.Plans.{Plan, resting, within};
 ghost use Rattle.node_rules.specs.States.{State};
-ghost use Rattle.node_rules.specs.Laws.{WritesFailCleanly, NoCutNoFailure, HaltedHasNoAddress, RinglessHasNoAddress, HaltedDoesNothing, AFrameRefusedChangesNothing, ADropChangesNothing, AMetersDropChangesNothing, ACoordinatorsDropChangesNothing, ASendRefusedChangesNothing, AJoinRefusedChangesNothing, AnOrderRefusedChangesNothing, TheRoomTellsTheRefusal, HearingIsBounded, AMetersHearingIsBounded, ACoordinatorsHearingIsBounded, ASendIsBounded, AJoinIsBounded, AnOrderIsBounded, AcceptingOnlyMarks};
+ghost use Rattle.node_rules.specs.Laws.{WritesFailCleanly, NoCutNoFailure, HaltedHasNoAddress, RinglessHasNoAddress, HaltedDoesNothing, AFrameRefusedChangesNothing, ADropChangesNothing, AMetersDropChangesNothing, ACoordinatorsDropChangesNothing, ASendRefusedChangesNothing, AJoinRefusedChangesNothing, AnOrderRefusedChangesNothing, TheRoomTellsTheRefusal, HearingIsBounded, AMetersHearingIsBounded, ACoordinatorsHearingIsBounded, ASendIsBounded, AJoinIsBounded, AnOrderIsBounded, AcceptingOnlyMarks, AnEmptyStoreIsBlank};
 
 /// Where the write of a plan fails, the writes in front of it are stored and those behind it are not; the failed one is stored as the
 /// loss of power says. The node answers the word of a failed write, and nothing is sent, made or kept in memory. A plan whose writes are
@@ -176,4 +176,11 @@ pub fn commands_are_handed_on()
     ensures { (l : StationMemory) (got : Accepted) (cost note now : ℕ) (way : Way) (body : List ℕ)
         → (hear l got cost note now).answer ≡ Ok (heard.Joining way body)
         → ComesSo l way × (hear l got cost note now ≡ resting l (Ok (heard.Joining way body)) (Err drops.Store)) }
+{}
+
+/// A store without records gives a blank memory to a node of either role, so that a restart over an empty store leaves what a new node
+/// begins with.
+#[tactic(auto, using(crate::proofs::Blank::blank))]
+pub fn an_empty_store_is_blank()
+    ensures { AnEmptyStoreIsBlank }
 {}

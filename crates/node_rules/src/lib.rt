@@ -7,20 +7,25 @@ mod heard;
 mod laws;
 mod refusal;
 mod shown;
+mod table_laws;
 
 pub use heard::{Accepted, CoordinatorHeard, Heard, MeterHeard, Path, Reply, SentHow, Way};
 pub use laws::{
     a_coordinators_drop_changes_nothing, a_coordinators_hearing_is_bounded, a_drop_changes_nothing,
     a_frame_refused_changes_nothing, a_join_is_bounded, a_join_refused_changes_nothing,
     a_meters_drop_changes_nothing, a_meters_hearing_is_bounded, a_send_is_bounded,
-    a_send_refused_changes_nothing, accepting_only_marks, an_order_is_bounded,
-    an_order_refused_changes_nothing, calls_are_functions, commands_are_handed_on,
-    halted_does_nothing, halted_has_no_address, hearing_is_bounded, no_cut_no_failure,
-    parts_are_carried_out, plans_follow_puts, plans_give_out_more, ringless_has_no_address,
-    writes_fail_cleanly,
+    a_send_refused_changes_nothing, accepting_only_marks, an_empty_store_is_blank,
+    an_order_is_bounded, an_order_refused_changes_nothing, calls_are_functions,
+    commands_are_handed_on, halted_does_nothing, halted_has_no_address, hearing_is_bounded,
+    no_cut_no_failure, parts_are_carried_out, plans_follow_puts, plans_give_out_more,
+    ringless_has_no_address, the_room_tells_the_refusal, writes_fail_cleanly,
 };
 pub use refusal::{
     CoordinatorRefusal, Dropped, FrameRefusal, Halted, JoinRefusal, LeaveRefusal, LocalRefusal,
     PresetFault, RandomFault, SendRefusal,
 };
 pub use shown::{Shown, ShownPeer, ShownPeers, ShownRef, ShownRoute, ShownRoutes};
+pub use table_laws::{
+    carrying_out_keeps_home, carrying_out_keeps_tables, coordinators_write_home,
+    plans_write_in_place,
+};

@@ -128,6 +128,13 @@ impl<K: Keeper + Drop> Station<K> {
         &self.parts.ring
     }
 
+    /// Its ranks and routes. Those of a halted one say nothing.
+    pub fn routing(&self) -> &RoutingSet
+        ensures { IfSome self.now.memory (λ l. result.now ≡ l.routing) }
+    {
+        &self.parts.routing
+    }
+
     /// The next hop of the valid route to an address and the cost of the address's rank, None where it has no valid route. One that
     /// is halted or not joined has none.
     pub fn valid(&self, dest: Short) -> Option<(Short, u16)>

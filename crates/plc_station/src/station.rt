@@ -109,6 +109,13 @@ impl<K: Keeper + Drop> Station<K> {
         &mut self.keeper
     }
 
+    /// Gives the keeper back, as std's `into_inner` does. What the station held in memory is forgotten.
+    pub fn into_keeper(self) -> K
+        ensures store { K.store result ≡ self.store }
+    {
+        self.keeper
+    }
+
     /// Whether it is halted.
     pub fn halted(&self) -> bool
         ensures { MatchBool result (self.now.memory ≡ None) (IsSome self.now.memory) }

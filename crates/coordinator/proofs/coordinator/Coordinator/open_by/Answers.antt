@@ -1,3 +1,5 @@
+use Rattle.std.proofs.Common.{Some, sym, ap, ◌∙◌}
+use Rattle.std.proofs.lemmas.Result.{err_from_is_err_and}
 use Rattle.node_rules.specs.declared.heard.Way.TheVariants.{Mesh}
 use Rattle.node_rules.specs.Coordinators.{orders}
 use Rattle.plc_station.proofs.Carrying.{if_some, at_some}
@@ -6,11 +8,12 @@ use Rattle.coordinator.proofs.Storing.{refusal, by_some}
 use Rattle.coordinator.proofs.Challenges.{told_done, lacking_plan, session_runs, session_room}
 use Rattle.coordinator.proofs.coordinator.Coordinator.open_by.Goals as goal
 
-pub returns-in-Err-clause-carries : goal.returns-in-Err-clause-carries
-returns-in-Err-clause-carries g c =
-    if_some (node_of c.args.self.now).memory _ (λ m running. refusal orders (node_of c.args.self.now) m _ _ _ running
-    (lacking_plan c.args.self.now.station.eui m c.args.to c.args.now c.args.server c.args.message.now _ c.requires.packet (at_some (node_of c.args.self.now).memory _ m running c.requires.holds).home
-    (at_some (node_of c.args.self.now).memory _ m running c.in-Err.ensures.refused)) c.requires.empty)
+pub returns-in_err-message_room-clause-carries : goal.returns-in_err-message_room-clause-carries
+returns-in_err-message_room-clause-carries g c =
+    let p = err_from_is_err_and c.from_residual.result c.from_residual.ensures.1 in
+    rw p.1 (if_some (node_of c.args.self.now).memory _ (λ m running. refusal orders (node_of c.args.self.now) m p.0 _ _ running
+    (lacking_plan c.args.self.now.station.eui m c.args.to c.args.now c.args.server c.args.message.now p.0 c.requires.packet (at_some (node_of c.args.self.now).memory _ m running c.requires.holds).home
+    (at_some (node_of c.args.self.now).memory _ m running c.in_err-message_room.ensures.refused ∙ ap Some (sym p.2))) c.requires.empty))
 
 pub tell-requires-clause-running : goal.tell-requires-clause-running
 tell-requires-clause-running g c =
@@ -18,9 +21,9 @@ tell-requires-clause-running g c =
 
 pub tell-requires-clause-room : goal.tell-requires-clause-room
 tell-requires-clause-room g c =
-    by_some (node_of c.args.self.now).memory _ c.requires.running (λ m running. session_room (node_of c.args.self.now) _ m (record { server = c.args.server; way = Mesh c.args.to; since = c.args.now }) c.args.to c.args.message.now (at_some (node_of c.args.self.now).memory _ m running c.in-Ok.ensures.room) (at_some (node_of c.args.self.now).memory _ m running c.begin_session.ensures.state))
+    by_some (node_of c.args.self.now).memory _ c.requires.running (λ m running. session_room (node_of c.args.self.now) _ m (record { server = c.args.server; way = Mesh c.args.to; since = c.args.now }) c.args.to c.args.message.now (at_some (node_of c.args.self.now).memory _ m running c.in_ok-message_room.ensures.room) (at_some (node_of c.args.self.now).memory _ m running c.begin_session.ensures.state))
 
 pub returns-clause-carries : goal.returns-clause-carries
 returns-clause-carries g c =
     if_some (node_of c.args.self.now).memory _ (λ m running. told_done c.args.self.now.station.eui m c.args.to c.args.now c.args.server c.args.message.now (node_of c.args.self.now) _ _ _ _ c.requires.packet (at_some (node_of c.args.self.now).memory _ m running c.requires.holds)
-    (at_some (node_of c.args.self.now).memory _ m running c.in-Ok.ensures.room) (at_some (node_of c.args.self.now).memory _ m running c.begin_session.ensures.state) c.tell.ensures.carries)
+    (at_some (node_of c.args.self.now).memory _ m running c.in_ok-message_room.ensures.room) (at_some (node_of c.args.self.now).memory _ m running c.begin_session.ensures.state) c.tell.ensures.carries)

@@ -1,0 +1,104 @@
+-- Over any calls, failed puts and new starts.
+use Rattle.std.proofs.Common.{◌≡◌, ℕ, ◌^◌, ◌<◌, true, false, List, Option, Some, Result, Ok, Err, refl, inl, inr, arith}
+use Rattle.std.specs.Option.{option_map}
+use Rattle.std.specs.FinMap.{get}
+use Rattle.plc_base.specs.Keeper.{Records, SameOutside}
+use Rattle.plc_base.specs.SlotTables as slots
+use Rattle.plc_base.specs.SlotTables.{IsGapless, slot_of}
+use Rattle.plc_base.specs.declared.keeper.BadStore.{BadStore}
+use Rattle.broadcast_log.specs.NextNumber.{Numbering, numbering_in, limit_slot}
+use Rattle.broadcast_log.specs.OriginMarks.{Marks, marks, room_for}
+use Rattle.broadcast_log.specs.Log.{Log, log_of, opened}
+use Rattle.broadcast_log.specs.Runs.{Admitted, Runs, begins, numbers, loses_number, admits, loses_mark, restarts, elsewhere, AllBelow, AllEarlier}
+use Rattle.broadcast_log.specs.Laws.{EachIsAdmittedOnce, EachIsGivenOnce}
+use Rattle.broadcast_log.proofs.Limits.{number_put-elsewhere}
+use Rattle.broadcast_log.proofs.Marking.{keep_write-elsewhere}
+use Rattle.broadcast_log.proofs.Given.{HoldsGiven, given_begins, given_more, given_lost, given_restarts, given_elsewhere, given_none}
+use Rattle.broadcast_log.proofs.Admitted.{HoldsAdmitted, admitted_begins, admitted_more, admitted_lost, admitted_restarts, admitted_elsewhere, admitted_none, admitted_sound, room_is_fresh}
+
+-- Both parts of a log.
+record Holds (given : List ℕ) (before : List Admitted) (was : Option Log) (records : Records) : Type 0 where
+  numbering : HoldsGiven given (option_map (λ l. l.numbering) was) records
+  marks : HoldsAdmitted before (option_map (λ l. l.marks) was) records
+
+-- a log that was opened has both parts opened
+record IsOpened (log : Log) (records : Records) : Type 0 where
+  numbering : numbering_in records ≡ Ok log.numbering
+  marks : slots.opened marks records ≡ Ok log.marks
+
+both_opened : (log : Log) (records : Records) → opened records ≡ Ok log → IsOpened log records
+both_opened log records e = by_parts (numbering_in records) (slots.opened marks records) refl refl e
+  where
+    by_parts : (n : Result Numbering BadStore) (m : Result Marks BadStore) → numbering_in records ≡ n → slots.opened marks records ≡ m → log_of n m ≡ Ok log → IsOpened log records
+    by_parts (Err bad) m en em is = absurd (cc (is))
+    by_parts (Ok n) (Err bad) en em is = absurd (cc (is))
+    by_parts (Ok n) (Ok m) en em is = record { numbering = cc (en, is); marks = cc (em, is) }
+
+-- a put at one part's slots leaves the other part's
+marks_stay : (old new : Records) → SameOutside limit_slot limit_slot old new → (place : ℕ) → place < 32 → get new (slot_of marks place) ≡ get old (slot_of marks place)
+marks_stay old new same place within = same (slot_of marks place) (inr (omega arith))
+
+limit_stays : (old new : Records) → SameOutside 0x0300 0x031F old new → get new limit_slot ≡ get old limit_slot
+limit_stays old new same = same limit_slot (inl (omega arith))
+
+holds : (given : List ℕ) (before : List Admitted) (was : Option Log) (records : Records) → Runs given before was records → Holds given before was records
+holds given before was records (begins log r e fits gapless) =
+    let o = both_opened log r e in
+    record { numbering = given_begins log.numbering r o.numbering fits; marks = admitted_begins log.marks r o.marks gapless }
+holds given before was records (numbers g b log old new earlier left stores) =
+    let h = holds g b (Some log) old.records earlier in
+    record {
+      numbering = given_more g log.numbering old new h.numbering left stores;
+      marks = admitted_elsewhere b (Some log.marks) old.records new.records h.marks (marks_stay old.records new.records (number_put-elsewhere log.numbering old new true stores));
+    }
+holds given before was records (loses_number g b log old new earlier left stores) =
+    let h = holds g b (Some log) old.records earlier in
+    record {
+      numbering = given_lost g log.numbering old new h.numbering stores;
+      marks = admitted_none b (Some log.marks) new.records
+          (admitted_elsewhere b (Some log.marks) old.records new.records h.marks (marks_stay old.records new.records (number_put-elsewhere log.numbering old new false stores)));
+    }
+holds given before was records (admits g b log origin number old new earlier short fits room stores) =
+    let h = holds g b (Some log) old.records earlier in
+    let sound : slots.IsTable marks log.marks = admitted_sound b log.marks old.records h.marks in
+    record {
+      numbering = given_elsewhere g (Some log.numbering) old.records new.records h.numbering (limit_stays old.records new.records (keep_write-elsewhere log.marks origin number old new true sound room stores));
+      marks = admitted_more b log.marks origin number old new h.marks short fits room stores;
+    }
+holds given before was records (loses_mark g b log origin number old new earlier short fits room stores) =
+    let h = holds g b (Some log) old.records earlier in
+    let sound : slots.IsTable marks log.marks = admitted_sound b log.marks old.records h.marks in
+    record {
+      numbering = given_none g (Some log.numbering) new.records
+          (given_elsewhere g (Some log.numbering) old.records new.records h.numbering (limit_stays old.records new.records (keep_write-elsewhere log.marks origin number old new false sound room stores)));
+      marks = admitted_lost b log.marks origin number old new h.marks short fits room stores;
+    }
+holds given before was records (restarts g b w log r earlier e) =
+    let h = holds g b w r earlier in
+    let o = both_opened log r e in
+    record {
+      numbering = given_restarts g (option_map (λ l. l.numbering) w) log.numbering r h.numbering o.numbering;
+      marks = admitted_restarts b (option_map (λ l. l.marks) w) log.marks r h.marks o.marks;
+    }
+holds given before was records (elsewhere g b w old new earlier stay) =
+    let h = holds g b w old earlier in
+    record {
+      numbering = given_elsewhere g (option_map (λ l. l.numbering) w) old new h.numbering stay.limit;
+      marks = admitted_elsewhere b (option_map (λ l. l.marks) w) old new h.marks stay.marks;
+    }
+
+-- # What the calls and the laws say
+
+pub next_is_fresh : (given : List ℕ) (before : List Admitted) (log : Log) (records : Records) → Runs given before (Some log) records → AllBelow log.numbering.next given
+next_is_fresh given before log records run = (holds given before (Some log) records run).numbering.live.2
+
+pub admission_is_fresh : (given : List ℕ) (before : List Admitted) (log : Log) (records : Records) (origin number : ℕ) → Runs given before (Some log) records
+    → origin < 0xFFFE → number < 2 ^ 32 → room_for log.marks origin number ≡ Ok (tt {0}) → AllEarlier origin number before
+admission_is_fresh given before log records origin number run short fits room =
+    room_is_fresh before log.marks records origin number (holds given before (Some log) records run).marks short fits room
+
+pub each_admitted_once : EachIsAdmittedOnce
+each_admitted_once given before was records run = (holds given before was records run).marks.once
+
+pub each_given_once : EachIsGivenOnce
+each_given_once given before was records run = (holds given before was records run).numbering.each

@@ -1,0 +1,7 @@
+pub mod Grammar
+pub mod Reading
+pub mod NextNumber
+pub mod OriginMarks
+pub mod Log
+pub mod Runs
+pub mod Laws

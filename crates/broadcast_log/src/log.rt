@@ -1,0 +1,148 @@
+//! What a node keeps of broadcasts.
+ghost use Rattle.std.specs.Prelude.{◌≡◌, ◌+◌, ◌≤◌, Ok, Some, List, ℕ, IfOk, IfErr, OnOk};
+ghost use Rattle.std.specs.Bool.{OnTrue};
+ghost use Rattle.plc_base.specs.Keeper.{Stores, OutsideStays, IsOldOrNew};
+ghost use Rattle.plc_base.specs.SlotTables.{IsTable, IsGapless};
+ghost use Rattle.broadcast_log.specs.OriginMarks.{marks, IsCovered, mark_of, room_for};
+ghost use Rattle.broadcast_log.specs.Log.{Log, IsKept, IsBad, Reopens, opened, next_result, next_write, next_after, numbered_log, admit_result, admit_write, admit_after, admitted_log, is_stored};
+ghost use Rattle.broadcast_log.specs.Runs.{Admitted, Runs, AllBelow, AllEarlier};
+
+use crate::LogFault;
+use crate::numbering::BroadcastNumber;
+use crate::origin_marks::{OriginMark, OriginMarks};
+use plc_base::{BadStore, Keeper, Short};
+use std::marker::Model;
+
+/// Numbers the broadcasts that a node sends, and hands each broadcast of another node up at most once, over restarts and
+/// losses of power: what it has given out and admitted is stored ahead, at the slots 6 and 0300 to 031F (hexadecimal).
+///
+/// A contract sees the limit and the next number, and the list of the origins in the order of their slots. After `Store` the
+/// log may not be used until it is opened again.
+#[derive(Drop, Debug)]
+pub struct BroadcastLog {
+    numbering: BroadcastNumber,
+    marks: OriginMarks,
+}
+
+impl Model for BroadcastLog {
+    ghost use Rattle.broadcast_log.specs.Log.{Log, log_code};
+
+    ghost Value = { Log };
+
+    ghost coded = { log_code };
+
+    ghost view = { λ l. record { numbering = l.numbering; marks = l.marks } };
+}
+
+impl BroadcastLog {
+    /// The log that the keeper's records give: the next number is the stored limit, 0 where none is stored, and the origins
+    /// are those from slot 0300 on, up to the first empty slot, each mark the stored one.
+    ///
+    /// BadStore exactly where the record at slot 6 has another length than 4 octets, or, after that, where one of the marks
+    /// has not 6 octets, has an address above FFFD, or is a second one of an address.
+    pub fn open<K: Keeper>(keeper: &K) -> Result<BroadcastLog, BadStore>
+        ensures log { result ≡ opened (K.store keeper.now).records }
+        ensures bad { IfErr result (λ bad. IsBad (K.store keeper.now).records bad.slot) }
+        ensures kept { IsGapless marks (K.store keeper.now).records
+            → IfOk result (λ log. IsKept log (K.store keeper.now).records) }
+        // A log that was kept is opened again, at its limit and with each mark the stored one.
+        ensures reopened { Reopens (K.store keeper.now).records result }
+    {
+        let numbering = BroadcastNumber::open(keeper)?;
+        let marks = OriginMarks::open(keeper)?;
+        Ok(BroadcastLog { numbering, marks })
+    }
+
+    /// How many numbers are left: 4,294,967,295 minus the next one.
+    pub fn number_left(&self) -> u32
+        ensures { result + self.now.numbering.next ≡ 4294967295 }
+    {
+        self.numbering.left()
+    }
+
+    /// The mark of an origin, None exactly where it is not held.
+    pub fn mark(&self, origin: Short) -> Option<u32>
+        ensures { result ≡ mark_of self.now.marks origin }
+    {
+        self.marks.mark(origin)
+    }
+
+    /// The origins in the order of their slots: no two of one address, at most 32, and no mark above the stored one.
+    pub fn origins(&self) -> &[OriginMark]
+        ensures value { result.now ≡ self.now.marks }
+        ensures table { IsTable marks self.now.marks }
+        ensures covered { IsCovered self.now.marks }
+    {
+        self.marks.entries()
+    }
+
+    /// Gives out the number of the next broadcast. Where it equals the limit, the smaller of limit + 32 and 4,294,967,295 is
+    /// stored first.
+    ///
+    /// NumberSpent exactly where none is left. Store where that put failed. After each error the log is as it was.
+    pub fn next<K: Keeper>(&mut self, keeper: &mut K) -> Result<u32, LogFault>
+        requires { IsKept self.old (K.store keeper.old).records }
+        ensures answer { result ≡ next_result self.old (is_stored result) }
+        // It is above all that was given out before, over any calls, failed puts and new starts.
+        ensures fresh { (given : List ℕ) → (before : List Admitted)
+            → Runs given before (Some self.old) (K.store keeper.old).records
+            → IfOk result (λ number. AllBelow number given) }
+        ensures log { self.new ≡ next_after self.old (is_stored result) }
+        ensures store { Stores (K.store keeper.old) (next_write self.old) (is_stored result) (K.store keeper.new) }
+        ensures kept { OnTrue (is_stored result) (IsKept self.new (K.store keeper.new).records) }
+        // Whatever became of the put, the records are those of the log before or of the log after.
+        ensures either { IsOldOrNew IsKept self.old (numbered_log self.old) (K.store keeper.new).records }
+        ensures elsewhere { OutsideStays 6 6 (K.store keeper.old) (K.store keeper.new) }
+    {
+        if self.numbering.left() == 0 {
+            return Err(LogFault::NumberSpent);
+        }
+        let Ok(number) = self.numbering.give(keeper) else {
+            return Err(LogFault::Store);
+        };
+        Ok(number)
+    }
+
+    /// Whether a broadcast would be admitted.
+    ///
+    /// Old exactly where the origin is held and `number` is not above its mark. OriginsFull exactly for an origin that is not
+    /// held with 32 held.
+    pub fn room(&self, origin: Short, number: u32) -> Result<(), LogFault>
+        ensures { result ≡ room_for self.now.marks origin number }
+    {
+        self.marks.room(origin, number)
+    }
+
+    /// Admits a broadcast: `number` is then the mark of its origin. Where the origin is new or `number` is above its stored
+    /// mark, the smaller of number + 63 and 4,294,967,295 is stored first.
+    ///
+    /// Old and OriginsFull exactly as `room` answers them, and Store where that put failed. After each error the log is as it
+    /// was.
+    pub fn admit<K: Keeper>(
+        &mut self,
+        keeper: &mut K,
+        origin: Short,
+        number: u32,
+    ) -> Result<(), LogFault>
+        requires { IsKept self.old (K.store keeper.old).records }
+        ensures answer { result ≡ admit_result self.old origin number (is_stored result) }
+        // It is above all that was admitted of the origin before, over any calls, failed puts and new starts.
+        ensures fresh { (given : List ℕ) → (before : List Admitted)
+            → Runs given before (Some self.old) (K.store keeper.old).records
+            → OnOk result (AllEarlier origin number before) }
+        ensures log { self.new ≡ admit_after self.old origin number (is_stored result) }
+        ensures store { Stores (K.store keeper.old) (admit_write self.old origin number) (is_stored result)
+            (K.store keeper.new) }
+        ensures kept { OnTrue (is_stored result) (IsKept self.new (K.store keeper.new).records) }
+        ensures either { IsOldOrNew IsKept self.old (admitted_log self.old origin number) (K.store keeper.new).records }
+        ensures elsewhere { OutsideStays 0x0300 0x031F (K.store keeper.old) (K.store keeper.new) }
+    {
+        match self.marks.room(origin, number) {
+            Ok(()) => self
+                .marks
+                .keep(keeper, origin, number)
+                .map_err(|_| LogFault::Store),
+            Err(fault) => Err(fault),
+        }
+    }
+}

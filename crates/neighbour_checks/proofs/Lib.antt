@@ -1,0 +1,4 @@
+mod Histories
+mod Holding
+mod Acknowledging
+mod WorkedHistories

@@ -1,0 +1,7 @@
+use Rattle.std.proofs.Common.{rules}
+use Rattle.neighbour_checks.specs.Neighbours.{is_open_at}
+use Rattle.arrayvec.proofs.ArrayVecLemmas.{filter-from_retain}
+use Rattle.neighbour_checks.proofs.tables.OpenChecks.expire.Goals as goal
+
+pub returns : goal.returns
+returns c = rw (← c.self.view_is) (filter-from_retain _ (is_open_at c.args.now) _ (λ x b f' y called. search rules) _ _ c.retain.ensures.filtered)

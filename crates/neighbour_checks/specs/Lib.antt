@@ -1,0 +1,4 @@
+pub mod Acks
+pub mod Neighbours
+pub mod History
+pub mod Laws

@@ -1,0 +1,72 @@
+-- The coordinator's home: whatever becomes of its writes, the ring that a restart finds is one of the address 0.
+use Rattle.std.specs.Prelude.{◌≡◌, ℕ, Bool, List, All, IfSome, Option}
+use Rattle.std.specs.FinMap.{get}
+use Rattle.plc_base.specs.declared.address.Eui.{Eui}
+use Rattle.plc_base.specs.declared.key.Key.{Key}
+use Rattle.plc_base.specs.declared.keeper.Cut.{Cut}
+use Rattle.plc_base.specs.Grant.{Granted}
+use Rattle.plc_base.specs.Keeper.{Records, Store, Write}
+use Rattle.plc_base.specs.Writes.{Wrote}
+use Rattle.group_keys.specs.KeyRing as ring
+use Rattle.node_rules.specs.declared.heard.Accepted.{Accepted}
+use Rattle.node_rules.specs.Frames.{Arrived}
+use Rattle.node_rules.specs.Memory.{Memory}
+use Rattle.node_rules.specs.Plans.{Plan, carry_out}
+use Rattle.node_rules.specs.Accepting as accepting
+use Rattle.node_rules.specs.Hearing as hearing
+use Rattle.node_rules.specs.Calls as calls
+use Rattle.node_rules.specs.Neighbours as neighbours
+use Rattle.node_rules.specs.Coordinators as coordinator_rules
+
+-- a ring, if there is one, has the address 0
+abbrev pub IsHome : ring.Ring → Type 0
+IsHome r = IfSome r (λ (g : Granted). g.address ≡ 0)
+
+-- where slot 1 reads as a ring, that ring has the address 0
+abbrev pub ReadsHome : Records → Type 0
+ReadsHome records = IfSome (ring.ring_at (get records ring.ring_slot)) IsHome
+
+-- where a write to slot 1 reads as a ring, that ring has the address 0
+abbrev pub PutsHome : Write → Type 0
+PutsHome w = w.slot ≡ ring.ring_slot → IfSome (ring.ring_in w.octets) IsHome
+
+-- so it is of the writes of a plan
+abbrev pub WritesHome : {M A : Type 0} → Plan M A → Type 0
+WritesHome p = All PutsHome p.puts
+
+-- What the coordinator does.
+pub record CoordinatorWritesHome (own : coordinator_rules.CoordinatorIdentity) (m : Memory) : Type 0 where
+  pub accepts : (a : Option Arrived) → WritesHome (accepting.accept m.station own.eui a)
+  pub hears : (got : Accepted) (cost note now : ℕ) → WritesHome (coordinator_rules.hear_coordinator own m got cost note now)
+  pub station_hears : (got : Accepted) (cost note now : ℕ) → WritesHome (hearing.hear m.station got cost note now)
+  pub sends : (to : ℕ) (octets : List ℕ) (note now : ℕ) → WritesHome (calls.send m.station to octets note now)
+  pub commands : (to : ℕ) (octets : List ℕ) (now : ℕ) → WritesHome (calls.send_command m.station to octets now)
+  pub tells : (code : ℕ) (to : Option ℕ) (body : List ℕ) → WritesHome (neighbours.send_local m.station code to body)
+  pub counter : (value : ℕ) → WritesHome (calls.preset_counter m.station value)
+  pub number : (value : ℕ) → WritesHome (calls.preset_number m.station value)
+  pub near : (to cost now : ℕ) → WritesHome (calls.preset_near m.station to cost now)
+  pub begins : (granted : Granted) → granted.address ≡ 0 → WritesHome (coordinator_rules.begin m granted)
+  pub allows : (eui : Eui) (psk : Key) → WritesHome (coordinator_rules.allow m eui psk)
+  pub depots : (eui : Eui) (psk : Key) → WritesHome (coordinator_rules.depot m eui psk)
+  pub rekeys : (index : ℕ) (key : Key) → WritesHome (coordinator_rules.rekey m index key)
+  pub seals_with : (index : ℕ) → WritesHome (coordinator_rules.activate_self m index)
+  pub challenges : (eui : Eui) (now : ℕ) → WritesHome (coordinator_rules.challenge own.eui m eui now)
+  pub activates : (eui : Eui) (index now : ℕ) → WritesHome (coordinator_rules.activate m eui index now)
+  pub kicks : (eui : Eui) → WritesHome (coordinator_rules.kick m eui)
+
+-- a coordinator with the address 0, or with no ring yet, puts no ring of another address
+abbrev pub CoordinatorsWriteHome : Type 0
+CoordinatorsWriteHome =
+    (own : coordinator_rules.CoordinatorIdentity) (m : Memory) → IsHome m.station.ring → CoordinatorWritesHome own m
+
+-- such writes leave slot 1 so, whichever of them fails
+abbrev pub WritesKeepHome : Type 0
+WritesKeepHome =
+    (old : Store) (puts : List Write) (done : Bool) (new : Store) → ReadsHome old.records → All PutsHome puts
+    → Wrote old puts done new → ReadsHome new.records
+
+-- and so does a plan that makes them
+abbrev pub CarryingOutKeepsHome : Type 0 → Type 0 → Type 0
+CarryingOutKeepsHome M A =
+    (records : Records) (cut : Option Cut) (p : Plan M A) → ReadsHome records → WritesHome p
+    → ReadsHome (carry_out records cut p).records

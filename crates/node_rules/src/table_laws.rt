@@ -1,0 +1,34 @@
+//! Laws of the tables of a store, whatever becomes of a plan's writes. Each is the contract of a function that does nothing.
+ghost use Rattle.node_rules.specs.Tables.{StationsWriteInPlace, MetersWriteInPlace, CoordinatorsWriteInPlace, WritesKeepTables, CarryingOutKeepsTables};
+ghost use Rattle.node_rules.specs.Home.{CoordinatorsWriteHome, WritesKeepHome, CarryingOutKeepsHome};
+
+/// Each write of a plan to the marks, the ranks or the book replaces an entry that is held, or adds one right after them: of all
+/// plans of a station, of a meter and of the coordinator, where the marks and the ranks have at most as many entries as slots.
+#[tactic(auto)]
+pub fn plans_write_in_place()
+    ensures stations { StationsWriteInPlace }
+    ensures meters { MetersWriteInPlace }
+    ensures coordinators { CoordinatorsWriteInPlace }
+{}
+
+/// Where the records give what is held of the tables, such writes leave no record after the first empty slot of its table, whichever
+/// of them fails: opening reads up to that slot, so it reads them all.
+#[tactic(auto)]
+pub fn carrying_out_keeps_tables<M, A>()
+    ensures carried { CarryingOutKeepsTables M A }
+    ensures wrote { WritesKeepTables }
+{}
+
+/// A coordinator that has the address 0, or no ring, stores no ring of another address, if the grant that it begins with has the
+/// address 0.
+#[tactic(auto)]
+pub fn coordinators_write_home()
+    ensures { CoordinatorsWriteHome }
+{}
+
+/// Where the ring that the records give has the address 0, or there is none, such writes leave it so, whichever of them fails.
+#[tactic(auto)]
+pub fn carrying_out_keeps_home<M, A>()
+    ensures carried { CarryingOutKeepsHome M A }
+    ensures wrote { WritesKeepHome }
+{}

@@ -1,0 +1,28 @@
+//! Octet strings in the order in which they came, of which those that are the same are found quickly.
+//!
+//! Memory is reserved before it is used: `reserve` may fail, `push` never does. So a caller reserves what an event may need, and
+//! refuses the event where that fails, before anything has changed.
+//!
+//! ```text
+//! let mut log = OctetLog::new(rt.alloc());
+//! log.reserve(3, 8)?;
+//! log.push(b"abc");
+//! log.push(b"de");
+//! log.push(b"abc");
+//! log.last(b"abc") // 3
+//! log.before(3)    // 1
+//! log.before(1)    // 0
+//! ```
+//!
+//! A string is found among those of its chain alone, one of 16,384 by all its octets.
+#![tactic(auto)]
+
+mod chains;
+mod laws;
+mod log;
+mod strings;
+#[cfg(test)]
+mod tests;
+
+pub use laws::one_is_last;
+pub use log::OctetLog;

@@ -1,0 +1,3 @@
+mod Walking
+mod Readings
+mod Steps

@@ -1,0 +1,5 @@
+pub mod Walks
+pub mod Messages
+pub mod Reading
+pub mod Laws
+pub mod Taking
