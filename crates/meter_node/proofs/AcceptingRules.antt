@@ -1,6 +1,6 @@
 -- What a station accepts can come to its meter.
 use Rattle.std.proofs.Common.{◌≡◌, ℕ, Bool, true, false, List, Option, Some, None, Result, Ok, Err, refl, sym, ap, subst}
-use Rattle.std.specs.Prelude.{◌==◌, if◌then◌else◌, IfSome, IsSome}
+use Rattle.std.specs.Prelude.{◌==◌, if◌then◌else◌, IfSome, IfNone, IsSome}
 use Rattle.std.specs.Option.{option_map, option_map_or}
 use Rattle.std.proofs.lemmas.Bool.{and_parts}
 use Rattle.plc_base.specs.declared.address.Eui.{Eui}
@@ -12,7 +12,7 @@ use Rattle.group_keys.specs.KeyRing as ring
 use Rattle.node_rules.specs.declared.heard.Accepted.{Accepted}
 use Rattle.node_rules.specs.declared.heard.Path.TheVariants as paths
 use Rattle.node_rules.specs.declared.refusal.FrameRefusal.{FrameRefusal}
-use Rattle.node_rules.specs.declared.refusal.FrameRefusal.TheVariants.{NotForMe}
+use Rattle.node_rules.specs.declared.refusal.FrameRefusal.TheVariants.{NotForMe, Halted}
 use Rattle.plc_base.specs.declared.out_frame.Out.{Out}
 use Rattle.node_rules.specs.Carrying.{Carries}
 use Rattle.node_rules.specs.States.{State}
@@ -81,3 +81,12 @@ carried_came s t l own a got out c = by_done c.done c.answer_is (ap (λ (x : Sta
     by_done : (done : Bool) → ◌≡◌ {A = Result Accepted FrameRefusal} (Ok got) (if done then (accept l own a).answer else (accept l own a).failed) → t.memory ≡ (if done then Some (accept l own a).memory else None) → IfSome t.memory (CameUp got.path)
     by_done true e m = subst (λ (o : Option StationMemory). IfSome o (CameUp got.path)) (sym m) (came l own a got (sym e))
     by_done false e m = subst (λ (o : Option StationMemory). IfSome o (CameUp got.path)) (sym m) tt
+
+-- and so where a station says that it accepted
+pub accepted_came : (s t : State StationMemory) (a : Option Arrived) (got : Accepted) (out : Out) → IfNone s.memory (◌≡◌ {A = Result Accepted FrameRefusal} (Ok got) (Err Halted) × (t ≡ s))
+    → IfSome s.memory (λ l. Carries s (accept l s.eui a) (Ok got) out t) → IfSome t.memory (CameUp got.path)
+accepted_came s t a got out = by_memory s.memory
+  where
+    by_memory : (o : Option StationMemory) → IfNone o (◌≡◌ {A = Result Accepted FrameRefusal} (Ok got) (Err Halted) × (t ≡ s)) → IfSome o (λ l. Carries s (accept l s.eui a) (Ok got) out t) → IfSome t.memory (CameUp got.path)
+    by_memory None h k = let never = h.0 in absurd (cc)
+    by_memory (Some l) h k = carried_came s t l s.eui a got out k
