@@ -12,6 +12,8 @@ mod log;
 mod numbering;
 mod origin_marks;
 mod reading;
+#[cfg(test)]
+mod tests;
 mod writing;
 
 pub use broadcast::{Broadcast, BroadcastBuf};
