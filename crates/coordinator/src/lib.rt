@@ -15,5 +15,7 @@ mod orders;
 mod saying;
 mod sessions;
 mod telling;
+#[cfg(test)]
+mod tests;
 
 pub use coordinator::Coordinator;
