@@ -193,10 +193,10 @@ steps_new table origin number h covered short fits e room =
       below = λ a m same. absurd (new_origin table origin e a m same);
       stored = λ old new stored stores.
           let put = rw e at stores in
-          stored_push marks table old.records new.records entry stored put.stored reads;
+          stored_push marks table old.records new.records entry stored room put.stored reads;
       either = λ old new stored stores.
           let put = rw e at stores in
-          push_either marks table old.records new.records entry stored put.old_or_new reads;
+          push_either marks table old.records new.records entry stored room put.old_or_new reads;
     }
 
 -- # Over all that happens
@@ -342,7 +342,7 @@ admitted_elsewhere before was old new h same = record {
   table = h.table;
   sound = h.sound;
   covered = h.covered;
-  stored = record { each = λ place within. ap (option_map (marks.read place)) (same place within) ∙ h.stored.each place within };
+  stored = record { short = h.stored.short; each = λ place within. ap (option_map (marks.read place)) (same place within) ∙ h.stored.each place within };
   marked = h.marked;
   once = h.once;
   live = h.live;

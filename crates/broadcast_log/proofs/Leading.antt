@@ -24,7 +24,7 @@ use Rattle.broadcast_log.proofs.Tables.{mark_in-octets_of, room_new}
 
 -- the marks stay where the limit is put
 marks_beside : (t : table.Marks) (r : Records) (limit : ℕ) → table.AreMarksKept t r → table.AreMarksKept t (insert r limit_slot (big_bytes 4 limit))
-marks_beside t r limit kept = record { each = λ place within. rw (get-insert_other r limit_slot (slots.slot_of table.marks place) (big_bytes 4 limit) (omega arith)) (kept.each place within) }
+marks_beside t r limit kept = record { short = kept.short; each = λ place within. rw (get-insert_other r limit_slot (slots.slot_of table.marks place) (big_bytes 4 limit) (omega arith)) (kept.each place within) }
 
 -- the log after a number, by whether the limit was due
 abbrev due : Log → Bool → Log
@@ -78,7 +78,7 @@ module _ (log : Log) (origin number : ℕ) (address : origin < 0xFFFE) (fits : n
   new_leads at room = leads_one IsLogIn log _ _ (λ r k. record {
     kept = record {
       numbering = limit_beside log.numbering r _ _ (omega arith) k.kept.numbering;
-      marks = stored_push table.marks log.marks r _ (table.mark_ahead origin number) k.kept.marks refl (reads (length log.marks));
+      marks = stored_push table.marks log.marks r _ (table.mark_ahead origin number) k.kept.marks room refl (reads (length log.marks));
     };
     fits = k.fits;
     sound = IsTable-push table.marks log.marks (table.mark_ahead origin number) k.sound room (free_new table.marks log.marks origin (length log.marks) (ap is_some at));

@@ -15,7 +15,7 @@ ghost use Rattle.coordinator.specs.CoordinatorAgreement.{Holds, HasHome};
 use crate::sessions::Sessions;
 use group_keys::KeyBook;
 use joining_base::RandomValues;
-use plc_base::{BadStore, Keeper, Short};
+use plc_base::{BadStore, Eui, Keeper, Short};
 use plc_station::Station;
 use std::marker::Model;
 
@@ -58,6 +58,13 @@ impl<K: Keeper + Drop> Coordinator<K> {
         ensures value { result.now ≡ self.old.station }
     {
         &mut self.station
+    }
+
+    /// Its own EUI.
+    pub fn eui(&self) -> Eui
+        ensures { result ≡ self.now.station.eui }
+    {
+        self.station.eui()
     }
 
     /// Its short address, None where it is halted.

@@ -192,10 +192,10 @@ steps_new table from counter h covered short fits e room =
       below = λ a m same. absurd (new_sender table from e a m same);
       stored = λ old new stored stores.
           let put = rw e at stores in
-          stored_push peers table old.records new.records peer stored put.stored reads;
+          stored_push peers table old.records new.records peer stored room put.stored reads;
       either = λ old new stored stores.
           let put = rw e at stores in
-          push_either peers table old.records new.records peer stored put.old_or_new reads;
+          push_either peers table old.records new.records peer stored room put.old_or_new reads;
     }
 
 -- # Over all that happens
@@ -319,7 +319,7 @@ holds before was records (elsewhere b w old new earlier same) =
       table = h.table;
       sound = h.sound;
       covered = h.covered;
-      stored = record { each = λ place within. ap (option_map (peers.read place)) (same place within) ∙ h.stored.each place within };
+      stored = record { short = h.stored.short; each = λ place within. ap (option_map (peers.read place)) (same place within) ∙ h.stored.each place within };
       marked = h.marked;
       live = h.live;
     }

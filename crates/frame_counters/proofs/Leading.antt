@@ -69,7 +69,7 @@ module _ (t : marks.Table) (from counter : ℕ) (address : from < 0xFFFE) (fits 
   new_leads : marks.place_of t from ≡ None → length t < 64 → PutsLead AreMarksIn t (slots.entry_write marks.peers (length t) ahead ∷ []) (t ++ ahead ∷ [])
   unfolding ahead
   new_leads at room = leads_one AreMarksIn t _ _ (λ r k. record {
-    kept = stored_push marks.peers t r _ ahead k.kept refl (reads (length t));
+    kept = stored_push marks.peers t r _ ahead k.kept room refl (reads (length t));
     sound = IsTable-push marks.peers t ahead k.sound room (free_new marks.peers t from (length t) (ap is_some at));
   })
 

@@ -93,7 +93,7 @@ book_with b e r k fits room = by_place (books.place_of b e.eui) refl
         record {
           sound = IsTable-push books.entries b e k.sound less (free_new books.entries b (books.eui_number e.eui) (length b) (ap is_some is));
           each = All-push IsReadableEntry b e k.each fits;
-          kept = stored_push books.entries b r _ e k.kept refl (reads_entry (length b) e less fits);
+          kept = stored_push books.entries b r _ e k.kept less refl (reads_entry (length b) e less fits);
         }
 
 pub change_leads : (b : books.Book) (e : BookEntry) → IsReadableEntry e → books.has_room b e.eui ≡ true

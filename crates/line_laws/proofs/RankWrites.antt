@@ -1,4 +1,5 @@
 -- The writes of an offer, and each front of them, leave records that give ranks by the account.
+use Rattle.std.proofs.lemmas.List.{length-append}
 use Rattle.std.proofs.Common.{◌≡◌, ◌≢◌, ◌⊎◌, inl, ⊎_elim, ℕ, zero, suc, ◌+◌, ◌<◌, ◌^◌, Bool, true, false, List, [], ◌∷◌, ◌++◌, length, get_or, set, Option, Some, None, refl, sym, ap, ◌∙◌, subst, arith}
 use Rattle.std.specs.Prelude.{if◌then◌else◌, All, is_some, ◌==◌, unwrap_or, slice_get}
 use Rattle.std.specs.FinMap.{get, insert}
@@ -83,7 +84,7 @@ module _ (Own : ℕ → Type 0) (C : ℕ → ℕ → Rank → Type 0) (first : r
     ranged = x;
     kept = record {
       floors = floors_stay t r (length t.entries) (routing.octets_of e) q.kept;
-      ranks = stored_push routing.ranks t.entries r _ e q.kept.ranks refl (reads_entry e (length t.entries) f);
+      ranks = stored_push routing.ranks t.entries r _ e q.kept.ranks (let longer = length-append t.entries (e ∷ []) in omega (arith, x.sound.entries.short)) refl (reads_entry e (length t.entries) f);
     };
   })
 

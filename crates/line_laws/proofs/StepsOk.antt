@@ -164,7 +164,7 @@ none_table : {A : Type 0} (layout : slots.Layout A) → slots.IsTable layout []
 none_table layout = record { distinct = λ i j d lt inside. absurd (omega arith); short = omega arith }
 
 none_stored : {A : Type 0} (layout : slots.Layout A) → slots.IsStored layout [] empty
-none_stored layout = record { each = λ place within. ap (option_map (layout.read place)) (get-empty nat_cmp (slots.slot_of layout place)) }
+none_stored layout = record { short = omega arith; each = λ place within. ap (option_map (layout.read place)) (get-empty nat_cmp (slots.slot_of layout place)) }
 
 zeros_low : (n k : ℕ) → get_or (replicate n 0) k 0 < 2 ^ 16
 zeros_low zero k = omega arith

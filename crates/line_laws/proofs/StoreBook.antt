@@ -69,7 +69,7 @@ book_with b e r k fits room = by_place (book.place_of b e.eui) refl
         record {
           table = IsTable-push book.entries b e k.table less (free_new book.entries b (book.eui_number e.eui) (length b) (ap is_some is));
           each = All-push IsReadableEntry b e k.each fits;
-          stored = stored_push book.entries b r _ e k.stored refl (reads_entry (length b) e less fits);
+          stored = stored_push book.entries b r _ e k.stored less refl (reads_entry (length b) e less fits);
         }
 
 -- an entry that the book has is no change of it

@@ -125,7 +125,7 @@ module _ (B : Records → Type 0) (lasts : Lasts B) (l : StationMemory) (from co
   unfolding ahead
   new_leads at room = low_one B lasts l _ _ (omega arith) (λ r k. marks_kept l r (length l.marks) _ _ k room
       (IsTable-push marks.peers l.marks ahead k.range.marks room (free_new marks.peers l.marks from (length l.marks) (ap is_some at)))
-      (stored_push marks.peers l.marks r _ ahead k.marks refl (reads (length l.marks))))
+      (stored_push marks.peers l.marks r _ ahead k.marks room refl (reads (length l.marks))))
 
   high_leads : (place : ℕ) → marks.place_of l.marks from ≡ Some place → Leads (With B) l (slots.entry_write marks.peers place ahead ∷ []) (record l { marks = set l.marks place ahead })
   unfolding ahead

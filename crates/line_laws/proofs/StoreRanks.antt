@@ -77,7 +77,7 @@ push_leads : (B : Records → Type 0) (lasts : Lasts B) (l : StationMemory) (e :
 push_leads B lasts l e f x = low_one B lasts l _ _ (let short = x.sound.entries.short in let longer = length-append l.routing.entries (e ∷ []) in omega arith) (λ r k.
     routing_kept l r (0x0200 + length l.routing.entries) (routing.octets_of e) _ k (omega arith) (inr (omega arith)) x (record {
       floors = floors_stay l.routing r (length l.routing.entries) (routing.octets_of e) k.routing;
-      ranks = stored_push routing.ranks l.routing.entries r _ e k.routing.ranks refl (reads_entry e (length l.routing.entries) f);
+      ranks = stored_push routing.ranks l.routing.entries r _ e k.routing.ranks (let longer = length-append l.routing.entries (e ∷ []) in omega (arith, x.sound.entries.short)) refl (reads_entry e (length l.routing.entries) f);
     }))
 
 -- the floors before it

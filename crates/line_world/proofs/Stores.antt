@@ -177,6 +177,7 @@ none_table layout = record { distinct = λ i j d lt inside. absurd (omega arith)
 
 pub none_stored : {A : Type 0} (layout : slots.Layout A) (records : Records) → records ≡ empty → slots.IsStored layout [] records
 none_stored layout records e = record {
+  short = omega arith;
   each = λ place within. ap (λ (r : Records). option_map (layout.read place) (get r (slots.slot_of layout place))) e
       ∙ ap (option_map (layout.read place)) (get-empty nat_cmp (slots.slot_of layout place));
 }

@@ -86,6 +86,20 @@ impl<K: Keeper + Drop> Meter<K> {
         &mut self.station
     }
 
+    /// Its own EUI.
+    pub fn eui(&self) -> Eui
+        ensures { result ≡ self.now.station.eui }
+    {
+        self.station.eui()
+    }
+
+    /// Its pair key.
+    pub fn psk(&self) -> Key
+        ensures { result ≡ self.now.psk }
+    {
+        self.pair_key.psk()
+    }
+
     /// Its short address, None where it is halted or not joined.
     pub fn address(&self) -> Option<Short>
         ensures { result ≡ option_and_then memory.address_of self.now.station.memory }

@@ -39,6 +39,13 @@ impl PairKey {
         }
     }
 
+    /// The pair key itself.
+    pub fn psk(&self) -> Key
+        ensures { result ≡ self.now }
+    {
+        self.psk
+    }
+
     /// The keys that it gives.
     pub fn keys(&self) -> &PskKeys
         ensures { result.now ≡ keys_of self.now.0 }

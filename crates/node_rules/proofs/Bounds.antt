@@ -12,7 +12,7 @@ use Rattle.node_rules.specs.Drafts.{StationPlace, Ends, Outgoing, letters, seale
 use Rattle.node_rules.specs.Laws.{IsBounded, HearingIsBounded, AMetersHearingIsBounded, ACoordinatorsHearingIsBounded, ASendIsBounded, AJoinIsBounded, AnOrderIsBounded}
 use Rattle.node_rules.proofs.Sizes.{pending_bound}
 use Rattle.node_rules.proofs.Words.{InTurn-append, in_turn, counter_turn}
-use Rattle.node_rules.proofs.TablePuts.{AnyRing, Does}
+use Rattle.node_rules.proofs.TablePuts.{Membership, AnyMembership, Does}
 use Rattle.node_rules.proofs.Shapes.{Shape, Rests, Keeps, Ended}
 use Rattle.node_rules.proofs.HearingShapes.{hear_shape}
 use Rattle.node_rules.proofs.CallShapes.{send_shape, send_command_shape}
@@ -36,7 +36,7 @@ sealed_few (Some g) first units = with_key g (sealing_key g) first units
 
 -- # Plans
 
-module _ {M H E : Type 0} (h : StationPlace M) (ends : Ends E) (m : M) (l : StationMemory) {R : ring.Ring → Type 0} {listed : Book} where
+module _ {M H E : Type 0} (h : StationPlace M) (ends : Ends E) (m : M) (l : StationMemory) {R : Membership → Type 0} {listed : Book} where
   pub bounded : (p : Plan M (Result H E)) → Shape h ends m (Does R listed l) p → IsBounded l p
   unfolding resting
   bounded p (Rests answer) = record { frames = λ w. omega arith; writes = tt }
@@ -51,7 +51,7 @@ module _ {M H E : Type 0} (h : StationPlace M) (ends : Ends E) (m : M) (l : Stat
   }
 
 pub hears : HearingIsBounded
-hears l got cost note now = bounded _ _ l l _ (hear_shape AnyRing [] l got cost note now)
+hears l got cost note now = bounded _ _ l l _ (hear_shape AnyMembership [] l got cost note now)
 
 pub meters_hear : AMetersHearingIsBounded
 meters_hear x m got cost note now = bounded _ _ m m.station _ (meter_shape x m got cost note now)
@@ -60,7 +60,7 @@ pub coordinators_hear : ACoordinatorsHearingIsBounded
 coordinators_hear own m got cost note now = bounded _ _ m m.station _ (coordinator_shape own m got cost note now)
 
 pub sends_bounded : ASendIsBounded
-sends_bounded l to octets note now = (bounded _ _ l l _ (send_shape AnyRing [] l to octets note now), bounded _ _ l l _ (send_command_shape AnyRing [] l to octets now))
+sends_bounded l to octets note now = (bounded _ _ l l _ (send_shape AnyMembership [] l to octets note now), bounded _ _ l l _ (send_command_shape AnyMembership [] l to octets now))
 
 pub joins_bounded : AJoinIsBounded
 joins_bounded x m agent now = (bounded _ _ m m.station _ (joins_shape x m agent now), bounded _ _ m m.station _ (leaves_shape x m))

@@ -30,7 +30,7 @@ use Rattle.node_rules.specs.Calls.{Sending, sending_ends, send_from, send, comma
 use Rattle.node_rules.specs.Laws.{RefusesCleanly, IsMark, MarksAtMost, OnlyMarks, AcceptingOnlyMarks}
 use Rattle.node_rules.proofs.Shapes.{checked_by, Shape, Rests, checked_shape, sealed_shape, option_shape}
 use Rattle.node_rules.proofs.Words.{IsDone, Fits, begun_fits, tagged_fits, sets_out_fits}
-use Rattle.node_rules.proofs.TablePuts.{Does, Puts, begun_puts, tagged_puts, sets_out_puts}
+use Rattle.node_rules.proofs.TablePuts.{Membership, Does, Puts, begun_puts, tagged_puts, sets_out_puts}
 use Rattle.node_rules.proofs.Sizes.{load_bound}
 
 -- # Accepting
@@ -106,7 +106,7 @@ only_marks l own a few = accepts_marks l _ few (accept_shape l own a)
 
 -- # Sending
 
-module _ (R : ring.Ring → Type 0) (listed : Book) (l : StationMemory) where
+module _ (R : Membership → Type 0) (listed : Book) (l : StationMemory) where
   abbrev SendShape : Sending → Type 0
   SendShape p = Shape alone sending_ends l (Does R listed l) p
 

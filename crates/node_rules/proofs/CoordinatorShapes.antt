@@ -33,7 +33,7 @@ use Rattle.eap_psk.specs.Sessions.{rand_p_in}
 use Rattle.node_rules.specs.MemoryDrafts.{with_memory_by, is_commanded, in_memory, oldest, Unread, unread}
 use Rattle.node_rules.specs.Coordinators.{CoordinatorIdentity, Hearing, drop_it, ends, session_of, allowed_entry, grant_for, declines, challenges, open_session, asked, keys_for, take_second, accepts, take_fourth, take_packet, answered, hear_join, hear_join_in, heard_by, hear_coordinator, with_book_entry, changed, Ordering, orders, allow, depot_by, depot, rekey, activate_self, challenge_by, challenge_at, challenge, allowed_address, activate_by, activate, kick_by, kick, changes, kick_goes, without_session}
 use Rattle.node_rules.proofs.Shapes.{Rests, rests_shape, checked_shape, choose_shape, sealed_shape, sealing_shape, option_shape}
-use Rattle.node_rules.proofs.TablePuts.{Does, Began, SameHome, key_home, active_home, memory_does, begins, rings, commands_does, remembers, enters, enters_first, enters_session, place_for_again, place_for_small, quiet_does}
+use Rattle.node_rules.proofs.TablePuts.{Membership, RingOf, EntryOf, Does, Began, SameHome, key_home, active_home, memory_does, begins, rings, commands_does, remembers, enters, enters_first, enters_session, place_for_again, place_for_small, quiet_does}
 use Rattle.node_rules.proofs.HearingShapes.{StationShape, hear_shape}
 use Rattle.node_rules.proofs.MemoryDraftShapes.{MemoryShape, within_shape}
 
@@ -41,8 +41,9 @@ ruleset words = (rests_shape, checked_shape, choose_shape, sealed_shape, sealing
 
 module _ (own : CoordinatorIdentity) (m : Memory) where
   -- the rings that it puts have the address of its own one
-  abbrev Home : ring.Ring → Type 0
-  Home r = SameHome m.station.ring r
+  abbrev Home : Membership → Type 0
+  Home (RingOf r) = SameHome m.station.ring r
+  Home (EntryOf e) = Unit {0}
 
   abbrev IsRule : Hearing → Type 0
   IsRule p = MemoryShape Home dropped m p
@@ -138,7 +139,7 @@ module _ (own : CoordinatorIdentity) (m : Memory) where
   changed_began e = by_change (changes m e)
     where
       by_change : (b : Bool) → Began Home m.book m.station (if b then with_memory_by (without_session e.eui) (with_book_entry e (empty_draft m)) else empty_draft m)
-      by_change true = remembers Home m.book m.station _ _ (enters_first Home m e)
+      by_change true = remembers Home m.book m.station _ _ (enters_first Home m e tt)
       by_change false = begins Home m.book m.station m
 
   -- the entry of a meter that was changed stays in its place
@@ -165,7 +166,7 @@ module _ (own : CoordinatorIdentity) (m : Memory) where
   depot_by_shape : (eui : Eui) (psk : Key) (d : Draft Memory) → book.place_for d.memory.book eui ≤ length m.book → Began Home m.book m.station d → MemoryShape Home orders m (depot_by m eui psk d)
   depot_by_shape eui psk d small f = by_part (λ granted. option_map_or (λ e. sealing in_memory orders (with_book_entry (book.issued_entry eui granted e) d) granted) (book.allowed_one d.memory.book eui) (refused orders m refusal.MetersFull)) (grant_for d.memory eui) (refused orders m refusal.MetersFull)
       (λ granted. by_part (λ e. sealing in_memory orders (with_book_entry (book.issued_entry eui granted e) d) granted) (book.allowed_one d.memory.book eui) (refused orders m refusal.MetersFull)
-      (λ e. sealing_shape _ _ _ _ _ _ (quiet_does Home m.book m.station _ (enters Home m.book m.station (book.issued_entry eui granted e) d small f))) (Rests _)) (Rests _)
+      (λ e. sealing_shape _ _ _ _ _ _ (quiet_does Home m.book m.station _ (enters Home m.book m.station (book.issued_entry eui granted e) d small tt f))) (Rests _)) (Rests _)
 
   -- the entry that allows a meter is that meter's
   allows_meter : (eui : Eui) (psk : Key) (before : Option BookEntry) → (book.allowed_entry eui psk before).eui ≡ eui
@@ -205,7 +206,7 @@ module _ (own : CoordinatorIdentity) (m : Memory) where
   kick_by_shape : (e : BookEntry) (to : ℕ) → MemoryShape Home orders m (kick_by m e to)
   kick_by_shape e to = sealing_shape in_memory orders m (Does Home m.book m.station)
       (kick_goes m to (message e.eui body.Kick) (with_memory_by (without_session e.eui) (with_book_entry (book.kicked_entry e.eui e) (empty_draft m)))) tt
-      (kick_goes_does to _ _ (remembers Home m.book m.station _ _ (enters_first Home m (book.kicked_entry e.eui e))))
+      (kick_goes_does to _ _ (remembers Home m.book m.station _ _ (enters_first Home m (book.kicked_entry e.eui e) tt)))
 
   pub kick_shape : (eui : Eui) → MemoryShape Home orders m (kick m eui)
   kick_shape eui = by_part (λ e. option_map_or (kick_by m e) (book.address_of m.book eui) (refused orders m refusal.NotAllowed)) (allowed_entry m eui) (refused orders m refusal.NotAllowed)

@@ -11,7 +11,6 @@ use Rattle.loadng_messages.specs.declared.message.Message.{Message}
 use Rattle.loadng_messages.specs.declared.message.Message.TheVariants.{Rreq, Rrep, Rerr}
 use Rattle.loadng_messages.specs.Reading.{message_in}
 use Rattle.group_keys.specs.KeyBook.{Book}
-use Rattle.group_keys.specs.KeyRing as ring
 use Rattle.routing_set.specs.declared.rank.Rank.{Rank}
 use Rattle.routing_set.specs.RoutingSet as routing
 use Rattle.fragment_buffers.specs.Reassembly.{PlacedPiece, Reassembly, placed, begun as piece_begun, datagram_of, repeats}
@@ -27,9 +26,9 @@ use Rattle.node_rules.specs.Plans.{resting}
 use Rattle.node_rules.specs.Drafts.{alone}
 use Rattle.node_rules.specs.Hearing.{Hearing, dropped, drop_it, hear_request, hear_reply_for, hear_reply, hear_error, tells_on, loses, forward_by, forward, report_by, gathered, gather, hear_message, hear_message_in, hear_command, hear_over_mesh, hear_sealed, hear_plain, is_joining, hear_unit, hear_unit_in, hear}
 use Rattle.node_rules.proofs.Shapes.{Shape, Rests, Keeps, rests_shape, checked_shape, choose_shape, sealed_shape}
-use Rattle.node_rules.proofs.TablePuts.{Does, station_does, error_does, error_on_does}
+use Rattle.node_rules.proofs.TablePuts.{Membership, Does, station_does, error_does, error_on_does}
 
-abbrev pub StationShape : (ring.Ring → Type 0) → Book → StationMemory → Hearing → Type 0
+abbrev pub StationShape : (Membership → Type 0) → Book → StationMemory → Hearing → Type 0
 StationShape R listed l p = Shape alone dropped l (Does R listed l) p
 
 ruleset words = (rests_shape, checked_shape, choose_shape, sealed_shape, station_does)
@@ -61,7 +60,7 @@ taken_came (r ∷ rest) anew p =
     (either (repeats r.pieces p) _ _ (Held _) (settled_came (datagram_of (pieces.grown r anew p)) (pieces.grown r anew p) rest))
     (behind_came r _ (taken_came rest anew p))
 
-module _ (R : ring.Ring → Type 0) (listed : Book) (l : StationMemory) where
+module _ (R : Membership → Type 0) (listed : Book) (l : StationMemory) where
   came_shape : (from : ℕ) (t : pieces.Taking) → Came t → StationShape R listed l (gathered l from t)
   unfolding gathered resting
   came_shape from t (Held held) = Keeps (record l { reassemblies = held }) heard.Held

@@ -21,7 +21,7 @@ use Rattle.node_rules.specs.Drafts.{alone}
 use Rattle.node_rules.specs.Calls as calls
 use Rattle.node_rules.specs.Home.{IsHome, ReadsHome, PutsHome, CoordinatorsWriteHome, WritesKeepHome, CarryingOutKeepsHome}
 use Rattle.node_rules.proofs.Tables.{Keep, wrote_keeps, carried_keeps}
-use Rattle.node_rules.proofs.TablePuts.{PutOf, OfFloors, OfNumber, OfRing, OfMark, OfRank, OfEntry, SameHome, AreOf}
+use Rattle.node_rules.proofs.TablePuts.{Membership, RingOf, EntryOf, PutOf, OfFloors, OfNumber, OfRing, OfMark, OfRank, OfEntry, SameHome, AreOf}
 use Rattle.node_rules.proofs.TablePlans.{HomeOf, plan_puts, accept_puts, local_puts, near_puts, begin_puts}
 use Rattle.node_rules.proofs.HearingShapes.{hear_shape}
 use Rattle.node_rules.proofs.CallShapes.{accept_shape, send_shape, send_command_shape}
@@ -65,17 +65,22 @@ same_home before None s h = tt
 same_home None (Some g) s h = absurd (cc (s.same))
 same_home (Some f) (Some g) s h = let same : g.address ≡ f.address = same_Some g.address f.address s.same in same ∙ h
 
-module _ (R : ring.Ring → Type 0) (b : book.Book) (l : StationMemory) (home : (r : ring.Ring) → R r → IsHome r) where
+module _ (R : Membership → Type 0) (b : book.Book) (l : StationMemory) (home : (r : ring.Ring) → R (RingOf r) → IsHome r) where
   put_home : (w : Write) → PutOf R b l w → PutsHome w
   put_home w (OfFloors floors) = λ e. absurd (omega arith)
   put_home w (OfNumber at number low high) = λ e. absurd (omega arith)
   put_home w (OfRing r h) = λ e. ring_home r (home r h)
   put_home w (OfMark place peer small) = λ e. absurd (omega arith)
   put_home w (OfRank place x small) = λ e. absurd (omega arith)
-  put_home w (OfEntry place x small) = λ e. absurd (omega arith)
+  put_home w (OfEntry place x small y) = λ e. absurd (omega arith)
 
   pub all_home : (puts : List Write) → AreOf R b l puts → All PutsHome puts
   all_home puts are k d within = put_home _ (are k d within)
+
+-- a ring with the address 0, or an entry of any kind
+abbrev HomeMembership : Membership → Type 0
+HomeMembership (RingOf r) = IsHome r
+HomeMembership (EntryOf e) = Unit {0}
 
 pub coordinators_home : CoordinatorsWriteHome
 coordinators_home own m home = record {
@@ -88,7 +93,7 @@ coordinators_home own m home = record {
   counter = λ value. at (calls.preset_counter m.station value).puts (All-cons (PutOf (HomeOf m) m.book m.station) _ [] (OfNumber counter.limit_at value (omega arith) (omega arith)) (All-nil (PutOf (HomeOf m) m.book m.station)));
   number = λ value. at (calls.preset_number m.station value).puts (All-cons (PutOf (HomeOf m) m.book m.station) _ [] (OfNumber own_number.limit_at value (omega arith) (omega arith)) (All-nil (PutOf (HomeOf m) m.book m.station)));
   near = λ to cost now. at _ (near_puts (HomeOf m) m.book m.station to cost now);
-  begins = λ granted zero. all_home IsHome m.book m.station (λ r h. h) _ (begin_puts IsHome m granted zero);
+  begins = λ granted zero. all_home HomeMembership m.book m.station (λ r h. h) _ (begin_puts HomeMembership m granted zero);
   allows = λ eui psk. at _ (plan_puts (HomeOf m) m.book m.station in_memory _ m _ (allow_shape own m eui psk));
   depots = λ eui psk. at _ (plan_puts (HomeOf m) m.book m.station in_memory _ m _ (depot_shape own m eui psk));
   rekeys = λ index key. at _ (plan_puts (HomeOf m) m.book m.station in_memory _ m _ (rekey_shape own m index key));

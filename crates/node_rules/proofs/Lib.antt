@@ -19,3 +19,4 @@ pub mod HomePuts
 pub mod Outcomes
 pub mod Rooms
 pub mod Blank
+mod StationPuts

@@ -27,7 +27,7 @@ use Rattle.eap_psk.specs.Sessions.{peer_for, identifier_of}
 use Rattle.node_rules.specs.MemoryDrafts.{in_memory, goes_down, oldest, Unread, unread, packet_fault}
 use Rattle.node_rules.specs.Meters.{Hearing, Identity, drop_it, ends, carry_up, carries_down, carry_down, reply_with, reply, take_with, take_by, take, takes, replies, challenged, declined, kicked, activated, hear_near, hear_order, hear_join, hear_join_in, heard_by, hear_meter, joining_ends, join, leaving_ends, leave}
 use Rattle.node_rules.proofs.Shapes.{Rests, rests_shape, checked_shape, choose_shape, sealed_shape, sealing_shape, option_shape}
-use Rattle.node_rules.proofs.TablePuts.{Does, AnyRing, memory_does, down_does, begins}
+use Rattle.node_rules.proofs.TablePuts.{Does, AnyMembership, memory_does, down_does, begins}
 use Rattle.node_rules.proofs.HearingShapes.{StationShape, hear_shape}
 use Rattle.node_rules.proofs.MemoryDraftShapes.{MemoryShape, within_shape}
 
@@ -35,26 +35,26 @@ ruleset words = (rests_shape, checked_shape, choose_shape, sealed_shape, sealing
 
 module _ (x : Identity) (m : Memory) where
   abbrev IsRule : Hearing → Type 0
-  IsRule p = MemoryShape AnyRing dropped m p
+  IsRule p = MemoryShape AnyMembership dropped m p
 
   chosen : (test : Bool) (p q : Hearing) → IsRule p → IsRule q → IsRule (choose test p q)
-  chosen test p q s t = choose_shape in_memory dropped m (Does AnyRing m.book m.station) test p q s t
+  chosen test p q s t = choose_shape in_memory dropped m (Does AnyMembership m.book m.station) test p q s t
 
   passed : (fault : Option Dropped) (p : Hearing) → IsRule p → IsRule (checked dropped m fault p)
-  passed fault p s = checked_shape in_memory dropped m (Does AnyRing m.book m.station) fault p s
+  passed fault p s = checked_shape in_memory dropped m (Does AnyMembership m.book m.station) fault p s
 
-  ended : (d : Draft Memory) (answer : MeterHeard) → Does AnyRing m.book m.station d → IsRule (ends m d answer)
-  ended d answer done = sealed_shape in_memory dropped m (Does AnyRing m.book m.station) d answer done
+  ended : (d : Draft Memory) (answer : MeterHeard) → Does AnyMembership m.book m.station d → IsRule (ends m d answer)
+  ended d answer done = sealed_shape in_memory dropped m (Does AnyMembership m.book m.station) d answer done
 
   by_option : {X : Type 0} (f : X → Hearing) (o : Option X) (p : Hearing) → ((y : X) → IsRule (f y)) → IsRule p → IsRule (option_map_or f o p)
-  by_option f o p s t = option_shape in_memory dropped m (Does AnyRing m.book m.station) f o p s t
+  by_option f o p s t = option_shape in_memory dropped m (Does AnyMembership m.book m.station) f o p s t
 
   carry_up_shape : (from : Eui) (join : JoinMessage) (b : JoinBody) (now : ℕ) → IsRule (carry_up m from join b now)
   carry_up_shape from join (body.Join eap) now = search words depth 16
   carry_up_shape from join _ now = Rests _
 
   carries_down_shape : (join : JoinMessage) → IsRule (carries_down m join)
-  carries_down_shape join = by_option (λ own. ends m (goes_down own join (empty_draft m)) heard.Carried) (address_of m.station) (drop_it m BadUnit) (λ own. ended _ _ (down_does AnyRing m.book m.station own join (empty_draft m) (begins AnyRing m.book m.station m))) (Rests _)
+  carries_down_shape join = by_option (λ own. ends m (goes_down own join (empty_draft m)) heard.Carried) (address_of m.station) (drop_it m BadUnit) (λ own. ended _ _ (down_does AnyMembership m.book m.station own join (empty_draft m) (begins AnyMembership m.book m.station m))) (Rests _)
 
   carry_down_shape : (join : JoinMessage) (b : JoinBody) → IsRule (carry_down m join b)
   carry_down_shape join (body.Challenge eap) = carries_down_shape join
@@ -124,16 +124,16 @@ module _ (x : Identity) (m : Memory) where
   join_in_shape way None now = Rests _
   join_in_shape way (Some join) now = join_shape way join now
 
-  heard_by_shape : (now : ℕ) (p : Plan StationMemory (Result Heard Dropped)) (u : Option Unread) → StationShape AnyRing m.book m.station p → IsRule (heard_by x m now p u)
-  heard_by_shape now p None s = within_shape AnyRing heard.Station m p s
+  heard_by_shape : (now : ℕ) (p : Plan StationMemory (Result Heard Dropped)) (u : Option Unread) → StationShape AnyMembership m.book m.station p → IsRule (heard_by x m now p u)
+  heard_by_shape now p None s = within_shape AnyMembership heard.Station m p s
   heard_by_shape now p (Some u) s = join_in_shape u.way (join_in u.body) now
 
-  pub meter_shape : (got : Accepted) (cost note now : ℕ) → MemoryShape AnyRing dropped m (hear_meter x m got cost note now)
+  pub meter_shape : (got : Accepted) (cost note now : ℕ) → MemoryShape AnyMembership dropped m (hear_meter x m got cost note now)
   meter_shape got cost note now =
-      let p = station_rules.hear m.station got cost note now in heard_by_shape now p (unread p.answer) (hear_shape AnyRing m.book m.station got cost note now)
+      let p = station_rules.hear m.station got cost note now in heard_by_shape now p (unread p.answer) (hear_shape AnyMembership m.book m.station got cost note now)
 
-  pub joins_shape : (agent now : ℕ) → MemoryShape AnyRing joining_ends m (join x m agent now)
+  pub joins_shape : (agent now : ℕ) → MemoryShape AnyMembership joining_ends m (join x m agent now)
   joins_shape agent now = search words depth 16
 
-  pub leaves_shape : MemoryShape AnyRing leaving_ends m (leave m)
+  pub leaves_shape : MemoryShape AnyMembership leaving_ends m (leave m)
   leaves_shape = search words depth 16

@@ -2,7 +2,7 @@
 use Rattle.node_rules.specs.Laws.{AFrameRefusedChangesNothing, ADropChangesNothing, AMetersDropChangesNothing, ACoordinatorsDropChangesNothing, ASendRefusedChangesNothing, AJoinRefusedChangesNothing, AnOrderRefusedChangesNothing}
 use Rattle.std.proofs.Common.{[]}
 use Rattle.node_rules.proofs.Shapes.{refuses_cleanly}
-use Rattle.node_rules.proofs.TablePuts.{AnyRing}
+use Rattle.node_rules.proofs.TablePuts.{AnyMembership}
 use Rattle.node_rules.proofs.HearingShapes.{hear_shape}
 use Rattle.node_rules.proofs.CallShapes.{accept_shape, accepts_cleanly, send_shape, send_command_shape}
 use Rattle.node_rules.proofs.MeterShapes.{meter_shape, joins_shape, leaves_shape}
@@ -13,7 +13,7 @@ pub frames_refused : AFrameRefusedChangesNothing
 frames_refused l own a = accepts_cleanly l _ (accept_shape l own a)
 
 pub drops : ADropChangesNothing
-drops l got cost note now = refuses_cleanly _ _ l _ _ (hear_shape AnyRing [] l got cost note now)
+drops l got cost note now = refuses_cleanly _ _ l _ _ (hear_shape AnyMembership [] l got cost note now)
 
 pub meters_drops : AMetersDropChangesNothing
 meters_drops x m got cost note now = refuses_cleanly _ _ m _ _ (meter_shape x m got cost note now)
@@ -22,7 +22,7 @@ pub coordinators_drops : ACoordinatorsDropChangesNothing
 coordinators_drops own m got cost note now = refuses_cleanly _ _ m _ _ (coordinator_shape own m got cost note now)
 
 pub sends_refused : ASendRefusedChangesNothing
-sends_refused l to octets note now = (refuses_cleanly _ _ l _ _ (send_shape AnyRing [] l to octets note now), refuses_cleanly _ _ l _ _ (send_command_shape AnyRing [] l to octets now))
+sends_refused l to octets note now = (refuses_cleanly _ _ l _ _ (send_shape AnyMembership [] l to octets note now), refuses_cleanly _ _ l _ _ (send_command_shape AnyMembership [] l to octets now))
 
 pub joins_refused : AJoinRefusedChangesNothing
 joins_refused x m agent now = (refuses_cleanly _ _ m _ _ (joins_shape x m agent now), refuses_cleanly _ _ m _ _ (leaves_shape x m))

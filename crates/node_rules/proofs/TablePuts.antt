@@ -36,19 +36,24 @@ use Rattle.node_rules.specs.Calls.{idled}
 use Rattle.node_rules.specs.Coordinators.{with_book_entry, with_session}
 use Rattle.node_rules.proofs.Words.{IsDone, Fits, begun_fits, learns_done, sends_on_done, answers_done, goes_done, error_done, error_on_done, on_ring, idled_fits, remembered_fits, tags_fit, entered_fits, up_done, down_done, commanded_done, quiet_done}
 
--- The kinds of puts of a plan over such a memory, where R holds of each ring that is put: one of a table replaces an entry that is held,
--- or adds one right after them.
-pub data PutOf (R : ring.Ring → Type 0) (b : book.Book) (l : StationMemory) : Write → Type 0 where
+-- What is stored of who belongs to the network: a ring, or an entry of the book.
+pub data Membership : Type 0 where
+  RingOf : (r : ring.Ring) → Membership
+  EntryOf : (e : BookEntry) → Membership
+
+-- The kinds of puts of a plan over such a memory, where R holds of each ring and each entry of the book that is put: one of a table
+-- replaces an entry that is held, or adds one right after them.
+pub data PutOf (R : Membership → Type 0) (b : book.Book) (l : StationMemory) : Write → Type 0 where
   OfFloors : (floors : List ℕ) → PutOf R b l (routing.floors_write floors)
   OfNumber : (at : NumberSlot) (number : ℕ) → 2 ≤ at.slot → at.slot ≤ 4 → PutOf R b l (number_write at number)
-  OfRing : (r : ring.Ring) → R r → PutOf R b l (record { slot = ring.ring_slot; octets = ring.ring_octets r })
+  OfRing : (r : ring.Ring) → R (RingOf r) → PutOf R b l (record { slot = ring.ring_slot; octets = ring.ring_octets r })
   OfMark : (place : ℕ) (peer : Peer) → place ≤ length l.marks → PutOf R b l (slots.entry_write marks.peers place peer)
   OfRank : (place : ℕ) (e : RoutingEntry) → place ≤ length l.routing.entries → PutOf R b l (slots.entry_write routing.ranks place e)
-  OfEntry : (place : ℕ) (e : BookEntry) → place ≤ length b → PutOf R b l (slots.entry_write book.entries place e)
+  OfEntry : (place : ℕ) (e : BookEntry) → place ≤ length b → R (EntryOf e) → PutOf R b l (slots.entry_write book.entries place e)
 
--- a ring of any kind
-pub data AnyRing : ring.Ring → Type 0 where
-  Any : (r : ring.Ring) → AnyRing r
+-- a ring or an entry of any kind
+pub data AnyMembership : Membership → Type 0 where
+  Any : (x : Membership) → AnyMembership x
 
 -- A ring with the address of another one, or none like the other one.
 pub record SameHome (before r : ring.Ring) : Type 0 where
@@ -92,7 +97,7 @@ place_for_again b e = by_place (book.place_of (book.with_entry b e) e.eui) (has_
     by_place None h = absurd (cc)
     by_place (Some k) h = let same : k + 1 ≡ book.place_for b e.eui + 1 = same_Some (k + 1) (book.place_for b e.eui + 1) h in let small = place_for_small b e.eui in omega arith
 
-module _ (R : ring.Ring → Type 0) (b : book.Book) (l : StationMemory) where
+module _ (R : Membership → Type 0) (b : book.Book) (l : StationMemory) where
   abbrev pub AreOf : List Write → Type 0
   AreOf puts = All (PutOf R b l) puts
 
@@ -135,12 +140,12 @@ module _ (R : ring.Ring → Type 0) (b : book.Book) (l : StationMemory) where
       by_limit true = one _ (OfNumber counter.limit_at _ (omega arith) (omega arith))
       by_limit false = none
 
-  entry_of : (c : book.Book) (e : BookEntry) → book.place_for c e.eui ≤ length b → AreOf (puts_of (book.change_write c e))
-  entry_of c e small = by_holding (book.holds c e)
+  entry_of : (c : book.Book) (e : BookEntry) → book.place_for c e.eui ≤ length b → R (EntryOf e) → AreOf (puts_of (book.change_write c e))
+  entry_of c e small x = by_holding (book.holds c e)
     where
       by_holding : (h : Bool) → AreOf (puts_of (if h then None else book.entry_write c e))
       by_holding true = none
-      by_holding false = one _ (OfEntry (book.place_for c e.eui) e small)
+      by_holding false = one _ (OfEntry (book.place_for c e.eui) e small x)
 
   -- the mark of a sender, whether it is held or new
   pub mark_of : (from count : ℕ) → AreOf (puts_of (marks.keep_write l.marks from count))
@@ -176,7 +181,7 @@ module _ (R : ring.Ring → Type 0) (b : book.Book) (l : StationMemory) where
   unfolding with_next_tag
   tagged_puts d p = both _ _ p (one _ (OfNumber tag_at (tag_after d.memory.next_tag) (omega arith) (omega arith)))
 
-  pub ringed_puts : (r : ring.Ring) (d : Draft StationMemory) → R r → Puts d → Puts (with_ring r d)
+  pub ringed_puts : (r : ring.Ring) (d : Draft StationMemory) → R (RingOf r) → Puts d → Puts (with_ring r d)
   unfolding with_ring
   ringed_puts r d h p = both _ _ p (one _ (OfRing r h))
 
@@ -216,16 +221,16 @@ module _ (R : ring.Ring → Type 0) (b : book.Book) (l : StationMemory) where
       by_hop (Some hop) e = rw e (body_puts own hop to note load d p)
 
 -- A doing that is bounded, and whose puts are of these kinds.
-pub record Does {M : Type 0} (R : ring.Ring → Type 0) (b : book.Book) (l : StationMemory) (d : Draft M) : Type 0 where
+pub record Does {M : Type 0} (R : Membership → Type 0) (b : book.Book) (l : StationMemory) (d : Draft M) : Type 0 where
   pub done : IsDone l d
   pub puts : AreOf R b l d.puts
 
 -- The same before anything goes out but what waited, and before own number and counter.
-pub record Began {M : Type 0} (R : ring.Ring → Type 0) (b : book.Book) (l : StationMemory) (d : Draft M) : Type 0 where
+pub record Began {M : Type 0} (R : Membership → Type 0) (b : book.Book) (l : StationMemory) (d : Draft M) : Type 0 where
   pub fits : Fits l 0 1 d
   pub puts : AreOf R b l d.puts
 
-module _ (R : ring.Ring → Type 0) (b : book.Book) (l : StationMemory) where
+module _ (R : Membership → Type 0) (b : book.Book) (l : StationMemory) where
   -- # The doings of what a station hears
 
   pub learns_does : (own origin : ℕ) (rank : Rank) (by now : ℕ) → Does R b l (leave own origin by (with_rank origin rank by now (empty_draft l)))
@@ -263,11 +268,11 @@ module _ (R : ring.Ring → Type 0) (b : book.Book) (l : StationMemory) where
   pub begins : {M : Type 0} (m : M) → Began R b l (empty_draft m)
   begins m = record { fits = begun_fits l 1 m; puts = begun_puts R b l m }
 
-  pub rings : (r : ring.Ring) (d : Draft Memory) → R r → Began R b l d → Began R b l (on_station (with_ring r) d)
+  pub rings : (r : ring.Ring) (d : Draft Memory) → R (RingOf r) → Began R b l d → Began R b l (on_station (with_ring r) d)
   unfolding on_station
   rings r d h f = record { fits = on_ring l r d f.fits; puts = ringed_puts R b l r (station_part d) h f.puts }
 
-  pub idles : (d : Draft Memory) → R None → Began R b l d → Began R b l (on_station (λ x. with_ring None (record x { memory = idled x.memory })) d)
+  pub idles : (d : Draft Memory) → R (RingOf None) → Began R b l d → Began R b l (on_station (λ x. with_ring None (record x { memory = idled x.memory })) d)
   unfolding on_station
   idles d h f = record { fits = idled_fits l d f.fits; puts = ringed_puts R b l None (record (station_part d) { memory = idled d.memory.station }) h f.puts }
 
@@ -279,9 +284,9 @@ module _ (R : ring.Ring → Type 0) (b : book.Book) (l : StationMemory) where
   unfolding with_pair_tags
   tags made opened d f = record { fits = tags_fit l made opened d f.fits; puts = f.puts }
 
-  pub enters : (e : BookEntry) (d : Draft Memory) → book.place_for d.memory.book e.eui ≤ length b → Began R b l d → Began R b l (with_book_entry e d)
+  pub enters : (e : BookEntry) (d : Draft Memory) → book.place_for d.memory.book e.eui ≤ length b → R (EntryOf e) → Began R b l d → Began R b l (with_book_entry e d)
   unfolding with_book_entry
-  enters e d small f = record { fits = entered_fits l e d f.fits; puts = both R b l _ _ f.puts (entry_of R b l d.memory.book e small) }
+  enters e d small x f = record { fits = entered_fits l e d f.fits; puts = both R b l _ _ f.puts (entry_of R b l d.memory.book e small x) }
 
   pub up_does : (agent : ℕ) (own : Eui) (message : JoinMessage) (d : Draft Memory) → Began R b l d → Does R b l (goes_up agent own message d)
   unfolding goes_up
@@ -304,16 +309,16 @@ module _ (R : ring.Ring → Type 0) (b : book.Book) (l : StationMemory) where
 
 -- # The coordinator's book
 
-module _ (R : ring.Ring → Type 0) (m : Memory) where
+module _ (R : Membership → Type 0) (m : Memory) where
   -- the entry of a meter is the first that is put
-  pub enters_first : (e : BookEntry) → Began R m.book m.station (with_book_entry e (empty_draft m))
+  pub enters_first : (e : BookEntry) → R (EntryOf e) → Began R m.book m.station (with_book_entry e (empty_draft m))
   unfolding empty_draft
-  enters_first e = enters R m.book m.station e _ (place_for_small m.book e.eui) (begins R m.book m.station m)
+  enters_first e x = enters R m.book m.station e _ (place_for_small m.book e.eui) x (begins R m.book m.station m)
 
   -- also where its session goes on
-  pub enters_session : (s : CoordinatorSession) (e : BookEntry) → Began R m.book m.station (with_book_entry e (with_memory_by (with_session s) (empty_draft m)))
+  pub enters_session : (s : CoordinatorSession) (e : BookEntry) → R (EntryOf e) → Began R m.book m.station (with_book_entry e (with_memory_by (with_session s) (empty_draft m)))
   unfolding empty_draft with_memory_by
-  enters_session s e = enters R m.book m.station e _ (place_for_small m.book e.eui) (remembers R m.book m.station (with_session s) _ (begins R m.book m.station m))
+  enters_session s e x = enters R m.book m.station e _ (place_for_small m.book e.eui) x (remembers R m.book m.station (with_session s) _ (begins R m.book m.station m))
 
 pub ruleset station_does = (learns_does, sends_on_does, answers_does, goes_does, error_does, error_on_does)
 

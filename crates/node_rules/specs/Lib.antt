@@ -23,3 +23,4 @@ pub mod Laws
 pub mod Tables
 pub mod Home
 pub mod Replies
+pub mod StationSlots

@@ -1,6 +1,7 @@
 //! Laws of the tables of a store, whatever becomes of a plan's writes. Each is the contract of a function that does nothing.
 ghost use Rattle.node_rules.specs.Tables.{StationsWriteInPlace, MetersWriteInPlace, CoordinatorsWriteInPlace, WritesKeepTables, CarryingOutKeepsTables};
 ghost use Rattle.node_rules.specs.Home.{CoordinatorsWriteHome, WritesKeepHome, CarryingOutKeepsHome};
+ghost use Rattle.node_rules.specs.StationSlots.{StationsWriteTheirOwn, WritesKeepMembership};
 
 /// Each write of a plan to the marks, the ranks or the book replaces an entry that is held, or adds one right after them: of all
 /// plans of a station, of a meter and of the coordinator, where the marks and the ranks have at most as many entries as slots.
@@ -31,4 +32,12 @@ pub fn coordinators_write_home()
 pub fn carrying_out_keeps_home<M, A>()
     ensures carried { CarryingOutKeepsHome M A }
     ensures wrote { WritesKeepHome }
+{}
+
+/// What a station does that is not about its ring writes neither the ring nor an entry of the book, where the marks and the ranks have
+/// at most as many entries as slots; and such writes leave both as they were, whichever of them fails.
+#[tactic(auto)]
+pub fn stations_write_their_own()
+    ensures stations { StationsWriteTheirOwn }
+    ensures wrote { WritesKeepMembership }
 {}

@@ -119,15 +119,17 @@ kept_taken layout left place records table last octets (Some next) rests w is e 
     rest next (sym more ∙ e) (omega (arith, ap length new.longer, length-append table (new.entry ∷ []))) (kept_next layout place table next records octets rests kept len is new)
 
 kept_step : {A : Type 0} (layout : Layout A) (left place : ℕ) (records : Records) (table last : List A) (o : Option (List ℕ)) → ReadsAtRest layout
+    → place ≤ layout.slots
     → get records (slot_of layout place) ≡ o
     → opened_from layout (suc left) place records table ≡ Ok last → length table ≡ place → IsGapless layout records → KeptBelow layout place table records
     → ((next : List A) → opened_from layout left (place + 1) records next ≡ Ok last → length next ≡ place + 1 → KeptBelow layout (place + 1) next records → IsStored layout last records)
     → IsStored layout last records
-kept_step layout left place records table last (Some octets) rests is e len gapless kept rest = kept_taken layout left place records table last octets _ rests refl is e len kept rest
-kept_step layout left place records table last None rests is e len gapless kept rest =
+kept_step layout left place records table last (Some octets) rests low is e len gapless kept rest = kept_taken layout left place records table last octets _ rests refl is e len kept rest
+kept_step layout left place records table last None rests low is e len gapless kept rest =
     let empty = opened_from-empty layout (suc left) place records table is in
     let same : table ≡ last = cc in
     subst (λ t. IsStored layout t records) same (record {
+      short = omega arith;
       each = λ q h. elim (cases_lt q place) [
         | inl lower ↦ kept q lower
         | inr above ↦ ap (option_map (layout.read q)) (none_at q above h) ∙ sym (ap (option_map (λ p. Some (layout.rest p))) (slice_get_past table q (omega arith)))
@@ -146,9 +148,9 @@ kept_opened : {A : Type 0} (layout : Layout A) (left place : ℕ) (records : Rec
 kept_opened layout zero place records table last rests e len all gapless kept =
     let end = opened_from-none_left layout place records table in
     let same : table ≡ last = cc in
-    subst (λ t. IsStored layout t records) same (record { each = λ q h. kept q (omega arith) })
+    subst (λ t. IsStored layout t records) same (record { short = omega arith; each = λ q h. kept q (omega arith) })
 kept_opened layout (suc left) place records table last rests e len all gapless kept =
-    kept_step layout left place records table last _ rests refl e len gapless kept
+    kept_step layout left place records table last _ rests (omega arith) refl e len gapless kept
     (λ next e' len' kept'. kept_opened layout left (place + 1) records next last rests e' len' (omega arith) gapless kept')
 
 -- an opened table is stored, where no record stands behind the first empty slot

@@ -3,7 +3,7 @@ use Rattle.std.proofs.Common.{◌≡◌, ◌≢◌, ◌⊎◌, inl, inr, ℕ, tr
 use Rattle.std.proofs.lemmas.Bool.{cases_eq, cases_lt}
 use Rattle.std.proofs.lemmas.Bool.Decides.{nat_tests}
 use Rattle.std.proofs.lemmas.Grind.{common_steps}
-use Rattle.std.proofs.lemmas.List.{length-set, get_or-set_same, get_or-set_other, get_or_append_left, append-nil, drop_all, take_all}
+use Rattle.std.proofs.lemmas.List.{length-set, length-map, get_or-set_same, get_or-set_other, get_or_append_left, append-nil, drop_all, take_all}
 use Rattle.std.proofs.lemmas.List.Quantifiers.{all_pairs_push, position-Some}
 use Rattle.std.proofs.lemmas.List.Sums.{fails_before_first, position_or_len_is}
 use Rattle.std.proofs.lemmas.Option.{slice_get-get_or}
@@ -158,10 +158,11 @@ IsTable-push {A = A} layout table e h room free = record {
 
 -- one place is written, in the table and in the records
 stored_at : {A : Type 0} (layout : Layout A) (table next : List A) (old new : Records) (place : ℕ) (e : A)
-    → IsStored layout table old → slice_get next place ≡ Some e
+    → IsStored layout table old → length next ≤ layout.slots → slice_get next place ≡ Some e
     → ((q : ℕ) → q ≢ place → slice_get next q ≡ slice_get table q) → new ≡ insert old (slot_of layout place) (layout.octets place e)
     → layout.read place (layout.octets place e) ≡ Some (layout.rest e) → IsStored layout next new
-stored_at layout table next old new place e stored there others written reads = record {
+stored_at layout table next old new place e stored short there others written reads = record {
+  short = short;
   each = λ q within.
       elim (cases_eq q place) [
         | inl here ↦
@@ -180,13 +181,13 @@ pub stored_set : {A : Type 0} (layout : Layout A) (table : List A) (old new : Re
     → IsStored layout table old → place < length table → new ≡ insert old (slot_of layout place) (layout.octets place e)
     → layout.read place (layout.octets place e) ≡ Some (layout.rest e) → IsStored layout (set table place e) new
 stored_set layout table old new place e stored within written reads =
-    stored_at layout table (set table place e) old new place e stored (slice_get-set table place e within) (λ q ne. slice_get-set_other table place q e ne) written reads
+    stored_at layout table (set table place e) old new place e stored (omega (arith, stored.short, length-set table place e)) (slice_get-set table place e within) (λ q ne. slice_get-set_other table place q e ne) written reads
 
 pub stored_push : {A : Type 0} (layout : Layout A) (table : List A) (old new : Records) (e : A)
-    → IsStored layout table old → new ≡ insert old (slot_of layout (length table)) (layout.octets (length table) e)
+    → IsStored layout table old → length table < layout.slots → new ≡ insert old (slot_of layout (length table)) (layout.octets (length table) e)
     → layout.read (length table) (layout.octets (length table) e) ≡ Some (layout.rest e) → IsStored layout (table ++ e ∷ []) new
-stored_push layout table old new e stored written reads =
-    stored_at layout table (table ++ e ∷ []) old new (length table) e stored (slice_get-push table e) (λ q ne. slice_get-push_other table q e ne) written reads
+stored_push layout table old new e stored room written reads =
+    stored_at layout table (table ++ e ∷ []) old new (length table) e stored (omega (arith, length-append table (e ∷ []))) (slice_get-push table e) (λ q ne. slice_get-push_other table q e ne) written reads
 
 -- whatever becomes of the put of one place, what is stored is the table before or after
 pub set_either : {A : Type 0} (layout : Layout A) (table : List A) (old new : Records) (place : ℕ) (e : A)
@@ -196,10 +197,10 @@ set_either layout table old new place e stored within (inl same) reads = inl (su
 set_either layout table old new place e stored within (inr written) reads = inr (stored_set layout table old new place e stored within written reads)
 
 pub push_either : {A : Type 0} (layout : Layout A) (table : List A) (old new : Records) (e : A)
-    → IsStored layout table old → (new ≡ old) ⊎ (new ≡ insert old (slot_of layout (length table)) (layout.octets (length table) e))
+    → IsStored layout table old → length table < layout.slots → (new ≡ old) ⊎ (new ≡ insert old (slot_of layout (length table)) (layout.octets (length table) e))
     → layout.read (length table) (layout.octets (length table) e) ≡ Some (layout.rest e) → IsStored layout table new ⊎ IsStored layout (table ++ e ∷ []) new
-push_either layout table old new e stored (inl same) reads = inl (subst (λ (r : Records). IsStored layout table r) (sym same) stored)
-push_either layout table old new e stored (inr written) reads = inr (stored_push layout table old new e stored written reads)
+push_either layout table old new e stored room (inl same) reads = inl (subst (λ (r : Records). IsStored layout table r) (sym same) stored)
+push_either layout table old new e stored room (inr written) reads = inr (stored_push layout table old new e stored room written reads)
 
 -- what is stored of the entry at a place
 abbrev shown : {A : Type 0} → Layout A → Option A → Option (Option A)
@@ -214,6 +215,7 @@ shown_same layout (Some b) e d is h = ap (λ p. Some (Some p)) (sym h)
 pub stored_rest : {A : Type 0} (layout : Layout A) (table : List A) (records : Records) (place : ℕ) (e : A) → place < length table
     → IfSome (slice_get table place) (λ before. layout.rest e ≡ layout.rest before) → IsStored layout table records → IsStored layout (set table place e) records
 stored_rest layout table records place e within same stored = record {
+  short = omega (arith, stored.short, length-set table place e);
   each = λ q inside.
       elim (cases_eq q place) [
         | inl here ↦
@@ -228,6 +230,7 @@ stored_rest layout table records place e within same stored = record {
 pub stored_map : {A : Type 0} (layout : Layout A) (f : A → A) (table : List A) (records : Records)
     → ((e : A) → layout.rest (f e) ≡ layout.rest e) → IsStored layout table records → IsStored layout (map f table) records
 stored_map {A = A} layout f table records same stored = record {
+  short = omega (arith, stored.short, length-map table f);
   each = λ q within. stored.each q within ∙ sym (ap (option_map (λ p. Some (layout.rest p))) (slice_get-map f table q) ∙ shown (slice_get table q));
 }
   where
@@ -239,6 +242,7 @@ stored_map {A = A} layout f table records same stored = record {
 pub stored_elsewhere : {A : Type 0} (layout : Layout A) (table : List A) (old new : Records) (first last : ℕ)
     → IsStored layout table old → SameOutside first last old new → (last < layout.first) ⊎ (layout.first + layout.slots ≤ first) → IsStored layout table new
 stored_elsewhere layout table old new first last stored same apart = record {
+  short = stored.short;
   each = λ q h. ap (option_map (layout.read q)) (same (slot_of layout q) (outside q h apart)) ∙ stored.each q h;
 }
   where

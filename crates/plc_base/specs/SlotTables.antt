@@ -50,8 +50,9 @@ abbrev pub IsFree : {A : Type 0} → Layout A → List A → ℕ → ℕ → Typ
 IsFree layout table place key =
     (q : ℕ) → q < length table → q ≢ place → IfSome (slice_get table q) (λ entry. layout.key entry ≢ key)
 
--- What the table holds as stored is what the records give, and no record stands behind them.
+-- What the table holds as stored is what the records give, no record stands behind them, and each entry has a slot.
 pub record IsStored {A : Type 0} (layout : Layout A) (table : List A) (records : Records) : Type 0 where
+  pub short : length table ≤ layout.slots
   pub each : (place : ℕ) → place < layout.slots
       → option_map (layout.read place) (get records (slot_of layout place))
       ≡ option_map (λ entry. Some (layout.rest entry)) (slice_get table place)

@@ -127,7 +127,7 @@ holds first was records (elsewhere w old new before floors others) =
       sound = h.sound;
       kept = record {
         floors = ap floors_in floors ∙ h.kept.floors;
-        ranks = record { each = λ place within. ap (option_map (ranks.read place)) (others place within) ∙ h.kept.ranks.each place within };
+        ranks = record { short = h.kept.ranks.short; each = λ place within. ap (option_map (ranks.read place)) (others place within) ∙ h.kept.ranks.each place within };
       };
       above = h.above;
       live = h.live;

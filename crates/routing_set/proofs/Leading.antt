@@ -70,7 +70,7 @@ push_leads t e f x = leads_one IsRoutingIn t _ _ (λ r k.
       ranged = x;
       kept = record {
         floors = floors_stay t r (length t.entries) (octets_of e) k.kept;
-        ranks = stored_push ranks t.entries r _ e k.kept.ranks refl (reads_entry e (length t.entries) f);
+        ranks = stored_push ranks t.entries r _ e k.kept.ranks (let longer = length-append t.entries (e ∷ []) in omega (arith, x.sound.entries.short)) refl (reads_entry e (length t.entries) f);
       };
     })
 

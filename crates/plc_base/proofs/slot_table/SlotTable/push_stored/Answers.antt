@@ -23,7 +23,7 @@ returns-clause-kept g c =
     let new = (g.K.Keeper.store c.store_entry.new.keeper).records in
     let entry = c.args.entry in
     rw c.push.ensures.items
-    (stored_push layout items old new entry (subst (λ (t : List g.row.E.Denot). IsStored layout t old) (sym c.self.view_is) c.requires.kept)
+    (stored_push layout items old new entry (subst (λ (t : List g.row.E.Denot). IsStored layout t old) (sym c.self.view_is) c.requires.kept) (omega (arith, c.requires.room, ap length c.self.view_is))
     (subst (λ (k : ℕ). new ≡ insert old (slot_of layout k) (layout.octets k entry)) c.len.ensures.value c.in_ok-store_entry.ensures.store.stored)
     (subst (λ (k : ℕ). layout.read k (layout.octets k entry) ≡ Some (layout.rest entry)) c.len.ensures.value c.store_entry.ensures.reads_back))
 
@@ -34,7 +34,7 @@ returns-in_err-store_entry-clause-either g c =
     let new = (g.K.Keeper.store c.store_entry.new.keeper).records in
     let table = c.args.self.now in
     let len : c.len.result ≡ length table = c.len.ensures.value ∙ ap length c.self.view_is in
-    push_either layout table old new c.args.entry c.requires.kept
+    push_either layout table old new c.args.entry c.requires.kept c.requires.room
     (subst (λ (k : ℕ). (new ≡ old) ⊎ (new ≡ insert old (slot_of layout k) (layout.octets k c.args.entry))) len c.store_entry.ensures.store.old_or_new)
     (subst (λ (k : ℕ). layout.read k (layout.octets k c.args.entry) ≡ Some (layout.rest c.args.entry)) len c.store_entry.ensures.reads_back)
 
@@ -45,6 +45,6 @@ returns-clause-either g c =
     let new = (g.K.Keeper.store c.store_entry.new.keeper).records in
     let table = c.args.self.now in
     let len : c.len.result ≡ length table = c.len.ensures.value ∙ ap length c.self.view_is in
-    push_either layout table old new c.args.entry c.requires.kept
+    push_either layout table old new c.args.entry c.requires.kept c.requires.room
     (subst (λ (k : ℕ). (new ≡ old) ⊎ (new ≡ insert old (slot_of layout k) (layout.octets k c.args.entry))) len c.store_entry.ensures.store.old_or_new)
     (subst (λ (k : ℕ). layout.read k (layout.octets k c.args.entry) ≡ Some (layout.rest c.args.entry)) len c.store_entry.ensures.reads_back)
