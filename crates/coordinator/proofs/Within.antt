@@ -53,6 +53,7 @@ writes_below s t (w ∷ rest) done below (false, mid, p, u, stop) slot high =
 
 pub book_beside : (b : book.Book) (s t : Store) (ps : List Write) (done : Bool) → AreBelow ps → Wrote s ps done t → book.IsKept b s.records → book.IsKept b t.records
 book_beside b s t ps done below h kept = record {
+  short = kept.short;
   each = λ q inside. ap (option_map (book.entries.read q)) (writes_below s t ps done below h.by (slot_of book.entries q) (omega arith)) ∙ kept.each q inside;
 }
 

@@ -22,6 +22,7 @@ kept_elsewhere routing old new first last kept same floors table = record {
 pub stored_beside : {A : Type 0} (layout : Layout A) (table : List A) (old new : Records) → IsStored layout table old → SameElsewhere old new → 5 < layout.first
     → (layout.first + layout.slots ≤ 0x0200) ⊎ (0x0240 ≤ layout.first) → IsStored layout table new
 stored_beside layout table old new stored same behind apart = record {
+  short = stored.short;
   each = λ place within. ap (option_map (layout.read place)) (same (slot_of layout place) (differs place) (outside place within apart)) ∙ stored.each place within;
 }
   where
