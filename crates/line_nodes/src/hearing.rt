@@ -1,0 +1,152 @@
+//! What a node makes of a frame that it accepted.
+ghost use Rattle.std.specs.Prelude.{◌≡◌, ◌<◌, [], length, IfSome, slice_get};
+ghost use Rattle.node_rules.specs.Ciphers.{network};
+ghost use Rattle.line_rules.specs.Answers as rules;
+ghost use Rattle.line_rules.specs.Steps.{hears};
+ghost use Rattle.line_nodes.specs.Receiving.{MayHear, Received, Tells};
+
+use crate::nodes::Nodes;
+use crate::reception::Reception;
+use line_rules::Answer;
+use node_rules::{Accepted, CoordinatorHeard, Dropped, Heard, MeterHeard};
+use plc_base::{DatagramBuf, LinkCost, Out};
+
+// A word and nothing beside it.
+fn only(answer: Answer) -> Reception
+    ensures { Tells result [] (rules.only answer) }
+{
+    Reception {
+        answer,
+        up: None,
+        took: false,
+        done: None,
+    }
+}
+
+// The word of a frame that was accepted and dropped.
+fn drop_word(reason: Dropped) -> Answer
+    ensures { result ≡ rules.drop_word reason }
+{
+    match reason {
+        Dropped::BadUnit => Answer::BadUnit,
+        Dropped::NoRoute => Answer::NoRoute,
+        Dropped::HopsSpent => Answer::HopsSpent,
+        Dropped::NotBetter => Answer::NotBetter,
+        Dropped::CostSpent => Answer::CostSpent,
+        Dropped::RoutesFull => Answer::RoutesFull,
+        Dropped::NotAllowed => Answer::NotAllowed,
+        Dropped::NoSession => Answer::NoSession,
+        Dropped::SessionsFull => Answer::SessionsFull,
+        Dropped::NoRandom => Answer::NoRandom,
+        Dropped::Form => Answer::Form,
+        Dropped::OtherSession => Answer::OtherSession,
+        Dropped::BadMac => Answer::BadMac,
+        Dropped::BadChannel => Answer::BadChannel,
+        Dropped::NoSuccess => Answer::NoSuccess,
+        Dropped::NotHeld => Answer::NotHeld,
+        Dropped::BufferFull => Answer::BufferFull,
+        Dropped::SeqSpent => Answer::SeqSpent,
+        Dropped::CounterSpent => Answer::CounterSpent,
+        Dropped::Store => Answer::Store,
+    }
+}
+
+// What a station made of a frame. A datagram is moved into the buffer.
+fn station_told(heard: Heard, datagram: &mut DatagramBuf) -> Reception
+    ensures { Tells result datagram.new (rules.station_reception heard) }
+{
+    match heard {
+        Heard::Up { note, octets, .. } => {
+            *datagram = octets;
+            Reception {
+                answer: Answer::Up,
+                up: Some(note),
+                took: false,
+                done: None,
+            }
+        }
+        Heard::Held => only(Answer::Held),
+        Heard::Relayed => only(Answer::Relayed),
+        Heard::Answered => only(Answer::Answered),
+        Heard::Learned => only(Answer::Learned),
+        Heard::Broken => only(Answer::Broken),
+        Heard::Reported => only(Answer::Reported),
+        // A node reads each joining command by itself, and no line of a script sends the commands 03, 04 and 05.
+        Heard::Joining { .. } => only(Answer::BadUnit),
+        Heard::Local { .. } => only(Answer::BadUnit),
+    }
+}
+
+// What a meter made of a frame.
+fn meter_told(heard: Result<MeterHeard, Dropped>, datagram: &mut DatagramBuf) -> Reception
+    ensures { Tells result datagram.new (rules.meter_reception heard) }
+{
+    match heard {
+        Ok(MeterHeard::Station(heard)) => station_told(heard, datagram),
+        Ok(MeterHeard::Carried) => only(Answer::Carried),
+        Ok(MeterHeard::Replied) => only(Answer::Replied),
+        Ok(MeterHeard::Took(_)) => Reception {
+            answer: Answer::Took,
+            up: None,
+            took: true,
+            done: None,
+        },
+        Ok(MeterHeard::Noted) => only(Answer::Noted),
+        Ok(MeterHeard::Declined) => only(Answer::Declined),
+        Ok(MeterHeard::Left) => only(Answer::Left),
+        Ok(MeterHeard::Activated) => only(Answer::Activated),
+        Err(reason) => only(drop_word(reason)),
+    }
+}
+
+// What the coordinator made of a frame.
+fn coordinator_told(
+    heard: Result<CoordinatorHeard, Dropped>,
+    datagram: &mut DatagramBuf,
+) -> Reception
+    ensures { Tells result datagram.new (rules.coordinator_reception heard) }
+{
+    match heard {
+        Ok(CoordinatorHeard::Station(heard)) => station_told(heard, datagram),
+        Ok(CoordinatorHeard::Challenged) => only(Answer::Challenged),
+        Ok(CoordinatorHeard::Keyed { .. }) => only(Answer::Keyed),
+        Ok(CoordinatorHeard::Done { eui, .. }) => Reception {
+            answer: Answer::Done,
+            up: None,
+            took: false,
+            done: Some(eui),
+        },
+        Ok(CoordinatorHeard::Declined) => only(Answer::Declined),
+        Err(reason) => only(drop_word(reason)),
+    }
+}
+
+impl Nodes {
+    /// A node hears a frame that it accepted, over a link of this cost, under a number of the caller's, at a time in seconds. A
+    /// datagram that is handed up is then in `datagram`, and what goes out is in `out`.
+    pub fn hear(
+        &mut self,
+        number: usize,
+        got: &Accepted,
+        cost: LinkCost,
+        note: u32,
+        now: u64,
+        datagram: &mut DatagramBuf,
+        out: &mut Out,
+    ) -> Reception
+        requires there { number < length self.old }
+        requires accepted { IfSome (slice_get self.old number) (λ x. MayHear x got.now) }
+        ensures { IfSome (slice_get self.old number) (λ x. Received (hears network x got.now cost note now)
+            self.old number result datagram.new out.new self.new) }
+    {
+        if number > 0 {
+            let heard = self.meters[number - 1].hear(got, cost, note, now, out);
+            return meter_told(heard, datagram);
+        }
+        let Some(coordinator) = &mut self.coordinator else {
+            return only(Answer::Store);
+        };
+        let heard = coordinator.hear(got, cost, note, now, out);
+        coordinator_told(heard, datagram)
+    }
+}

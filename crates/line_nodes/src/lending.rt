@@ -1,0 +1,102 @@
+//! What a node's station does for the line: it accepts and sends, and its links break.
+ghost use Rattle.std.specs.Prelude.{◌≡◌, ◌<◌, length, Ok, Err, IfSome, IfOk, slice_get};
+ghost use Rattle.node_rules.specs.Accepting as accepting;
+ghost use Rattle.node_rules.specs.Calls as calls;
+ghost use Rattle.node_rules.specs.Carrying.{nothing};
+ghost use Rattle.node_rules.specs.Ciphers.{network};
+ghost use Rattle.node_rules.specs.Frames.{arrived};
+ghost use Rattle.node_rules.specs.MemoryDrafts.{with_station};
+ghost use Rattle.node_rules.specs.NodeSteps.{acts, of_station, changing};
+ghost use Rattle.node_rules.specs.Showing.{shown_of};
+ghost use Rattle.line_rules.specs.declared.event.Answer.TheVariants as said;
+ghost use Rattle.line_nodes.specs.Doings.{Did};
+ghost use Rattle.line_nodes.specs.Receiving.{MayHear};
+
+use crate::nodes::Nodes;
+use line_rules::Answer;
+use node_rules::{Accepted, FrameRefusal, SendRefusal, SentHow, Shown};
+use plc_base::{Out, Short};
+
+// The word for a link that broke.
+fn broken_word(halted: bool) -> Answer {
+    if halted { Answer::Halted } else { Answer::Broken }
+}
+
+impl Nodes {
+    /// A node looks at octets that come to it. Ok exactly where it accepts them.
+    pub fn accept(&mut self, number: usize, octets: &[u8]) -> Result<Accepted, FrameRefusal>
+        requires there { number < length self.old }
+        ensures did { IfSome (slice_get self.old number) (λ x. Did
+            (acts x (Err FrameRefusal.Halted) (λ m. of_station m (accepting.accept m.station x.eui
+            (arrived network octets.now)))) self.old number result nothing self.new) }
+        ensures hears { IfOk result (λ got. IfSome (slice_get self.new number) (λ x. MayHear x got)) }
+    {
+        if number > 0 {
+            return self.meters[number - 1].station().accept(octets);
+        }
+        let Some(coordinator) = &mut self.coordinator else {
+            return Err(FrameRefusal::Halted);
+        };
+        coordinator.station().accept(octets)
+    }
+
+    /// A node sends a datagram to an address, under a number of the caller's, at a time in seconds. What goes out is in `out`.
+    pub fn send(
+        &mut self,
+        number: usize,
+        to: Short,
+        datagram: &[u8],
+        note: u32,
+        now: u64,
+        out: &mut Out,
+    ) -> Result<SentHow, SendRefusal>
+        requires there { number < length self.old }
+        ensures { IfSome (slice_get self.old number) (λ x. Did
+            (acts x (Err SendRefusal.Halted) (λ m. of_station m (calls.send m.station to datagram.now note now)))
+            self.old number result out.new self.new) }
+    {
+        if number > 0 {
+            return self.meters[number - 1]
+                .station()
+                .send(to, datagram, note, now, out);
+        }
+        let Some(coordinator) = &mut self.coordinator else {
+            return Err(SendRefusal::Halted);
+        };
+        coordinator.station().send(to, datagram, note, now, out)
+    }
+
+    /// The link of a node to a neighbour broke.
+    pub fn broke(&mut self, number: usize, next: Short) -> Answer
+        requires there { number < length self.old }
+        ensures { IfSome (slice_get self.old number) (λ x. Did
+            (acts x said.Halted (λ m. changing said.Broken (with_station (calls.broke next m.station) m)))
+            self.old number result nothing self.new) }
+    {
+        if number > 0 {
+            let broke = self.meters[number - 1].station().broke(next);
+            return broken_word(broke.is_err());
+        }
+        let Some(coordinator) = &mut self.coordinator else {
+            return Answer::Halted;
+        };
+        let broke = coordinator.station().broke(next);
+        broken_word(broke.is_err())
+    }
+
+    /// Fills in what is shown of a node.
+    pub fn show(&mut self, number: usize, out: &mut Shown)
+        requires there { number < length self.old }
+        ensures shown { IfSome (slice_get self.old number) (λ x. out.new ≡ shown_of x) }
+        ensures same { self.new ≡ self.old }
+    {
+        if number > 0 {
+            self.meters[number - 1].station().shown(out);
+            return;
+        }
+        let Some(coordinator) = &mut self.coordinator else {
+            return;
+        };
+        coordinator.station().shown(out);
+    }
+}
