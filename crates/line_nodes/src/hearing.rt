@@ -1,19 +1,16 @@
 //! What a node makes of a frame that it accepted.
-ghost use Rattle.std.specs.Prelude.{◌≡◌, ◌<◌, [], length, IfSome, slice_get};
-ghost use Rattle.node_rules.specs.Ciphers.{network};
+ghost use Rattle.std.specs.Prelude.{◌≡◌, ℕ, List};
 ghost use Rattle.line_rules.specs.Answers as rules;
-ghost use Rattle.line_rules.specs.Steps.{hears};
-ghost use Rattle.line_nodes.specs.Receiving.{MayHear, Received, Tells};
+ghost use Rattle.line_nodes.specs.Receiving.{Tells};
 
-use crate::nodes::Nodes;
 use crate::reception::Reception;
 use line_rules::Answer;
-use node_rules::{Accepted, CoordinatorHeard, Dropped, Heard, MeterHeard};
-use plc_base::{DatagramBuf, LinkCost, Out};
+use node_rules::{Dropped, Heard, MeterHeard};
+use plc_base::DatagramBuf;
 
 // A word and nothing beside it.
 fn only(answer: Answer) -> Reception
-    ensures { Tells result [] (rules.only answer) }
+    ensures { (datagram : List ℕ) → Tells result datagram (rules.only answer) }
 {
     Reception {
         answer,
@@ -78,7 +75,10 @@ fn station_told(heard: Heard, datagram: &mut DatagramBuf) -> Reception
 }
 
 // What a meter made of a frame.
-fn meter_told(heard: Result<MeterHeard, Dropped>, datagram: &mut DatagramBuf) -> Reception
+pub(crate) fn meter_told(
+    heard: Result<MeterHeard, Dropped>,
+    datagram: &mut DatagramBuf,
+) -> Reception
     ensures { Tells result datagram.new (rules.meter_reception heard) }
 {
     match heard {
@@ -96,57 +96,5 @@ fn meter_told(heard: Result<MeterHeard, Dropped>, datagram: &mut DatagramBuf) ->
         Ok(MeterHeard::Left) => only(Answer::Left),
         Ok(MeterHeard::Activated) => only(Answer::Activated),
         Err(reason) => only(drop_word(reason)),
-    }
-}
-
-// What the coordinator made of a frame.
-fn coordinator_told(
-    heard: Result<CoordinatorHeard, Dropped>,
-    datagram: &mut DatagramBuf,
-) -> Reception
-    ensures { Tells result datagram.new (rules.coordinator_reception heard) }
-{
-    match heard {
-        Ok(CoordinatorHeard::Station(heard)) => station_told(heard, datagram),
-        Ok(CoordinatorHeard::Challenged) => only(Answer::Challenged),
-        Ok(CoordinatorHeard::Keyed { .. }) => only(Answer::Keyed),
-        Ok(CoordinatorHeard::Done { eui, .. }) => Reception {
-            answer: Answer::Done,
-            up: None,
-            took: false,
-            done: Some(eui),
-        },
-        Ok(CoordinatorHeard::Declined) => only(Answer::Declined),
-        Err(reason) => only(drop_word(reason)),
-    }
-}
-
-impl Nodes {
-    /// A node hears a frame that it accepted, over a link of this cost, under a number of the caller's, at a time in seconds. A
-    /// datagram that is handed up is then in `datagram`, and what goes out is in `out`.
-    pub fn hear(
-        &mut self,
-        number: usize,
-        got: &Accepted,
-        cost: LinkCost,
-        note: u32,
-        now: u64,
-        datagram: &mut DatagramBuf,
-        out: &mut Out,
-    ) -> Reception
-        requires there { number < length self.old }
-        requires accepted { IfSome (slice_get self.old number) (λ x. MayHear x got.now) }
-        ensures { IfSome (slice_get self.old number) (λ x. Received (hears network x got.now cost note now)
-            self.old number result datagram.new out.new self.new) }
-    {
-        if number > 0 {
-            let heard = self.meters[number - 1].hear(got, cost, note, now, out);
-            return meter_told(heard, datagram);
-        }
-        let Some(coordinator) = &mut self.coordinator else {
-            return only(Answer::Store);
-        };
-        let heard = coordinator.hear(got, cost, note, now, out);
-        coordinator_told(heard, datagram)
     }
 }

@@ -1,0 +1,4 @@
+mod Acting
+mod Places
+mod AcceptingSteps
+mod HearingSteps
