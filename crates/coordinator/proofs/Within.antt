@@ -1,18 +1,18 @@
 -- Plans of the station that are carried out, in the coordinator.
-use Rattle.std.proofs.Common.{◌≡◌, ℕ, ◌≤◌, ◌<◌, ◌++◌, Bool, true, false, List, [], ◌∷◌, Option, Some, None, Result, inr, refl, sym, ap, subst, ◌∙◌, arith}
+use Rattle.std.proofs.Common.{◌≡◌, ℕ, ◌≤◌, ◌<◌, ◌++◌, Bool, true, false, List, [], ◌∷◌, Option, Some, None, Result, inl, inr, refl, sym, ap, subst, ◌∙◌, arith}
 use Rattle.std.specs.Prelude.{if◌then◌else◌, ◌==◌, IfSome, ⊤}
-use Rattle.std.specs.Option.{option_map}
+use Rattle.std.specs.Option.{option_map, option_and_then}
 use Rattle.std.specs.FinMap.{get}
 use Rattle.plc_base.specs.Grant.{Granted}
 use Rattle.plc_base.specs.declared.key.Key.{Key}
-use Rattle.plc_base.specs.Keeper.{Store, Write}
+use Rattle.plc_base.specs.Keeper.{Records, Store, Write}
 use Rattle.plc_base.specs.Writes.{Writes, Wrote, puts_of}
 use Rattle.plc_base.specs.SlotTables.{slot_of}
 use Rattle.plc_base.specs.declared.out_frame.Out.{Out}
 use Rattle.plc_base.proofs.StoreLemmas.{stores_elsewhere}
 use Rattle.frame_counters.specs.SendCounter.{Counting, reserve_write, passes, limit_write, raised}
 use Rattle.routing_set.specs.OwnNumber as number
-use Rattle.group_keys.specs.KeyRing.{Ring, with_key, with_active}
+use Rattle.group_keys.specs.KeyRing.{Ring, IsOldRingOrKept, with_key, with_active}
 use Rattle.group_keys.specs.KeyBook as book
 use Rattle.node_rules.specs.declared.refusal.CoordinatorRefusal.{CoordinatorRefusal}
 use Rattle.node_rules.specs.Memory.{StationMemory, Memory, address_of}
@@ -25,7 +25,7 @@ use Rattle.node_rules.specs.States.{State}
 use Rattle.node_rules.specs.Composing.{seen}
 use Rattle.node_rules.proofs.Composing.{carries_within}
 use Rattle.node_rules.specs.Carrying.{Carries}
-use Rattle.coordinator.specs.CoordinatorAgreement.{HoldsWith, Holds}
+use Rattle.coordinator.specs.CoordinatorAgreement.{HoldsWith, Holds, HasHome}
 
 -- so its station did
 pub within_carried : {A B : Type 0} (f : StationMemory → Memory) (reads : A → B) (s t : State StationMemory) (p : Plan StationMemory A) (answer : A) (out : Out) → Carries s p answer out t
@@ -113,3 +113,8 @@ keyed_home (Some g) index key home = by_index (index == 0)
 pub active_home : (r : Ring) (index : ℕ) → option_map (λ (g : Granted). g.address) r ≡ Some 0 → option_map (λ (g : Granted). g.address) (with_active r index) ≡ Some 0
 active_home None index home = home
 active_home (Some g) index home = home
+
+-- whatever became of the put of a ring with the address 0, the records hold one
+pub ring_home : (r : Ring) (old new : Records) → option_map (λ (g : Granted). g.address) r ≡ Some 0 → IsOldRingOrKept r old new → HasHome old → HasHome new
+ring_home r old new home (inl same) h = ap (option_and_then (option_map (λ (g : Granted). g.address))) same ∙ h
+ring_home r old new home (inr kept) h = ap (option_and_then (option_map (λ (g : Granted). g.address))) kept.stored ∙ home

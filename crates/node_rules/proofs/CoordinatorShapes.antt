@@ -39,12 +39,8 @@ use Rattle.node_rules.proofs.MemoryDraftShapes.{MemoryShape, within_shape}
 
 ruleset words = (rests_shape, checked_shape, choose_shape, sealed_shape, sealing_shape, memory_does, enters_first, enters_session)
 
-module _ (own : CoordinatorIdentity) (m : Memory) where
-  -- the rings that it puts have the address of its own one
-  abbrev Home : Membership → Type 0
-  Home (RingOf r) = SameHome m.station.ring r
-  Home (EntryOf e) = Unit {0}
-
+-- whatever holds of all entries, and of the rings that it puts
+module _ (Home : Membership → Type 0) (entered : (e : BookEntry) → Home (EntryOf e)) (own : CoordinatorIdentity) (m : Memory) where
   abbrev IsRule : Hearing → Type 0
   IsRule p = MemoryShape Home dropped m p
 
@@ -63,14 +59,14 @@ module _ (own : CoordinatorIdentity) (m : Memory) where
   -- # What is heard
 
   declines_shape : (way : Way) (join : JoinMessage) (now : ℕ) → IsRule (declines m way join now)
-  declines_shape (Air eui) join now = search words depth 16
-  declines_shape (Near agent) join now = search words depth 16
-  declines_shape (Mesh origin) join now = search words depth 16
+  declines_shape (Air eui) join now = search (words, entered) depth 16
+  declines_shape (Near agent) join now = search (words, entered) depth 16
+  declines_shape (Mesh origin) join now = search (words, entered) depth 16
 
   challenges_shape : (way : Way) (server : Server) (now : ℕ) → IsRule (challenges m way server now)
-  challenges_shape (Air eui) server now = search words depth 16
-  challenges_shape (Near agent) server now = search words depth 16
-  challenges_shape (Mesh origin) server now = search words depth 16
+  challenges_shape (Air eui) server now = search (words, entered) depth 16
+  challenges_shape (Near agent) server now = search (words, entered) depth 16
+  challenges_shape (Mesh origin) server now = search (words, entered) depth 16
 
   open_shape : (way : Way) (eui : Eui) (now : ℕ) → IsRule (open_session own m way eui now)
   open_shape way eui now = passed _ _
@@ -83,9 +79,9 @@ module _ (own : CoordinatorIdentity) (m : Memory) where
   keys_shape s e rand_p granted now = by_way s.way refl
     where
       by_way : (way : Way) → s.way ≡ way → IsRule (keys_for own m s e rand_p granted now)
-      by_way (Air eui) is = rw is (search words depth 16)
-      by_way (Near agent) is = rw is (search words depth 16)
-      by_way (Mesh origin) is = rw is (search words depth 16)
+      by_way (Air eui) is = rw is (search (words, entered) depth 16)
+      by_way (Near agent) is = rw is (search (words, entered) depth 16)
+      by_way (Mesh origin) is = rw is (search (words, entered) depth 16)
 
   second_shape : (s : CoordinatorSession) (e : BookEntry) (packet : List ℕ) (now : ℕ) → IsRule (take_second own m s e packet now)
   second_shape s e packet now = passed _ _
@@ -96,9 +92,9 @@ module _ (own : CoordinatorIdentity) (m : Memory) where
   fourth_shape s e packet rand_p now = passed _ _ (by_way s.way refl)
     where
       by_way : (way : Way) → s.way ≡ way → IsRule (accepts m s rand_p now)
-      by_way (Air eui) is = rw is (search words depth 16)
-      by_way (Near agent) is = rw is (search words depth 16)
-      by_way (Mesh origin) is = rw is (search words depth 16)
+      by_way (Air eui) is = rw is (search (words, entered) depth 16)
+      by_way (Near agent) is = rw is (search (words, entered) depth 16)
+      by_way (Mesh origin) is = rw is (search (words, entered) depth 16)
 
   packet_shape : (e : BookEntry) (packet : List ℕ) (now : ℕ) (s : CoordinatorSession) → IsRule (take_packet own m e packet now s)
   packet_shape e packet now s = by_option (λ rand_p. take_fourth own m s e packet rand_p now) s.server.rand_p (take_second own m s e packet now) (λ rand_p. fourth_shape s e packet rand_p now) (second_shape s e packet now)
@@ -120,8 +116,8 @@ module _ (own : CoordinatorIdentity) (m : Memory) where
   heard_by_shape now p None s = within_shape Home heard.Station m p s
   heard_by_shape now p (Some u) s = join_in_shape u.way (join_in u.body) now
 
-  pub coordinator_shape : (got : Accepted) (cost note now : ℕ) → MemoryShape Home dropped m (hear_coordinator own m got cost note now)
-  coordinator_shape got cost note now =
+  pub coordinator_shape_of : (got : Accepted) (cost note now : ℕ) → MemoryShape Home dropped m (hear_coordinator own m got cost note now)
+  coordinator_shape_of got cost note now =
       let p = station_rules.hear m.station got cost note now in heard_by_shape now p (unread p.answer) (hear_shape Home m.book m.station got cost note now)
 
   -- # Orders
@@ -139,7 +135,7 @@ module _ (own : CoordinatorIdentity) (m : Memory) where
   changed_began e = by_change (changes m e)
     where
       by_change : (b : Bool) → Began Home m.book m.station (if b then with_memory_by (without_session e.eui) (with_book_entry e (empty_draft m)) else empty_draft m)
-      by_change true = remembers Home m.book m.station _ _ (enters_first Home m e tt)
+      by_change true = remembers Home m.book m.station _ _ (enters_first Home m e (entered e))
       by_change false = begins Home m.book m.station m
 
   -- the entry of a meter that was changed stays in its place
@@ -158,56 +154,91 @@ module _ (own : CoordinatorIdentity) (m : Memory) where
       by_route true = commands_does Home m.book m.station to join 0 d f
       by_route false = quiet_does Home m.book m.station d f
 
-  pub allow_shape : (eui : Eui) (psk : Key) → MemoryShape Home orders m (allow m eui psk)
-  allow_shape eui psk =
+  pub allow_shape_of : (eui : Eui) (psk : Key) → MemoryShape Home orders m (allow m eui psk)
+  allow_shape_of eui psk =
       let e = book.allowed_entry eui psk (book.entry_for m.book eui) in
       by_choice _ _ _ (sealing_shape in_memory orders m (Does Home m.book m.station) (changed m e) (book.place_for m.book eui + 1) (quiet_does Home m.book m.station _ (changed_began e))) (Rests _)
 
   depot_by_shape : (eui : Eui) (psk : Key) (d : Draft Memory) → book.place_for d.memory.book eui ≤ length m.book → Began Home m.book m.station d → MemoryShape Home orders m (depot_by m eui psk d)
   depot_by_shape eui psk d small f = by_part (λ granted. option_map_or (λ e. sealing in_memory orders (with_book_entry (book.issued_entry eui granted e) d) granted) (book.allowed_one d.memory.book eui) (refused orders m refusal.MetersFull)) (grant_for d.memory eui) (refused orders m refusal.MetersFull)
       (λ granted. by_part (λ e. sealing in_memory orders (with_book_entry (book.issued_entry eui granted e) d) granted) (book.allowed_one d.memory.book eui) (refused orders m refusal.MetersFull)
-      (λ e. sealing_shape _ _ _ _ _ _ (quiet_does Home m.book m.station _ (enters Home m.book m.station (book.issued_entry eui granted e) d small tt f))) (Rests _)) (Rests _)
+      (λ e. sealing_shape _ _ _ _ _ _ (quiet_does Home m.book m.station _ (enters Home m.book m.station (book.issued_entry eui granted e) d small (entered _) f))) (Rests _)) (Rests _)
 
   -- the entry that allows a meter is that meter's
   allows_meter : (eui : Eui) (psk : Key) (before : Option BookEntry) → (book.allowed_entry eui psk before).eui ≡ eui
   allows_meter eui psk None = refl
   allows_meter eui psk (Some e) = refl
 
-  pub depot_shape : (eui : Eui) (psk : Key) → MemoryShape Home orders m (depot m eui psk)
-  depot_shape eui psk =
+  pub depot_shape_of : (eui : Eui) (psk : Key) → MemoryShape Home orders m (depot m eui psk)
+  depot_shape_of eui psk =
       let e = book.allowed_entry eui psk (book.entry_for m.book eui) in
       by_choice _ _ _ (depot_by_shape eui psk (changed m e) (subst (λ x. book.place_for (changed m e).memory.book x ≤ length m.book) (allows_meter eui psk (book.entry_for m.book eui)) (changed_place e)) (changed_began e)) (Rests _)
 
-  pub rekey_shape : (index : ℕ) (key : Key) → MemoryShape Home orders m (rekey m index key)
-  rekey_shape index key = by_choice _ _ _ (Rests _) (sealing_shape _ _ _ _ _ _ (quiet_does Home m.book m.station _
-      (rings Home m.book m.station (ring.with_key m.station.ring index key) (empty_draft m) (key_home m.station.ring index key) (begins Home m.book m.station m))))
+  pub rekey_shape_of : (index : ℕ) (key : Key) → Home (RingOf (ring.with_key m.station.ring index key)) → MemoryShape Home orders m (rekey m index key)
+  rekey_shape_of index key put = by_choice _ _ _ (Rests _) (sealing_shape _ _ _ _ _ _ (quiet_does Home m.book m.station _
+      (rings Home m.book m.station (ring.with_key m.station.ring index key) (empty_draft m) put (begins Home m.book m.station m))))
 
-  pub activate_self_shape : (index : ℕ) → MemoryShape Home orders m (activate_self m index)
-  activate_self_shape index = by_choice _ _ _ (sealing_shape _ _ _ _ _ _ (quiet_does Home m.book m.station _
-      (rings Home m.book m.station (ring.with_active m.station.ring index) (empty_draft m) (active_home m.station.ring index) (begins Home m.book m.station m)))) (Rests _)
+  pub activate_self_shape_of : (index : ℕ) → Home (RingOf (ring.with_active m.station.ring index)) → MemoryShape Home orders m (activate_self m index)
+  activate_self_shape_of index put = by_choice _ _ _ (sealing_shape _ _ _ _ _ _ (quiet_does Home m.book m.station _
+      (rings Home m.book m.station (ring.with_active m.station.ring index) (empty_draft m) put (begins Home m.book m.station m)))) (Rests _)
 
   challenge_by_shape : (to now : ℕ) (server : Server) → MemoryShape Home orders m (challenge_by own.eui m to now server)
-  challenge_by_shape to now server = search words depth 16
+  challenge_by_shape to now server = search (words, entered) depth 16
 
   challenge_at_shape : (eui : Eui) (now to : ℕ) → MemoryShape Home orders m (challenge_at own.eui m eui now to)
   challenge_at_shape eui now to = checked_shape _ _ _ _ _ _
       (by_part (λ value. challenge_by own.eui m to now (server_for eui own.eui value)) (oldest m) (refused orders m refusal.NoRandom) (λ value. challenge_by_shape to now (server_for eui own.eui value)) (Rests _))
 
-  pub challenge_shape : (eui : Eui) (now : ℕ) → MemoryShape Home orders m (challenge own.eui m eui now)
-  challenge_shape eui now = by_part (challenge_at own.eui m eui now) (allowed_address m eui) (refused orders m refusal.NotAllowed) (λ to. challenge_at_shape eui now to) (Rests _)
+  pub challenge_shape_of : (eui : Eui) (now : ℕ) → MemoryShape Home orders m (challenge own.eui m eui now)
+  challenge_shape_of eui now = by_part (challenge_at own.eui m eui now) (allowed_address m eui) (refused orders m refusal.NotAllowed) (λ to. challenge_at_shape eui now to) (Rests _)
 
   activate_by_shape : (e : BookEntry) (index now to : ℕ) → MemoryShape Home orders m (activate_by m e index now to)
-  activate_by_shape e index now to = search words depth 16
+  activate_by_shape e index now to = search (words, entered) depth 16
 
-  pub activate_shape : (eui : Eui) (index now : ℕ) → MemoryShape Home orders m (activate m eui index now)
-  activate_shape eui index now = by_part (λ e. option_map_or (activate_by m e index now) (book.address_of m.book eui) (refused orders m refusal.NotAllowed)) (allowed_entry m eui) (refused orders m refusal.NotAllowed)
+  pub activate_shape_of : (eui : Eui) (index now : ℕ) → MemoryShape Home orders m (activate m eui index now)
+  activate_shape_of eui index now = by_part (λ e. option_map_or (activate_by m e index now) (book.address_of m.book eui) (refused orders m refusal.NotAllowed)) (allowed_entry m eui) (refused orders m refusal.NotAllowed)
       (λ e. by_part (activate_by m e index now) (book.address_of m.book eui) (refused orders m refusal.NotAllowed) (λ to. activate_by_shape e index now to) (Rests _)) (Rests _)
 
   kick_by_shape : (e : BookEntry) (to : ℕ) → MemoryShape Home orders m (kick_by m e to)
   kick_by_shape e to = sealing_shape in_memory orders m (Does Home m.book m.station)
       (kick_goes m to (message e.eui body.Kick) (with_memory_by (without_session e.eui) (with_book_entry (book.kicked_entry e.eui e) (empty_draft m)))) tt
-      (kick_goes_does to _ _ (remembers Home m.book m.station _ _ (enters_first Home m (book.kicked_entry e.eui e) tt)))
+      (kick_goes_does to _ _ (remembers Home m.book m.station _ _ (enters_first Home m (book.kicked_entry e.eui e) (entered _))))
 
-  pub kick_shape : (eui : Eui) → MemoryShape Home orders m (kick m eui)
-  kick_shape eui = by_part (λ e. option_map_or (kick_by m e) (book.address_of m.book eui) (refused orders m refusal.NotAllowed)) (allowed_entry m eui) (refused orders m refusal.NotAllowed)
+  pub kick_shape_of : (eui : Eui) → MemoryShape Home orders m (kick m eui)
+  kick_shape_of eui = by_part (λ e. option_map_or (kick_by m e) (book.address_of m.book eui) (refused orders m refusal.NotAllowed)) (allowed_entry m eui) (refused orders m refusal.NotAllowed)
       (λ e. by_part (kick_by m e) (book.address_of m.book eui) (refused orders m refusal.NotAllowed) (λ to. kick_by_shape e to) (Rests _)) (Rests _)
+
+-- # Of the coordinator's own rings
+
+-- the rings that the coordinator puts have the address of its own one
+abbrev pub HomeOf : Memory → Membership → Type 0
+HomeOf m (RingOf r) = SameHome m.station.ring r
+HomeOf m (EntryOf e) = Unit {0}
+
+module _ (own : CoordinatorIdentity) (m : Memory) where
+  any_entry : (e : BookEntry) → HomeOf m (EntryOf e)
+  any_entry e = tt
+
+  pub coordinator_shape : (got : Accepted) (cost note now : ℕ) → MemoryShape (HomeOf m) dropped m (hear_coordinator own m got cost note now)
+  coordinator_shape got cost note now = coordinator_shape_of (HomeOf m) any_entry own m got cost note now
+
+  pub allow_shape : (eui : Eui) (psk : Key) → MemoryShape (HomeOf m) orders m (allow m eui psk)
+  allow_shape eui psk = allow_shape_of (HomeOf m) any_entry own m eui psk
+
+  pub depot_shape : (eui : Eui) (psk : Key) → MemoryShape (HomeOf m) orders m (depot m eui psk)
+  depot_shape eui psk = depot_shape_of (HomeOf m) any_entry own m eui psk
+
+  pub rekey_shape : (index : ℕ) (key : Key) → MemoryShape (HomeOf m) orders m (rekey m index key)
+  rekey_shape index key = rekey_shape_of (HomeOf m) any_entry own m index key (key_home m.station.ring index key)
+
+  pub activate_self_shape : (index : ℕ) → MemoryShape (HomeOf m) orders m (activate_self m index)
+  activate_self_shape index = activate_self_shape_of (HomeOf m) any_entry own m index (active_home m.station.ring index)
+
+  pub challenge_shape : (eui : Eui) (now : ℕ) → MemoryShape (HomeOf m) orders m (challenge own.eui m eui now)
+  challenge_shape eui now = challenge_shape_of (HomeOf m) any_entry own m eui now
+
+  pub activate_shape : (eui : Eui) (index now : ℕ) → MemoryShape (HomeOf m) orders m (activate m eui index now)
+  activate_shape eui index now = activate_shape_of (HomeOf m) any_entry own m eui index now
+
+  pub kick_shape : (eui : Eui) → MemoryShape (HomeOf m) orders m (kick m eui)
+  kick_shape eui = kick_shape_of (HomeOf m) any_entry own m eui

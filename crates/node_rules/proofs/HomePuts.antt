@@ -22,10 +22,10 @@ use Rattle.node_rules.specs.Calls as calls
 use Rattle.node_rules.specs.Home.{IsHome, ReadsHome, PutsHome, CoordinatorsWriteHome, WritesKeepHome, CarryingOutKeepsHome}
 use Rattle.node_rules.proofs.Tables.{Keep, wrote_keeps, carried_keeps}
 use Rattle.node_rules.proofs.TablePuts.{Membership, RingOf, EntryOf, PutOf, OfFloors, OfNumber, OfRing, OfMark, OfRank, OfEntry, SameHome, AreOf}
-use Rattle.node_rules.proofs.TablePlans.{HomeOf, plan_puts, accept_puts, local_puts, near_puts, begin_puts}
+use Rattle.node_rules.proofs.TablePlans.{plan_puts, accept_puts, local_puts, near_puts, begin_puts}
 use Rattle.node_rules.proofs.HearingShapes.{hear_shape}
 use Rattle.node_rules.proofs.CallShapes.{accept_shape, send_shape, send_command_shape}
-use Rattle.node_rules.proofs.CoordinatorShapes.{coordinator_shape, allow_shape, depot_shape, rekey_shape, activate_self_shape, challenge_shape, activate_shape, kick_shape}
+use Rattle.node_rules.proofs.CoordinatorShapes.{HomeOf, coordinator_shape, allow_shape, depot_shape, rekey_shape, activate_self_shape, challenge_shape, activate_shape, kick_shape}
 
 -- # What a ring's octets read as
 

@@ -20,3 +20,4 @@ pub mod Outcomes
 pub mod Rooms
 pub mod Blank
 mod StationPuts
+mod RingPuts

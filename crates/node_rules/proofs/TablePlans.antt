@@ -25,7 +25,7 @@ use Rattle.node_rules.proofs.TablePuts.{Membership, RingOf, EntryOf, PutOf, OfFl
 use Rattle.node_rules.proofs.HearingShapes.{hear_shape}
 use Rattle.node_rules.proofs.CallShapes.{AcceptShape, Stays, Marks, accept_shape, send_shape, send_command_shape}
 use Rattle.node_rules.proofs.MeterShapes.{meter_shape, joins_shape, leaves_shape}
-use Rattle.node_rules.proofs.CoordinatorShapes.{coordinator_shape, allow_shape, depot_shape, rekey_shape, activate_self_shape, challenge_shape, activate_shape, kick_shape}
+use Rattle.node_rules.proofs.CoordinatorShapes.{HomeOf, coordinator_shape, allow_shape, depot_shape, rekey_shape, activate_self_shape, challenge_shape, activate_shape, kick_shape}
 
 -- # Puts of a kind are in place
 
@@ -132,11 +132,6 @@ begin_puts R m granted h = by_test (is_some m.station.ring)
     by_test : (t : Bool) → AreOf R m.book m.station (choose t (resting m (Ok tt) (Err ring_faults.Store)) (within (λ l. with_station l m) (λ (r : Result (Unit {0}) RingFault). r) (calls.install m.station granted))).puts
     by_test true = All-nil (PutOf R m.book m.station)
     by_test false = ring_puts R m.book m.station (Some granted) (empty_draft m.station) h (begun_puts R m.book m.station m.station)
-
--- the rings that the coordinator puts have the address of its own one
-abbrev pub HomeOf : Memory → Membership → Type 0
-HomeOf m (RingOf r) = SameHome m.station.ring r
-HomeOf m (EntryOf e) = Unit {0}
 
 pub coordinators_in_place : CoordinatorsWriteInPlace
 coordinators_in_place own m short = record {

@@ -1,5 +1,5 @@
 -- The coordinator's home: whatever becomes of its writes, the ring that a restart finds is one of the address 0.
-use Rattle.std.specs.Prelude.{◌≡◌, ℕ, Bool, List, All, IfSome, Option}
+use Rattle.std.specs.Prelude.{◌≡◌, ◌≢◌, ℕ, Bool, List, All, IfSome, Option}
 use Rattle.std.specs.FinMap.{get}
 use Rattle.plc_base.specs.declared.address.Eui.{Eui}
 use Rattle.plc_base.specs.declared.key.Key.{Key}
@@ -70,3 +70,33 @@ abbrev pub CarryingOutKeepsHome : Type 0 → Type 0 → Type 0
 CarryingOutKeepsHome M A =
     (records : Records) (cut : Option Cut) (p : Plan M A) → ReadsHome records → WritesHome p
     → ReadsHome (carry_out records cut p).records
+
+-- # No ring
+
+-- a write to another slot than the ring's
+abbrev pub PutsNoRing : Write → Type 0
+PutsNoRing w = w.slot ≢ ring.ring_slot
+
+-- all writes of a plan are so
+abbrev pub WritesNoRing : {M A : Type 0} → Plan M A → Type 0
+WritesNoRing p = All PutsNoRing p.puts
+
+-- What the coordinator does that is not about its ring.
+pub record WritesNoRingAt (own : coordinator_rules.CoordinatorIdentity) (m : Memory) : Type 0 where
+  pub hears : (got : Accepted) (cost note now : ℕ)
+      → WritesNoRing (coordinator_rules.hear_coordinator own m got cost note now)
+  pub allows : (eui : Eui) (psk : Key) → WritesNoRing (coordinator_rules.allow m eui psk)
+  pub depots : (eui : Eui) (psk : Key) → WritesNoRing (coordinator_rules.depot m eui psk)
+  pub challenges : (eui : Eui) (now : ℕ) → WritesNoRing (coordinator_rules.challenge own.eui m eui now)
+  pub activates : (eui : Eui) (index now : ℕ) → WritesNoRing (coordinator_rules.activate m eui index now)
+  pub kicks : (eui : Eui) → WritesNoRing (coordinator_rules.kick m eui)
+
+-- what it hears and what it is ordered but for its own keys writes no ring
+abbrev pub CoordinatorsWriteNoRing : Type 0
+CoordinatorsWriteNoRing = (own : coordinator_rules.CoordinatorIdentity) (m : Memory) → WritesNoRingAt own m
+
+-- such writes leave the record of the ring as it was, whichever of them fails
+abbrev pub WritesKeepRing : Type 0
+WritesKeepRing =
+    (old : Store) (puts : List Write) (done : Bool) (new : Store) → All PutsNoRing puts → Wrote old puts done new
+    → get new.records ring.ring_slot ≡ get old.records ring.ring_slot

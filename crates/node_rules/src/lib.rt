@@ -27,5 +27,5 @@ pub use refusal::{
 pub use shown::{Shown, ShownPeer, ShownPeers, ShownRef, ShownRoute, ShownRoutes};
 pub use table_laws::{
     carrying_out_keeps_home, carrying_out_keeps_tables, coordinators_write_home,
-    plans_write_in_place, stations_write_their_own,
+    coordinators_write_no_ring, plans_write_in_place, stations_write_their_own,
 };

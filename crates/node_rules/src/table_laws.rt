@@ -1,6 +1,6 @@
 //! Laws of the tables of a store, whatever becomes of a plan's writes. Each is the contract of a function that does nothing.
 ghost use Rattle.node_rules.specs.Tables.{StationsWriteInPlace, MetersWriteInPlace, CoordinatorsWriteInPlace, WritesKeepTables, CarryingOutKeepsTables};
-ghost use Rattle.node_rules.specs.Home.{CoordinatorsWriteHome, WritesKeepHome, CarryingOutKeepsHome};
+ghost use Rattle.node_rules.specs.Home.{CoordinatorsWriteHome, WritesKeepHome, CarryingOutKeepsHome, CoordinatorsWriteNoRing, WritesKeepRing};
 ghost use Rattle.node_rules.specs.StationSlots.{StationsWriteTheirOwn, WritesKeepMembership};
 
 /// Each write of a plan to the marks, the ranks or the book replaces an entry that is held, or adds one right after them: of all
@@ -40,4 +40,12 @@ pub fn carrying_out_keeps_home<M, A>()
 pub fn stations_write_their_own()
     ensures stations { StationsWriteTheirOwn }
     ensures wrote { WritesKeepMembership }
+{}
+
+/// What the coordinator hears, and what it is ordered to do but for its own keys, writes no ring; and such writes leave the record of
+/// the ring as it was, whichever of them fails.
+#[tactic(auto)]
+pub fn coordinators_write_no_ring()
+    ensures coordinators { CoordinatorsWriteNoRing }
+    ensures wrote { WritesKeepRing }
 {}

@@ -40,6 +40,9 @@ impl<K: Keeper + Drop> Station<K> {
         requires joined { IfSome self.old.memory (λ l. IsSome l.ring) }
         ensures carries { IfSome self.old.memory
             (λ l. Carries self.old (calls.put_key l index key.now) result nothing self.new) }
+        // Whatever became of the put, the ring that the records give is the one before or the new one.
+        ensures either { IfSome self.old.memory (λ l. ring.IsOldRingOrKept (ring.with_key l.ring index key.now)
+            self.old.store.records self.new.store.records) }
         ensures agrees { Agrees self.new }
         ensures replied { self.new.replied ≡ self.old.replied }
     {
@@ -65,6 +68,8 @@ impl<K: Keeper + Drop> Station<K> {
             (λ l. Carries self.old
             (calls.ring_ends (drafts.with_ring (ring.with_active l.ring index)
             (drafts.empty_draft l))) result nothing self.new) }
+        ensures either { IfSome self.old.memory (λ l. ring.IsOldRingOrKept (ring.with_active l.ring index)
+            self.old.store.records self.new.store.records) }
         ensures agrees { Agrees self.new }
         ensures replied { self.new.replied ≡ self.old.replied }
     {
@@ -87,6 +92,9 @@ impl<K: Keeper + Drop> Station<K> {
         requires index { index ≤ 1 }
         ensures carries { IfSome self.old.memory
             (λ l. Carries self.old (calls.activate l index) result nothing self.new) }
+        // Whatever became of the put, the ring that the records give is the one before or the new one.
+        ensures either { IfSome self.old.memory (λ l. ring.IsOldRingOrKept (ring.with_active l.ring index)
+            self.old.store.records self.new.store.records) }
         ensures agrees { Agrees self.new }
         ensures replied { self.new.replied ≡ self.old.replied }
     {

@@ -12,7 +12,7 @@ use Rattle.coordinator.specs.CoordinatorStates.{memory_in}
 use Rattle.coordinator.proofs.Storing.{on_parts, by_some, carried_by}
 use Rattle.coordinator.proofs.Parts.{part_runs, part_agrees, part_home, part_book}
 use Rattle.coordinator.proofs.RingOrders.{active_plan}
-use Rattle.coordinator.proofs.Within.{within_carried, ring_plan, KeepsHome, home_holds, ring_keeps, active_home}
+use Rattle.coordinator.proofs.Within.{within_carried, ring_plan, KeepsHome, home_holds, ring_keeps, ring_home, active_home}
 use Rattle.coordinator.proofs.coordinator.Coordinator.set_active.Goals as goal
 
 pub activate-requires-clause-running : goal.activate-requires-clause-running
@@ -46,3 +46,13 @@ returns-clause-holds g c =
     by_some c.self.inside.station.memory _ (part_runs c.self.inside.station.memory _ (rw (← c.self.view_is) at c.requires.running)) (λ l running.
     home_holds c.self.inside.station _ _ (memory_in c.self.inside.randoms c.self.inside.sessions c.self.inside.book) _ nothing c.self.inside.book (λ n. refl) (λ n. refl) (at_some c.self.inside.station.memory _ l running c.in-Ok.ensures.carries)
     (subst (λ p. KeepsHome p) (sym (active_plan l c.args.index (at_some _ _ (memory_in c.self.inside.randoms c.self.inside.sessions c.self.inside.book l) (ap (option_map (memory_in c.self.inside.randoms c.self.inside.sessions c.self.inside.book)) running) (rw (← c.self.view_is) at c.requires.held)))) (ring_keeps ringing_ends tt l (with_active l.ring c.args.index) (active_home l.ring c.args.index (part_home c.self.inside.randoms c.self.inside.sessions c.self.inside.book _ c.self.inside.station.memory l running (rw (← c.self.view_is) at c.requires.holds))))) (part_book c.self.inside.randoms c.self.inside.sessions c.self.inside.book _ c.self.inside.station.memory (rw (← c.self.view_is) at c.requires.running) (rw (← c.self.view_is) at c.requires.holds)) c.in-Ok.ensures.agrees)
+
+pub returns-in_default-clause-home : goal.returns-in_default-clause-home
+returns-in_default-clause-home g c =
+    rw (← c.self.view_is) (by_some c.self.inside.station.memory _ (part_runs c.self.inside.station.memory _ (rw (← c.self.view_is) at c.requires.running)) (λ l running.
+    ring_home (with_active l.ring c.args.index) _ _ (active_home l.ring c.args.index (part_home c.self.inside.randoms c.self.inside.sessions c.self.inside.book _ c.self.inside.station.memory l running (rw (← c.self.view_is) at c.requires.holds))) (at_some c.self.inside.station.memory _ l running c.in_default.ensures.either)))
+
+pub returns-clause-home : goal.returns-clause-home
+returns-clause-home g c =
+    rw (← c.self.view_is) (by_some c.self.inside.station.memory _ (part_runs c.self.inside.station.memory _ (rw (← c.self.view_is) at c.requires.running)) (λ l running.
+    ring_home (with_active l.ring c.args.index) _ _ (active_home l.ring c.args.index (part_home c.self.inside.randoms c.self.inside.sessions c.self.inside.book _ c.self.inside.station.memory l running (rw (← c.self.view_is) at c.requires.holds))) (at_some c.self.inside.station.memory _ l running c.in-Ok.ensures.either)))

@@ -1,4 +1,4 @@
-use Rattle.std.proofs.Common.{refl}
+use Rattle.std.proofs.Common.{inl, refl}
 use Rattle.group_keys.specs.declared.fault.RingFault.TheVariants.{NotHeld}
 use Rattle.node_rules.specs.Calls.{ringing_ends}
 use Rattle.plc_station.specs.StationReading.{station_in}
@@ -14,3 +14,10 @@ returns-in_default-clause-carries g c =
 pub returns-clause-carries : goal.returns-clause-carries
 returns-clause-carries g c =
     rw (← c.self.view_is) (on_memory c.self.inside.halted _ _ (λ running. carried_by _ _ _ _ _ _ (held (station_in c.self.inside.parts c.self.inside.bodies) c.args.index _ c.in-Some.ensures) (at_some _ _ (station_in c.self.inside.parts c.self.inside.bodies) running (rw (← c.self.view_is) at c.set_active.ensures.carries))))
+
+pub returns-in_default-clause-either : goal.returns-in_default-clause-either
+returns-in_default-clause-either g c = rw (← c.self.view_is) (on_memory c.self.inside.halted _ _ (λ running. inl refl))
+
+pub returns-clause-either : goal.returns-clause-either
+returns-clause-either g c =
+    rw (← c.self.view_is) (on_memory c.self.inside.halted _ _ (λ running. at_some _ _ (station_in c.self.inside.parts c.self.inside.bodies) running (rw (← c.self.view_is) at c.set_active.ensures.either)))

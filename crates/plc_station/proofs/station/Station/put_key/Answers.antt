@@ -13,6 +13,7 @@ use Rattle.node_rules.specs.States.{unless_halted}
 use Rattle.plc_station.proofs.Carrying.{on_memory, of_some, lines_are}
 use Rattle.plc_station.proofs.Agreeing.{agrees_ringed, agrees_counted}
 use Rattle.plc_station.proofs.Ending.{ended, stopped, uncounted, sealed_none}
+use Rattle.plc_station.proofs.Setting.{ring_counted}
 use Rattle.plc_station.proofs.station.Station.put_key.Goals as goal
 
 pub returns-in_default-clause-carries : goal.returns-in_default-clause-carries
@@ -43,3 +44,14 @@ returns-clause-agrees g c =
     let before : IfSome (unless_halted c.self.inside.halted (station_in c.self.inside.parts c.self.inside.bodies)) (λ l. AgreesWith l (g.K.Keeper.store c.self.inside.keeper).records) = rw (← c.self.view_is) at c.requires.agrees in
     let running = rw (← c.self.view_is) at c.requires.running in
     (agrees_counted _ _ _ _ (agrees_ringed (station_in c.self.inside.parts c.self.inside.bodies) _ _ _ (of_some _ _ _ running before) c.in-Ok.ensures.kept c.in-Ok.ensures.elsewhere) c.in-Ok-reserve.ensures.kept c.in-Ok-reserve.ensures.elsewhere)
+
+pub returns-in_default-clause-either : goal.returns-in_default-clause-either
+returns-in_default-clause-either g c = rw (← c.self.view_is) (on_memory c.self.inside.halted _ _ (λ running. c.in_default.ensures.either))
+
+pub returns-in_default-reserve-clause-either : goal.returns-in_default-reserve-clause-either
+returns-in_default-reserve-clause-either g c =
+    rw (← c.self.view_is) (on_memory c.self.inside.halted _ _ (λ running. ring_counted (with_key c.self.inside.parts.ring c.args.index c.args.key.now) _ _ _ c.in-Ok.ensures.either c.in_default-reserve.ensures.elsewhere))
+
+pub returns-clause-either : goal.returns-clause-either
+returns-clause-either g c =
+    rw (← c.self.view_is) (on_memory c.self.inside.halted _ _ (λ running. ring_counted (with_key c.self.inside.parts.ring c.args.index c.args.key.now) _ _ _ c.in-Ok.ensures.either c.in-Ok-reserve.ensures.elsewhere))
