@@ -129,8 +129,6 @@ impl<K: Keeper + Drop> Coordinator<K> {
         ensures beside { self.new ≡ record self.old { station = self.new.station } }
         ensures holds { Holds (node_of self.new) }
     {
-        // No more ranks are kept than have a slot, so none is put among the entries of the book.
-        let _ranks = self.station.routing().entries();
         self.station.hear(got, cost, note, now, out)
     }
 
@@ -139,7 +137,7 @@ impl<K: Keeper + Drop> Coordinator<K> {
     ///
     /// A meter that asks is challenged where it is allowed, and declined else. The second packet (RFC 4764) of its session is answered
     /// with its grant, whose keys are noted as issued; the fourth ends the session. Dropped for the first reason that its rule names;
-    /// after Store it is halted.
+    /// after Store it is halted, after the others nothing has changed.
     pub fn hear(
         &mut self,
         got: &Accepted,

@@ -36,7 +36,7 @@ impl<K: Keeper + Drop> Coordinator<K> {
     /// A coordinator over what its keeper holds, not halted, without a random value and a session. Where the keeper holds no ring,
     /// it stores one with the address 0000 and this key, active at index 0. Its memory is taken here, and only here.
     ///
-    /// Memory, where there is none for it; BadStore, with the first slot whose record has no reading, the station's before the
+    /// Memory, where there is none for it; BadStore, with the first slot that is read and has no reading, the station's before the
     /// book's; Store, where the put of the ring failed. The keeper comes back with each fault, as it was but for that put.
     pub fn open(
         alloc: Global,

@@ -1,4 +1,4 @@
-use Rattle.std.proofs.Common.{refl, subst, sym, ap, length, ◌≤◌}
+use Rattle.std.proofs.Common.{refl}
 use Rattle.coordinator.specs.CoordinatorStates.{memory_in}
 use Rattle.plc_station.proofs.Carrying.{at_some}
 use Rattle.coordinator.proofs.Storing.{by_some}
@@ -20,5 +20,5 @@ returns-clause-holds g c =
     by_some c.self.inside.station.memory _ (part_runs c.self.inside.station.memory _ (rw (← c.self.view_is) at c.requires.running)) (λ l running.
     home_holds c.self.inside.station _ _ (memory_in c.self.inside.randoms c.self.inside.sessions c.self.inside.book) _ _ c.self.inside.book (λ n. refl) (λ n. refl) (at_some c.self.inside.station.memory _ l running c.hear.ensures.carries)
     (hear_keeps l (part_home c.self.inside.randoms c.self.inside.sessions c.self.inside.book _ c.self.inside.station.memory l running (rw (← c.self.view_is) at c.requires.holds))
-    (subst (λ r. length r.entries ≤ 64) (at_some c.self.inside.station.memory _ l running c.routing.ensures) c.entries-ranks.ensures.table.short) _ _ _ _)
+    (at_some c.self.inside.station.memory _ l running (part_agrees c.self.inside.randoms c.self.inside.sessions c.self.inside.book _ c.self.inside.station.memory (rw (← c.self.view_is) at c.requires.holds))).routing.ranks.short _ _ _ _)
     (part_book c.self.inside.randoms c.self.inside.sessions c.self.inside.book _ c.self.inside.station.memory (rw (← c.self.view_is) at c.requires.running) (rw (← c.self.view_is) at c.requires.holds)) c.hear.ensures.agrees)
