@@ -2,3 +2,8 @@ mod Acting
 mod Places
 mod AcceptingSteps
 mod HearingSteps
+mod CoordinatorActing
+mod CoordinatorHearing
+mod CoordinatorOpening
+mod RingPuts
+mod StationPuts

@@ -5,7 +5,7 @@ ghost use Rattle.line_nodes.specs.Receiving.{Tells};
 
 use crate::reception::Reception;
 use line_rules::Answer;
-use node_rules::{Dropped, Heard, MeterHeard};
+use node_rules::{CoordinatorHeard, Dropped, Heard, MeterHeard};
 use plc_base::DatagramBuf;
 
 // A word and nothing beside it.
@@ -95,6 +95,28 @@ pub(crate) fn meter_told(
         Ok(MeterHeard::Declined) => only(Answer::Declined),
         Ok(MeterHeard::Left) => only(Answer::Left),
         Ok(MeterHeard::Activated) => only(Answer::Activated),
+        Err(reason) => only(drop_word(reason)),
+    }
+}
+
+// What the coordinator made of a frame.
+pub(crate) fn coordinator_told(
+    heard: Result<CoordinatorHeard, Dropped>,
+    datagram: &mut DatagramBuf,
+) -> Reception
+    ensures { Tells result datagram.new (rules.coordinator_reception heard) }
+{
+    match heard {
+        Ok(CoordinatorHeard::Station(heard)) => station_told(heard, datagram),
+        Ok(CoordinatorHeard::Challenged) => only(Answer::Challenged),
+        Ok(CoordinatorHeard::Keyed { .. }) => only(Answer::Keyed),
+        Ok(CoordinatorHeard::Done { eui, .. }) => Reception {
+            answer: Answer::Done,
+            up: None,
+            took: false,
+            done: Some(eui),
+        },
+        Ok(CoordinatorHeard::Declined) => only(Answer::Declined),
         Err(reason) => only(drop_word(reason)),
     }
 }

@@ -4,6 +4,7 @@
 //! fail.
 #![tactic(auto)]
 
+mod coordinator_steps;
 mod hearing;
 mod meter_steps;
 mod meters;
