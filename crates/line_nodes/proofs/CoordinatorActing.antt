@@ -403,7 +403,7 @@ pub random_in_place : (x : CoordinatorState) (value : Rand) → Places (λ m. gi
 random_in_place x value m short = (meters_in_place (record { eui = x.station.eui; psk = record { 0 = value.0 }; ciphers = network }) m short).takes_random value
 
 pub random_no_ring : (m : Memory) (value : Rand) → WritesNoRing (give_random m value)
-unfolding choose with_memory_by empty_draft
+unfolding choose with_memory_by empty_draft resting
 random_no_ring m value = by_test (nat_lt 7 (length m.randoms))
   where
     by_passing : (due : Bool) → All PutsNoRing (puts_of (if due then limit_write (raised m.station.counter.limit) else None))

@@ -76,3 +76,7 @@ module _ (x y : CoordinatorState) (got : Accepted) (cost note now : ℕ) (r : Re
   heard_sound carries h =
       ringless_sound x y (Err drops.Store) plan r out (λ m short. (coordinators_in_place (identity_of x) m short).hears got cost note now)
       (λ m. (coordinators_write_no_ring (identity_of x) m).hears got cost note now) sound (not_none (node_of x).memory _ may.running) carries h
+
+-- a grant that went out is told of nowhere
+pub told_beside : (word : Reception) (datagram : List ℕ) (r : rules.Reception) (keyed : Option rules.SentGrant) → Tells word datagram r → Tells word datagram (record r { keyed = keyed })
+told_beside word datagram r keyed t = record { answer = t.answer; up = t.up; octets = t.octets; took = t.took; done = t.done }

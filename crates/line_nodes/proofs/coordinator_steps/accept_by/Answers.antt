@@ -13,7 +13,7 @@ use Rattle.line_nodes.proofs.CoordinatorHearing.{may_hear}
 use Rattle.line_nodes.proofs.coordinator_steps.accept_by.Goals as goal
 
 pub accept-requires : goal.accept-requires
-accept-requires c = lent_agrees c.args.coordinator.now c.station.result.now c.station.ensures.value c.requires.sound
+accept-requires c = record { agrees = lent_agrees c.args.coordinator.now c.station.result.now c.station.ensures.value c.requires.sound }
 
 pub returns-clause-took : goal.returns-clause-took
 returns-clause-took c =

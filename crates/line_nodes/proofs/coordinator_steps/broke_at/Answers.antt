@@ -3,7 +3,7 @@ use Rattle.line_nodes.proofs.CoordinatorActing.{lent_agrees, broke_took, broke_s
 use Rattle.line_nodes.proofs.coordinator_steps.broke_at.Goals as goal
 
 pub broke-broke-requires : goal.broke-broke-requires
-broke-broke-requires c = lent_agrees c.args.coordinator.now c.station.result.now c.station.ensures.value c.requires.sound
+broke-broke-requires c = record { agrees = lent_agrees c.args.coordinator.now c.station.result.now c.station.ensures.value c.requires.sound }
 
 pub returns-clause-took : goal.returns-clause-took
 returns-clause-took c =

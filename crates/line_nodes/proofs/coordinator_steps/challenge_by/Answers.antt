@@ -9,7 +9,7 @@ use Rattle.line_nodes.proofs.CoordinatorActing.{holds, own_took, ringless_sound}
 use Rattle.line_nodes.proofs.coordinator_steps.challenge_by.Goals as goal
 
 pub challenge-requires : goal.challenge-requires
-challenge-requires c = holds c.args.coordinator.now c.requires.sound
+challenge-requires c = record { holds = holds c.args.coordinator.now c.requires.sound }
 
 pub returns-clause-took : goal.returns-clause-took
 returns-clause-took c =

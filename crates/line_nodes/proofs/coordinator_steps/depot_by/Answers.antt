@@ -11,7 +11,7 @@ use Rattle.line_nodes.proofs.CoordinatorActing.{holds, own_took, ringless_sound}
 use Rattle.line_nodes.proofs.coordinator_steps.depot_by.Goals as goal
 
 pub depot-requires : goal.depot-requires
-depot-requires c = holds c.args.coordinator.now c.requires.sound
+depot-requires c = record { holds = holds c.args.coordinator.now c.requires.sound }
 
 pub returns-clause-took : goal.returns-clause-took
 returns-clause-took c =

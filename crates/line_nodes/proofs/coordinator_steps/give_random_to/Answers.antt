@@ -9,7 +9,7 @@ use Rattle.line_nodes.proofs.CoordinatorActing.{holds, own_took, ringless_sound,
 use Rattle.line_nodes.proofs.coordinator_steps.give_random_to.Goals as goal
 
 pub give_random-requires : goal.give_random-requires
-give_random-requires c = holds c.args.coordinator.now c.requires.sound
+give_random-requires c = record { holds = holds c.args.coordinator.now c.requires.sound }
 
 pub returns-clause-took : goal.returns-clause-took
 returns-clause-took c =

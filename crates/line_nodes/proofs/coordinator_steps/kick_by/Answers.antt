@@ -9,7 +9,7 @@ use Rattle.line_nodes.proofs.CoordinatorActing.{holds, own_took, ringless_sound}
 use Rattle.line_nodes.proofs.coordinator_steps.kick_by.Goals as goal
 
 pub kick-requires : goal.kick-requires
-kick-requires c = holds c.args.coordinator.now c.requires.sound
+kick-requires c = record { holds = holds c.args.coordinator.now c.requires.sound }
 
 pub returns-clause-took : goal.returns-clause-took
 returns-clause-took c =

@@ -8,7 +8,7 @@ use Rattle.line_nodes.proofs.CoordinatorActing.{lent_agrees, station_took, stati
 use Rattle.line_nodes.proofs.coordinator_steps.send_by.Goals as goal
 
 pub send-requires : goal.send-requires
-send-requires c = lent_agrees c.args.coordinator.now c.station.result.now c.station.ensures.value c.requires.sound
+send-requires c = record { agrees = lent_agrees c.args.coordinator.now c.station.result.now c.station.ensures.value c.requires.sound }
 
 pub returns-clause-took : goal.returns-clause-took
 returns-clause-took c =

@@ -6,7 +6,7 @@ use Rattle.line_nodes.proofs.CoordinatorActing.{holds, ended, stored_sound}
 use Rattle.line_nodes.proofs.coordinator_steps.tick_of.Goals as goal
 
 pub tick-requires : goal.tick-requires
-tick-requires c = holds c.args.coordinator.now c.requires.sound
+tick-requires c = record { holds = holds c.args.coordinator.now c.requires.sound }
 
 pub returns-clause-state : goal.returns-clause-state
 returns-clause-state c = ended c.args.now c.args.coordinator.now c.tick.new.self c.tick.ensures.state

@@ -2,7 +2,9 @@
 use Rattle.std.proofs.Common.{subst}
 use Rattle.line_rules.specs.Answers as rules
 use Rattle.line_rules.specs.declared.event.Answer.{Answer}
+use Rattle.line_rules.specs.declared.event.Answer.TheVariants as said
 use Rattle.line_nodes.specs.Receiving.{Tells}
+use Rattle.line_nodes.proofs.CoordinatorHearing.{told_beside}
 use Rattle.line_nodes.proofs.hearing.coordinator_told.Goals as goal
 
 pub returns-in-Ok-Challenged : goal.returns-in-Ok-Challenged
@@ -14,3 +16,7 @@ returns-in-Ok-Declined c = rw (c.in-Ok-Declined.is, c.in-Ok-Declined.field-0-is)
 pub returns-in-Err : goal.returns-in-Err
 returns-in-Err c =
     rw c.in-Err.is (subst (λ (w : Answer). Tells c.only-in-Err.result c.args.datagram.now (rules.only w)) c.drop_word.ensures (c.only-in-Err.ensures c.args.datagram.now))
+
+pub returns-in-Ok-Keyed : goal.returns-in-Ok-Keyed
+returns-in-Ok-Keyed c =
+    rw (c.in-Ok-Keyed.is, c.in-Ok-Keyed.field-0-is) (told_beside c.only-in-Ok-Keyed.result c.args.datagram.now (rules.only said.Keyed) _ (c.only-in-Ok-Keyed.ensures c.args.datagram.now))
