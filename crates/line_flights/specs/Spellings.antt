@@ -6,18 +6,27 @@ use Rattle.plc_base.specs.declared.tags.PairTag.{PairTag}
 use Rattle.plc_base.specs.declared.tags.PairTag.TheVariants.{MacP, MacS, Channel}
 use Rattle.plc_base.specs.Tags.{IsTag, blank_tag, tag_octets}
 
--- a tag of the protected channel, by the octets behind the EUI
-abbrev pub channel_of : List ℕ → List ℕ → PairTag
-channel_of eui rest =
-    Channel (record { 0 = eui }) (record { 0 = take 16 rest }) (big_number 4 (drop 16 rest))
-    (take (slice_index rest 20) (drop 21 rest))
-    (drop (slice_index rest 20) (drop 21 rest))
+-- a field that begins with its length, and what stands behind it
+abbrev pub field_of : List ℕ → List ℕ
+field_of [] = []
+field_of (count ∷ rest) = take count rest
+
+abbrev pub behind_field : List ℕ → List ℕ
+behind_field [] = []
+behind_field (count ∷ rest) = drop count rest
+
+-- a tag of the protected channel, by its EUI, its random value, and the octets behind these
+abbrev pub channel_by : List ℕ → List ℕ → List ℕ → PairTag
+channel_by eui rand rest =
+    Channel (record { 0 = eui }) (record { 0 = rand }) (big_number 4 rest)
+    (field_of (drop 4 rest))
+    (behind_field (drop 4 rest))
 
 -- a tag by its kind and the octets behind it
 abbrev pub tag_by : ℕ → List ℕ → PairTag
 tag_by zero rest = MacP (record { 0 = take 8 rest }) (drop 8 rest)
 tag_by (suc zero) rest = MacS (record { 0 = take 8 rest }) (drop 8 rest)
-tag_by (suc (suc n)) rest = channel_of (take 8 rest) (drop 8 rest)
+tag_by (suc (suc n)) rest = channel_by (take 8 rest) (take 16 (drop 8 rest)) (drop 16 (drop 8 rest))
 
 -- the tag of a spelling
 unfoldable pub tag_of : List ℕ → PairTag

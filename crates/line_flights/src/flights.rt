@@ -179,8 +179,10 @@ impl Flights {
             return None;
         }
         let place = number as usize - 1;
-        let octets = self.log.get(place)?;
-        let kept = self.items.get(place)?;
+        let Some(octets) = self.log.get(place) else {
+            return None;
+        };
+        let kept = &self.items[place];
         Some(FlightRef {
             from: kept.from,
             octets: OctetRef::new(octets),
@@ -229,14 +231,13 @@ impl Flights {
         if number == 0 {
             return false;
         }
-        let place = number as usize - 1;
-        let Some(kept) = self.items.get(place) else {
+        let Some(flight) = self.get(number) else {
             return false;
         };
-        if kept.lost {
+        if flight.lost {
             return false;
         }
-        self.items[place].lost = true;
+        self.items[number as usize - 1].lost = true;
         true
     }
 
