@@ -5,7 +5,7 @@ use Rattle.std.proofs.lemmas.Option.{slice_get_within, slice_get-get_or}
 use Rattle.std.proofs.Math.Dec.{eqb-suc-zero}
 use Rattle.line_rules.specs.Worlds.{Flight}
 use Rattle.line_flights.specs.declared.flights.Kept.{Kept}
-use Rattle.line_flights.specs.Flown.{flight_in, not_lost}
+use Rattle.line_flights.specs.Flown.{Flown, flight_in, not_lost}
 use Rattle.line_flights.specs.Keeping.{flight_of, flights_of}
 
 pub count_of : (strings : List (List ℕ)) (items : List Kept) → length strings ≡ length items → length (flights_of strings items) ≡ length items
@@ -70,9 +70,9 @@ flights_lost (x ∷ strings) (y ∷ items) zero kept f k e =
     ap (λ (g : Flight). record g { lost = true } ∷ flights_of strings items) (sym same)
 flights_lost (x ∷ strings) (y ∷ items) (suc i) kept f k e = ap (λ (fs : List Flight). flight_of x y ∷ fs) (flights_lost strings items i kept f k e)
 
-pub lost_so : (fs new : List Flight) (places room number : ℕ) (f : Flight) → flight_in fs number ≡ Some f → f.lost ≡ false → new ≡ slice_set fs (number - 1) (record f { lost = true })
-    → MatchOption (not_lost (flight_in fs number)) ((true ≡ false) × (new ≡ fs)) (λ f. (true ≡ true) × (new ≡ slice_set fs (number - 1) (record f { lost = true })))
-lost_so fs new places room number f there flies is = rw there (rw flies (refl, is))
+pub lost_so : (old new : Flown) (number : ℕ) (f : Flight) → flight_in old.flights number ≡ Some f → f.lost ≡ false → new ≡ record old { flights = slice_set old.flights (number - 1) (record f { lost = true }) }
+    → MatchOption (not_lost (flight_in old.flights number)) ((true ≡ false) × (new ≡ old)) (λ f. (true ≡ true) × (new ≡ record old { flights = slice_set old.flights (number - 1) (record f { lost = true }) }))
+lost_so old new number f there flies is = rw there (rw flies (refl, is))
 
 -- the flight of some octets
 pub record Here (fs : List Flight) (k : ℕ) (octets : List ℕ) : Type 0 where

@@ -1,10 +1,8 @@
 -- What is kept beside the octets of a flight tells by which key it was sealed.
-use Rattle.std.proofs.Common.{◌≡◌, ◌-◌, ◌<◌, true, Some, sym, ap, subst, ◌∙◌, arith, length}
+use Rattle.std.proofs.Common.{◌≡◌, ◌-◌, ◌<◌, true, Some, sym, ap, ◌∙◌, arith, length}
 use Rattle.std.specs.Prelude.{slice_get}
 use Rattle.line_rules.specs.Worlds.{Flight}
-use Rattle.line_flights.specs.Flown.{Flown, is_under, flight_in}
-use Rattle.line_flights.specs.Keeping.{flight_of}
-use Rattle.line_flights.specs.declared.flights.Origin.{Origin}
+use Rattle.line_flights.specs.Flown.{Flown, is_under}
 use Rattle.line_flights.proofs.Origins.{told_by}
 use Rattle.line_flights.proofs.FlightLists.{count_of, item_at, in_flights, beside}
 use Rattle.line_flights.proofs.flights.Flights.earlier.Goals as goal
@@ -13,7 +11,7 @@ pub index-kept-requires : goal.index-kept-requires
 index-kept-requires c =
     let within : c.args.number - 1 < length c.self.inside.items.items =
     omega (arith, c.requires.some, c.requires.within, count_of c.self.inside.log.strings c.self.inside.items.items c.self.invariant.each, ap (λ (f : Flown). length f.flights) c.self.view_is) in
-    let h = c.self.inside.items.small in ?
+    omega (arith, within, c.self.inside.items.ok)
 
 pub returns-then-is_under : goal.returns-then-is_under
 returns-then-is_under c = λ f e.
