@@ -53,7 +53,8 @@ pub struct Kept {
 
 /// Every flight that ever went out, by its number from 1.
 ///
-/// A contract sees the list of them, how many more may be added (`places`), and how many octets those may have together (`room`).
+/// A contract sees the list of them, how many more may be added (`places`), and how many octets those may have together
+/// (`room`).
 #[derive(Drop)]
 pub struct Flights {
     log: OctetLog,
@@ -103,8 +104,8 @@ impl Flights {
         self.log.len()
     }
 
-    /// Reserves the memory for so many more frames of so many octets together, where less is reserved, and else takes none.
-    /// It fails only where memory runs out, and nothing changes then.
+    /// Reserves the memory for so many more frames of so many octets together, where less is reserved, and else takes
+    /// none. It fails only where memory runs out, and nothing changes then.
     pub fn reserve(&mut self, frames: usize, octets: usize) -> Result<(), AllocError>
         ensures ok { OnOk result (self.new ≡ record self.old {
           places = max self.old.places frames;
@@ -219,14 +220,15 @@ impl Flights {
         Some(flight.octets.octets())
     }
 
-    /// Loses the flight of a number, which keeps its octets. Answers whether it was there and not lost before; else nothing
-    /// changes.
+    /// Loses the flight of a number, which keeps its octets. Answers whether it was there and not lost before; else
+    /// nothing changes.
     pub fn lose(&mut self, number: u32) -> bool
-        ensures { MatchOption (not_lost (flight_in self.old.flights number)) ((result ≡ false) × (self.new ≡ self.old))
+        ensures { MatchOption (not_lost (flight_in self.old.flights number))
+            ((result ≡ false) × (self.new ≡ self.old))
             (λ f. (result ≡ true)
-                × (self.new ≡ record self.old {
-                  flights = slice_set self.old.flights (number - 1) (record f { lost = true });
-                })) }
+            × (self.new ≡ record self.old {
+              flights = slice_set self.old.flights (number - 1) (record f { lost = true });
+            })) }
     {
         if number == 0 {
             return false;
@@ -258,8 +260,8 @@ impl Flights {
         later
     }
 
-    /// Where octets come from that a key opened: whether no flight, lost or not, has them under this key, and the note of the first
-    /// that has.
+    /// Where octets come from that a key opened: whether no flight, lost or not, has them under this key, and the note
+    /// of the first that has.
     pub fn origin(&self, octets: &[u8], key: &Key) -> Origin
         ensures forged { result.is_forged ≡ is_forged_frame self.now.flights octets.now key.now }
         ensures note { result.note ≡ note_of self.now.flights octets.now key.now }

@@ -48,8 +48,8 @@ impl MadeTags {
         self.log.len()
     }
 
-    /// Reserves the memory for so many more tags, where less is reserved. It fails only where memory runs out, and nothing changes
-    /// then.
+    /// Reserves the memory for so many more tags, where less is reserved, and else takes none. It fails only where
+    /// memory runs out, and nothing changes then.
     pub fn reserve(&mut self, tags: usize) -> Result<(), AllocError>
         // A number has 32 bits.
         requires numbers { tags ≤ 4294967295 }

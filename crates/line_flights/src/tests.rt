@@ -100,7 +100,11 @@ fn there_is_no_flight_0(rt: HostRuntime) -> Result<(), Fail> {
 #[test]
 fn frames_are_sent_off_in_order(rt: HostRuntime) -> Result<(), Fail> {
     let mut flights = Flights::new(rt.alloc());
-    let frames = [frame(b"a", None, 0), frame(b"b", Some(FIRST), 4), frame(b"a", Some(FIRST), 5)];
+    let frames = [
+        frame(b"a", None, 0),
+        frame(b"b", Some(FIRST), 4),
+        frame(b"a", Some(FIRST), 5),
+    ];
     flights.reserve(3, 1_200)?;
     flights.send_off(9, &frames);
     assert_eq!(rt; flights.len(), 3);
@@ -119,14 +123,30 @@ fn frames_are_sent_off_in_order(rt: HostRuntime) -> Result<(), Fail> {
 fn a_tag_that_nobody_made_is_forged(rt: HostRuntime) -> Result<(), Fail> {
     let mut made = MadeTags::new(rt.alloc());
     let eui = Eui([9; 8]);
-    let by_node = PairTag::MacP { eui, text: text(b"xy") };
-    let by_coordinator = PairTag::MacS { eui, text: text(b"xy") };
+    let by_node = PairTag::MacP {
+        eui,
+        text: text(b"xy"),
+    };
+    let by_coordinator = PairTag::MacS {
+        eui,
+        text: text(b"xy"),
+    };
     assert!(rt; made.is_forged(&by_node));
     make(&mut made, &by_node)?;
     assert!(rt; !made.is_forged(&by_node));
     assert!(rt; made.is_forged(&by_coordinator));
-    assert!(rt; made.is_forged(&PairTag::MacP { eui, text: text(b"x") }));
-    assert!(rt; made.is_forged(&PairTag::MacP { eui: Eui([8; 8]), text: text(b"xy") }));
+    assert!(rt;
+        made.is_forged(&PairTag::MacP {
+            eui,
+            text: text(b"x")
+        })
+    );
+    assert!(rt;
+        made.is_forged(&PairTag::MacP {
+            eui: Eui([8; 8]),
+            text: text(b"xy")
+        })
+    );
     assert_eq!(rt; made.len(), 1);
     Ok(())
 }
@@ -135,9 +155,27 @@ fn a_tag_that_nobody_made_is_forged(rt: HostRuntime) -> Result<(), Fail> {
 fn tags_of_a_channel_differ_by_where_the_header_ends(rt: HostRuntime) -> Result<(), Fail> {
     let mut made = MadeTags::new(rt.alloc());
     let (eui, rand_p) = (Eui([9; 8]), Rand([4; 16]));
-    let sent = PairTag::Channel { eui, rand_p, nonce: 1, header: text(b"ab"), text: text(b"c") };
-    let other = PairTag::Channel { eui, rand_p, nonce: 1, header: text(b"a"), text: text(b"bc") };
-    let from_coordinator = PairTag::Channel { eui, rand_p, nonce: 0, header: text(b"ab"), text: text(b"c") };
+    let sent = PairTag::Channel {
+        eui,
+        rand_p,
+        nonce: 1,
+        header: text(b"ab"),
+        text: text(b"c"),
+    };
+    let other = PairTag::Channel {
+        eui,
+        rand_p,
+        nonce: 1,
+        header: text(b"a"),
+        text: text(b"bc"),
+    };
+    let from_coordinator = PairTag::Channel {
+        eui,
+        rand_p,
+        nonce: 0,
+        header: text(b"ab"),
+        text: text(b"c"),
+    };
     made.reserve(2)?;
     let both = [sent.copied(), from_coordinator];
     made.note(&both);

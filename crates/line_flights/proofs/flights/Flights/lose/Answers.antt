@@ -1,5 +1,5 @@
 -- What is kept beside the octets of a flight says then that it is lost.
-use Rattle.std.proofs.Common.{◌≡◌, ◌-◌, ◌<◌, false, true, Some, sym, ap, ◌∙◌, arith, length}
+use Rattle.std.proofs.Common.{◌≡◌, ◌-◌, ◌<◌, false, true, Some, sym, ap, ◌∙◌, arith}
 use Rattle.std.specs.Prelude.{slice_get, slice_set}
 use Rattle.std.proofs.lemmas.Option.{slice_get_within}
 use Rattle.line_rules.specs.Worlds.{Flight}

@@ -1,11 +1,10 @@
 -- The flights with some octets, from the newest to the first.
-use Rattle.std.proofs.Common.{◌≡◌, ◌-◌, ◌<◌, ◌≤◌, List, ℕ, Some, take, drop, sym, ap, ◌∙◌, arith, length, length-take}
+use Rattle.std.proofs.Common.{◌≡◌, ◌-◌, ◌≤◌, Some, take, drop, sym, ap, ◌∙◌, arith, length, length-take}
 use Rattle.std.specs.Prelude.{slice_get}
 use Rattle.octet_log.specs.Logs.{IsLast}
 use Rattle.octet_log.proofs.Lasts.{got_take}
-use Rattle.line_rules.specs.Worlds.{Flight}
 use Rattle.line_flights.specs.Flown.{Flown, is_under}
-use Rattle.line_flights.proofs.FlightLists.{count_of, in_flights, Here, flown_at}
+use Rattle.line_flights.proofs.FlightLists.{count_of, in_flights, flown_at}
 use Rattle.line_flights.proofs.Origins.{origin_of, told_by, from_last, from_before}
 use Rattle.line_flights.proofs.flights.Flights.origin.Goals as goal
 

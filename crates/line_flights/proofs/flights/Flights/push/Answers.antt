@@ -1,6 +1,5 @@
 -- One more octet string, and what is kept beside it, are one more flight.
-use Rattle.std.proofs.Common.{◌≡◌, ◌-◌, false, [], ◌∷◌, ◌++◌, List, ℕ, ap, sym, ◌∙◌, arith, length}
-use Rattle.octet_log.specs.Logs.{Log}
+use Rattle.std.proofs.Common.{◌≡◌, ◌-◌, false, [], ◌∷◌, ◌++◌, ap, ◌∙◌, arith, length}
 use Rattle.octet_log.proofs.Lasts.{if_ok}
 use Rattle.line_flights.specs.declared.flights.Kept.{Kept}
 use Rattle.line_rules.specs.Steps.{flight_by}

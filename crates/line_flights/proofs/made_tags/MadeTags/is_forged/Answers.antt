@@ -1,5 +1,5 @@
 -- A tag is forged where no string of the log is its spelling.
-use Rattle.std.proofs.Common.{rules, ◌≡◌, ◌<◌, List, ℕ, ap, sym, subst, ◌∙◌}
+use Rattle.std.proofs.Common.{rules, ◌≡◌, ◌<◌, List, ℕ, ap, subst, ◌∙◌}
 use Rattle.std.specs.Prelude.{slice_index}
 use Rattle.octet_log.specs.Logs.{IsLast}
 use Rattle.line_rules.specs.Worlds.{is_forged_tag}

@@ -1,8 +1,7 @@
 -- The spelling of one more tag is one more spelling.
-use Rattle.std.proofs.Common.{rules, ◌≡◌, ◌-◌, ◌<◌, [], ◌∷◌, ◌++◌, List, ℕ, ap, sym, subst, ◌∙◌, arith, length}
+use Rattle.std.proofs.Common.{rules, ◌≡◌, ◌-◌, ◌<◌, [], ◌∷◌, ◌++◌, ℕ, ap, sym, subst, ◌∙◌, arith}
 use Rattle.std.specs.Prelude.{slice_index}
 use Rattle.std.proofs.lemmas.List.{map_push}
-use Rattle.plc_base.specs.declared.tags.PairTag.{PairTag}
 use Rattle.plc_base.specs.Tags.{tag_octets}
 use Rattle.line_flights.specs.Flown.{Made}
 use Rattle.line_flights.specs.Spellings.{tag_of, AreSpelled}
