@@ -1,0 +1,5 @@
+mod Readings
+mod Orders
+mod Meaning
+mod Hearing
+mod Histories
