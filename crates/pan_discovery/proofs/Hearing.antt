@@ -1,14 +1,14 @@
 -- The place of one more agent in a table of 16.
-use Rattle.std.proofs.Common.{◌≡◌, ◌<◌, ◌≤◌, ℕ, zero, suc, ◌+◌, Bool, true, false, cond, List, [], ◌∷◌, ◌++◌, length, take, drop, Option, Some, None, refl, sym, ap, subst, ◌∙◌, take_all, arith}
+use Rattle.std.proofs.Common.{◌≡◌, ◌<◌, ◌≤◌, ℕ, zero, suc, ◌+◌, Bool, true, false, cond, List, [], ◌∷◌, length, take, Some, None, refl, sym, ap, ◌∙◌, take_all, arith}
 use Rattle.std.specs.Prelude.{not, nat_lt, insert, position}
 use Rattle.std.specs.List.{list_any, position_or_len}
 use Rattle.std.proofs.lemmas.Bool.{ltb-false}
 use Rattle.std.proofs.lemmas.Option.{same_Some}
 use Rattle.plc_base.specs.Orders.{placed_by}
 use Rattle.pan_discovery.specs.declared.agents.Agent.{Agent}
-use Rattle.pan_discovery.specs.Agents.{rank, without, agents_of, is_known_by, heard_after}
+use Rattle.pan_discovery.specs.Agents.{rank, without, agents_of, is_known_by}
 use Rattle.pan_discovery.specs.Laws.{FirstAgentsSuffice}
-use Rattle.pan_discovery.proofs.Orders.{Sorted, added, one_more_agent, agents_sorted, agents_distinct, sorted_take, added_first, added_is, take_first}
+use Rattle.pan_discovery.proofs.Orders.{one_more_agent, agents_sorted, agents_distinct, sorted_take, added_first, added_is, take_first}
 
 -- how many come before an agent
 abbrev pub place : Agent → List Agent → ℕ

@@ -1,9 +1,9 @@
 -- What a scan knows after one more entry of a history.
-use Rattle.std.proofs.Common.{◌≡◌, ◌<◌, ◌≤◌, ℕ, zero, suc, ◌-◌, Bool, true, false, List, [], ◌∷◌, length, take, Option, None, refl, sym, ap, subst, ◌∙◌, arith}
+use Rattle.std.proofs.Common.{◌≡◌, ◌<◌, ◌≤◌, ℕ, zero, suc, ◌-◌, Bool, true, false, List, [], ◌∷◌, take, Option, refl, sym, ap, ◌∙◌, arith}
 use Rattle.std.specs.Prelude.{slice_get, option_map, if◌then◌else◌}
 use Rattle.pan_discovery.specs.declared.agents.Agent.{Agent}
 use Rattle.pan_discovery.specs.Agents.{shown, agents_of, kth_of, heard_after}
-use Rattle.pan_discovery.specs.History.{Scanned, Entry, History, Begin, Clear, Beacon, scans, heard_since, after_history, LeadsOn, taken_after}
+use Rattle.pan_discovery.specs.History.{Scanned, Entry, History, Begin, Clear, Beacon, scans, heard_since, after_history, LeadsOn}
 use Rattle.pan_discovery.specs.Laws.{OneMoreEntry, entry_after}
 use Rattle.pan_discovery.proofs.Hearing.{first_agents}
 

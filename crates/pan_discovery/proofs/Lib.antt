@@ -3,3 +3,4 @@ mod Orders
 mod Meaning
 mod Hearing
 mod Histories
+mod Worked

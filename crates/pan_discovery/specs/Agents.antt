@@ -1,5 +1,5 @@
 -- Which agents a list of beacons shows, and in which order; and what one more beacon makes of the first 16 of them.
-use Rattle.std.specs.Prelude.{ℕ, ◌+◌, ◌-◌, ◌*◌, Bool, List, [], ◌∷◌, not, nat_lt, nat_le, take, slice_get, Option, option_map, ◌==◌, ◌&&◌, if◌then◌else◌}
+use Rattle.std.specs.Prelude.{ℕ, ◌+◌, ◌-◌, ◌*◌, Bool, List, [], ◌∷◌, not, nat_le, take, slice_get, Option, option_map, ◌==◌, ◌&&◌, if◌then◌else◌}
 use Rattle.std.specs.List.{filter, list_any}
 use Rattle.plc_base.specs.Orders.{placed_by, ordered_by}
 use Rattle.pan_discovery.specs.declared.agents.Agent.{Agent}

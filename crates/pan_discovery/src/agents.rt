@@ -40,12 +40,14 @@ pub(crate) struct Agents {
 }
 
 impl Model for Agents {
-    ghost use Rattle.std.specs.Prelude.{List};
+    ghost use Rattle.std.specs.Prelude.{List, ◌≤◌, length};
     ghost use Rattle.pan_discovery.specs.declared.agents.Agent.{Agent};
 
     ghost Value = { List Agent };
 
     ghost view = { λ a. a.items.items };
+
+    ghost invariant = { λ a. length a.items.items ≤ 16 };
 }
 
 impl Agents {
@@ -95,24 +97,14 @@ impl Agents {
         self.items.iter().position(|agent| rank < agent.rank())
     }
 
-    // How many agents there are.
-    fn len(&self) -> usize
-        ensures value { result ≡ length self.now }
-        ensures fits { result ≤ 16 }
-    {
-        self.items.len()
-    }
-
     // How many of the agents, from the first on, come before this one.
     fn place_of(&self, heard: &Agent) -> usize
         ensures value { result ≡ position_or_len (λ a. nat_lt (agents.rank heard.now) (agents.rank a)) self.now }
-        ensures few { length self.now ≤ 16 }
         ensures within { result ≤ length self.now }
     {
-        let count = self.len();
         match self.first_after(heard) {
             Some(place) => place,
-            None => count,
+            None => self.items.len(),
         }
     }
 

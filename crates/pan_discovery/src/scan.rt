@@ -24,11 +24,14 @@ pub struct Scan {
 }
 
 impl Model for Scan {
+    ghost use Rattle.std.specs.Prelude.{◌≤◌, length};
     ghost use Rattle.pan_discovery.specs.History.{Scanned};
 
     ghost Value = { Scanned };
 
     ghost view = { λ s. record { scanning = s.scanning; agents = s.agents } };
+
+    ghost invariant = { λ s. length s.agents ≤ 16 };
 }
 
 impl Scan {

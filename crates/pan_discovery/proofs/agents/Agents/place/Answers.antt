@@ -7,7 +7,7 @@ use Rattle.pan_discovery.proofs.agents.Agents.place.Goals as goal
 pub returns-then-place-ge16 : goal.returns-then-place-ge16
 returns-then-place-ge16 c =
     let past : 16 ≤ place c.args.heard c.args.self.now = omega (arith, c.if-place-ge16.true, c.place_of-place.ensures.value) in
-    placed_out c.args.heard c.args.self.now c.place_of-place.ensures.few past
+    placed_out c.args.heard c.args.self.now (rw (← c.self.view_is) c.self.invariant) past
 
 pub returns : goal.returns
 returns c =
