@@ -21,7 +21,8 @@ abbrev pub firsts : List Agent → List Agent
 firsts [] = []
 firsts (a ∷ agents) = a ∷ without a.address (firsts agents)
 
--- The agents of a list of beacons: all that was heard in its order, and of each address the first, which has the least total.
+-- The agents of a list of beacons: all that was heard in its order, and of each address the first, which has the least
+-- total.
 abbrev pub agents_of : (heard : List Agent) → List Agent
 agents_of heard = firsts (ordered_by rank heard)
 
@@ -33,8 +34,8 @@ kth_of agents k = option_map (λ (a : Agent). (a.address, a.total)) (slice_get a
 abbrev pub is_known_by : (heard other : Agent) → Bool
 is_known_by heard other = heard.address == other.address && nat_le other.total heard.total
 
--- What one more beacon makes of at most 16 agents: nothing where its sender stands there and is no dearer; else the sender
--- stands at its new place, and the 17th goes.
+-- What one more beacon makes of at most 16 agents: nothing where its sender stands there and is no dearer; else the
+-- sender stands at its new place, and the 17th goes.
 abbrev pub heard_after : (heard : Agent) → List Agent → List Agent
 heard_after heard agents =
     if list_any (is_known_by heard) agents then agents

@@ -8,8 +8,8 @@ pub record Scanned : Type 0 where
   pub scanning : Bool
   pub agents : List Agent
 
--- What a meter did and heard since it started: it began a scan; it ended one; it heard a beacon with its sender and the cost in
--- it, over a link of some cost.
+-- What a meter did and heard since it started: it began a scan; it ended one; it heard a beacon with its sender and the
+-- cost in it, over a link of some cost.
 pub data Entry : Type 0 where
   Begin : Entry
   Clear : Entry

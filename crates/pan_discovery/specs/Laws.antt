@@ -19,8 +19,8 @@ abbrev pub ReadDiscoveriesAreSpelled : Type 0
 ReadDiscoveriesAreSpelled =
     (m : Discovery) (octets : List ℕ) → AreOctets octets → discovery_in octets ≡ Some m → SpellsDiscovery m octets
 
--- The first 16 agents of a list with one more beacon follow from that beacon and the first 16 agents of the list: what else was
--- heard may be forgotten.
+-- The first 16 agents of a list with one more beacon follow from that beacon and the first 16 agents of the list: what
+-- else was heard may be forgotten.
 abbrev pub FirstAgentsSuffice : Type 0
 FirstAgentsSuffice =
     (beacon : Agent) (heard : List Agent)

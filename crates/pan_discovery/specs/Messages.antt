@@ -10,11 +10,12 @@ abbrev pub IsDiscovery : Discovery → Type 0
 IsDiscovery (Request seq) = seq < 2 ^ 8
 IsDiscovery (Beacon seq pan from cost) = (seq < 2 ^ 8) × (pan < 2 ^ 16) × IsAddress from × (cost < 2 ^ 16)
 
--- A beacon command to every node of every network (IEEE 802.15.4-2006, 7.3.7).
+-- A beacon request command to all nodes of all networks (IEEE 802.15.4-2006, 7.3.7).
 abbrev pub request_spelling : (seq : ℕ) → List ℕ
 request_spelling seq = 0x03 ∷ 0x08 ∷ seq ∷ 0xFF ∷ 0xFF ∷ 0xFF ∷ 0xFF ∷ 0x07 ∷ []
 
--- The second octet of a superframe specification (7.2.2.1.2). It admits nodes, and says whether the sender is the coordinator.
+-- The second octet of a superframe specification (7.2.2.1.2). It admits nodes, and says whether the sender is the
+-- coordinator.
 abbrev pub role : (from : ℕ) → ℕ
 role from = if from == 0 then 0xCF else 0x8F
 

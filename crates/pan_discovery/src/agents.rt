@@ -108,7 +108,7 @@ impl Agents {
         }
     }
 
-    // One more, before the first that is dearer; the last one goes where there are 17.
+    // One more, before the first that comes after it; where that makes 17, the last one goes.
     fn place(&mut self, heard: Agent)
         ensures { self.new ≡ take 16 (placed_by agents.rank heard self.old) }
     {

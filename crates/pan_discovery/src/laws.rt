@@ -11,7 +11,8 @@ pub fn read_discoveries_are_spelled()
     ensures { ReadDiscoveriesAreSpelled }
 {}
 
-/// The agents of a list of beacons are its senders, each once and with its least total, in the order of totals and of addresses.
+/// The agents of a list of beacons are its senders, each once and with its least total, in the order of totals and of
+/// addresses.
 pub fn agents_are_the_cheapest()
     ensures order { AgentsAreInOrder }
     ensures distinct { AgentsAreDistinct }
@@ -19,7 +20,8 @@ pub fn agents_are_the_cheapest()
     ensures senders { SendersAreAgents }
 {}
 
-/// The first 16 agents of a list of beacons, with one more beacon, follow from that beacon and the first 16 agents before it.
+/// The first 16 agents of a list of beacons, with one more beacon, follow from that beacon and the first 16 agents
+/// before it.
 pub fn first_agents_suffice()
     ensures { FirstAgentsSuffice }
 {}

@@ -6,12 +6,12 @@ use plc_base::Short;
 pub enum Discovery {
     /// Asks every node within reach for its beacon.
     Request {
-        /// The sequence number. Nodes write 00 and heed none.
+        /// The sequence number. Nodes write 00.
         seq: u8,
     },
     /// Says that a node is there.
     Beacon {
-        /// The sequence number. Nodes write 00 and heed none.
+        /// The sequence number. Nodes write 00.
         seq: u8,
         /// The identifier of the sender's network.
         pan: u16,

@@ -16,8 +16,8 @@ const REQUEST_LEN: usize = 8;
 /// The octets of a beacon.
 const BEACON_LEN: usize = 13;
 
-/// The second octet of a beacon's superframe specification: the coordinator's at 0000, and another node's at any other address.
-/// Both admit nodes.
+/// The second octet of a beacon's superframe specification: the coordinator's at 0000, and another node's at any other
+/// address. Both admit nodes.
 pub(crate) fn role_of(from: Short) -> u8
     ensures { result ≡ role from }
 {
@@ -96,8 +96,8 @@ fn discovery_of(octets: &[u8]) -> Option<Discovery>
     beacon_of(octets)
 }
 
-/// The request or the beacon that the octets, a whole frame without its check sequence, spell. None exactly where they are
-/// neither.
+/// The request or the beacon that the octets, a whole frame without its check sequence, spell. None exactly where they
+/// are neither.
 pub fn read_discovery(octets: &[u8]) -> Option<Discovery>
     // What is read is spelled so.
     ensures found { IfSome result (λ message. SpellsDiscovery message octets.now) }

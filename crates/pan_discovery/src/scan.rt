@@ -13,8 +13,8 @@ use thiserror::Error;
 #[error("the meter does not scan")]
 pub struct NotScanning;
 
-/// A meter's search for an agent: whether it scans, and the first 16 of the agents whose beacons it heard since it began, the
-/// cheapest first. It takes no memory.
+/// A meter's search for an agent: whether it scans, and the first 16 of the agents whose beacons it heard since it
+/// began, the cheapest first. It takes no memory.
 ///
 /// A contract sees both.
 #[derive(Drop, Debug)]
@@ -93,9 +93,9 @@ impl Scan {
         Ok(())
     }
 
-    /// The agent that is the k-th cheapest of those whose beacons were heard since the scan began, k from 1 to 16, with the least
-    /// total at which it was heard: the cost in the beacon and that of the link. Of agents with equal totals the lower address
-    /// comes first. None exactly where fewer agents were heard.
+    /// The agent that is the k-th cheapest of those whose beacons were heard since the scan began, k from 1 to 16, with
+    /// the least total at which it was heard: the cost in the beacon and that of the link. Of agents with equal totals
+    /// the lower address comes first. None exactly where fewer agents were heard.
     pub fn kth(&self, k: u8) -> Option<(Short, u32)>
         requires first { 1 ≤ k }
         requires last { k ≤ 16 }

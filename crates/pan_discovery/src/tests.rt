@@ -91,8 +91,8 @@ fn changed(octets: &[u8], place: usize) -> FrameBuf {
     out
 }
 
-// Cut anywhere it is neither. With another octet it is neither, but where the octet may be any: the sequence number, the network,
-// the sender of another node (0054 and 5501 for 0001) and the cost.
+// Cut anywhere it is neither. With another octet it is neither, but where the octet may be any: the sequence number,
+// the network, the sender of another node (0054 and 5501 for 0001) and the cost.
 #[test]
 fn is_read_to_its_last_octet(rt: HostRuntime) -> Result<(), Fail> {
     for (text, free) in [
