@@ -91,6 +91,17 @@ fn changed(octets: &[u8], place: usize) -> FrameBuf {
     out
 }
 
+// The first so many octets.
+fn cut(octets: &[u8], count: usize) -> FrameBuf {
+    let mut out = FrameBuf::new();
+    for (k, octet) in octets.iter().enumerate() {
+        if k < count && out.len() < 13 {
+            out.push(*octet);
+        }
+    }
+    out
+}
+
 // Cut anywhere it is neither. With another octet it is neither, but where the octet may be any: the sequence number,
 // the network, the sender of another node (0054 and 5501 for 0001) and the cost.
 #[test]
@@ -102,7 +113,7 @@ fn is_read_to_its_last_octet(rt: HostRuntime) -> Result<(), Fail> {
     ] {
         let octets = hex::decode(rt.alloc(), text)?;
         for (k, mark) in free.as_bytes().iter().enumerate() {
-            assert_eq!(rt; read_discovery(octets.as_slice().split_at(k).0), None);
+            assert_eq!(rt; read_discovery(cut(octets.as_slice(), k).octets()), None);
             let other = changed(octets.as_slice(), k);
             assert_eq!(rt; read_discovery(other.octets()).is_some(), *mark == b'1');
         }
@@ -186,6 +197,33 @@ fn has_the_cheapest_first(rt: HostRuntime) -> Result<(), Fail> {
     Ok(())
 }
 
+// Whether the k-th agent is this one.
+fn has_at(scan: &Scan, k: u8, address: u16, total: u32) -> bool {
+    if k == 0 || k > 16 {
+        return false;
+    }
+    match scan.kth(k) {
+        None => false,
+        Some((there, cost)) => there.number() == address && cost == total,
+    }
+}
+
+// Whether so many agents from the k-th on have addresses and totals that begin with these and rise by one.
+fn has_row(scan: &Scan, k: u8, address: u16, total: u32, count: u8) -> bool {
+    for i in 0..count {
+        let next = address.wrapping_add(u16::from(i));
+        if !has_at(
+            scan,
+            k.wrapping_add(i),
+            next,
+            total.wrapping_add(u32::from(i)),
+        ) {
+            return false;
+        }
+    }
+    true
+}
+
 // The agents 1 to 16 with totals 11 to 26, heard in descending order.
 fn full() -> Result<Scan, Fail> {
     let mut scan = Scan::new();
@@ -196,51 +234,32 @@ fn full() -> Result<Scan, Fail> {
     Ok(scan)
 }
 
-const SIXTEEN: [(u16, u32); 16] = [
-    (1, 11),
-    (2, 12),
-    (3, 13),
-    (4, 14),
-    (5, 15),
-    (6, 16),
-    (7, 17),
-    (8, 18),
-    (9, 19),
-    (10, 20),
-    (11, 21),
-    (12, 22),
-    (13, 23),
-    (14, 24),
-    (15, 25),
-    (16, 26),
-];
-
 #[test]
 fn has_16_agents(rt: HostRuntime) -> Result<(), Fail> {
     let mut scan = full()?;
-    assert!(rt; has(&scan, &SIXTEEN));
+    assert!(rt; has_row(&scan, 1, 1, 11, 16));
     // dearer than all, and as dear as the last one at a higher address
     hear(&mut scan, 17, 100, 1)?;
     hear(&mut scan, 17, 25, 1)?;
-    assert!(rt; has(&scan, &SIXTEEN));
+    assert!(rt; has_row(&scan, 1, 1, 11, 16));
     // as dear as the last one at a lower address
     hear(&mut scan, 0, 25, 1)?;
-    let mut agents = SIXTEEN;
-    agents[15] = (0, 26);
-    assert!(rt; has(&scan, &agents));
-    // the first of all, by an address that went before
+    assert!(rt; has_row(&scan, 1, 1, 11, 15));
+    assert!(rt; has_at(&scan, 16, 0, 26));
+    Ok(())
+}
+
+#[test]
+fn has_room_for_a_cheaper_one(rt: HostRuntime) -> Result<(), Fail> {
+    let mut scan = full()?;
+    // the first of all, by an address that was not among them
     hear(&mut scan, 17, 1, 1)?;
-    for k in 0..15usize {
-        agents[15 - k] = agents[14 - k];
-    }
-    agents[0] = (17, 2);
-    assert!(rt; has(&scan, &agents));
-    // one of the 16 comes to the front, and no other goes
+    assert!(rt; has_at(&scan, 1, 17, 2));
+    assert!(rt; has_row(&scan, 2, 1, 11, 15));
+    // the last one comes to the front, and no other goes
     hear(&mut scan, 15, 0, 1)?;
-    for k in 0..15usize {
-        agents[15 - k] = agents[14 - k];
-    }
-    agents[0] = (15, 1);
-    assert!(rt; has(&scan, &agents));
+    assert!(rt; has_at(&scan, 1, 15, 1));
+    assert!(rt; has_at(&scan, 2, 17, 2));
+    assert!(rt; has_row(&scan, 3, 1, 11, 14));
     Ok(())
 }
