@@ -1,6 +1,6 @@
 -- A node that accepted a frame may hear it.
 use Rattle.std.proofs.Common.{◌≡◌, ℕ, Bool, true, false, List, Option, Some, None, Result, Ok, Err, refl, sym, ap, subst, ◌∙◌}
-use Rattle.std.specs.Prelude.{if◌then◌else◌, IfSome, IfNone, IfOk, IsSome}
+use Rattle.std.specs.Prelude.{◌==◌, if◌then◌else◌, IfSome, IfNone, IfOk, IsSome}
 use Rattle.std.specs.Option.{option_map}
 use Rattle.plc_base.specs.declared.address.Eui.{Eui}
 use Rattle.plc_base.specs.declared.key.Key.{Key}
@@ -14,15 +14,15 @@ use Rattle.node_rules.specs.declared.heard.Accepted.{Accepted}
 use Rattle.node_rules.specs.declared.heard.Path.TheVariants as paths
 use Rattle.node_rules.specs.declared.refusal.FrameRefusal.{FrameRefusal}
 use Rattle.node_rules.specs.declared.refusal.FrameRefusal.TheVariants.{NotForMe, Malformed, Store, Halted}
-use Rattle.node_rules.specs.Carrying.{Carries, nothing}
+use Rattle.node_rules.specs.Carrying.{Carries}
 use Rattle.node_rules.specs.States.{State}
-use Rattle.node_rules.specs.Frames.{Arrived}
+use Rattle.node_rules.specs.Frames.{Arrived, to_all}
 use Rattle.node_rules.specs.Memory.{StationMemory}
 use Rattle.node_rules.specs.Plans.{resting}
 use Rattle.node_rules.specs.Accepting.{Accepting, accept, accept_head, is_for_me, refuse, marking, admitted, open_sealed, with_key}
 use Rattle.plc_station.specs.Heard.{Fits}
 use Rattle.meter_node.specs.Hearing.{CameUp}
-use Rattle.meter_node.specs.MeterStates.{MeterState, memory_with, node_of}
+use Rattle.meter_node.specs.MeterStates.{MeterState, memory_with}
 use Rattle.meter_node.proofs.AcceptingRules.{accepted_came}
 use Rattle.line_nodes.specs.Nodes.{of_meter}
 use Rattle.line_nodes.specs.Receiving.{MayHear}
@@ -37,26 +37,25 @@ unfolding resting
 refused l reason = refl
 
 head_fails : (l : StationMemory) (a : Arrived) (head : MacHead) → Fails (accept_head l a head)
-unfolding resting
+unfolding resting marking
 head_fails l a (heads.Sealed ack seq pan to from counter index) = by_key (ring.key_in_ring l.ring index)
   where
     by_mark : (accepted : Accepted) (r : Result (Unit {0}) PeerFault) → Fails (admitted l from counter accepted r)
-    unfolding marking
     by_mark accepted (Ok u) = refl
-    by_mark accepted (Err fault) = refused l _
+    by_mark accepted (Err fault) = refl
 
     by_payload : (key : Key) (o : Option (List ℕ)) → Fails (open_sealed l to from counter key o)
-    by_payload key None = refused l _
-    by_payload key (Some payload) = by_mark _ (marks.room_for l.marks from counter)
+    by_payload key None = refl
+    by_payload key (Some payload) = by_mark (record { path = paths.Sealed from (to == to_all) key; payload = payload }) (marks.room_for l.marks from counter)
 
     by_key : (o : Option Key) → Fails (with_key l a to from counter o)
-    by_key None = refused l _
+    by_key None = refl
     by_key (Some key) = by_payload key (a.opened key)
 head_fails l a (heads.Up ack version seq pan to from) = refl
 head_fails l a (heads.Down ack version seq pan to from) = refl
 
 fails : (l : StationMemory) (own : Eui) (a : Option Arrived) → Fails (accept l own a)
-fails l own None = refused l _
+fails l own None = refused l Malformed
 fails l own (Some a) = by_test (is_for_me l own a.head)
   where
     by_test : (b : Bool) → Fails (if b then accept_head l a a.head else refuse l NotForMe)

@@ -1,25 +1,30 @@
 -- A plan that is carried out is the step that the rules of the line have.
-use Rattle.std.proofs.Common.{◌≡◌, ℕ, Bool, List, Option, Some, None, Result, Ok, Err, refl, sym, ap, subst, ◌∙◌}
+use Rattle.std.proofs.Common.{◌≡◌, ℕ, true, Option, Some, None, Result, Ok, Err, refl, sym, ap, subst, ◌∙◌}
 use Rattle.std.specs.Prelude.{IfSome, IfNone, IsSome, MatchResult}
 use Rattle.std.specs.Result.{result_ok}
-use Rattle.std.specs.Option.{option_map}
+use Rattle.std.specs.Option.{option_map, option_map_or}
 use Rattle.plc_base.specs.declared.address.Eui.{Eui}
 use Rattle.plc_base.specs.declared.keeper.Cut.{Cut}
 use Rattle.plc_base.specs.declared.keeper.BadStore.{BadStore}
 use Rattle.plc_base.specs.declared.key.Key.{Key}
 use Rattle.plc_base.specs.declared.out_frame.Out.{Out}
 use Rattle.plc_base.specs.Keeper.{Records, Store}
-use Rattle.plc_base.specs.Writes.{Wrote}
-use Rattle.group_keys.specs.KeyBook as book
-use Rattle.node_rules.specs.Memory.{StationMemory, Memory, Role, Meter, Node, Stored}
-use Rattle.node_rules.specs.NodeSteps.{NodeStep, acts, left_by, of_station}
-use Rattle.node_rules.specs.Plans.{Plan, Outcome, carry_out}
+use Rattle.plc_base.proofs.WritesLemmas.{wrote_none}
+use Rattle.node_rules.specs.Calls as calls
+use Rattle.node_rules.specs.MemoryDrafts.{with_station}
+use Rattle.routing_set.specs.RoutingSet as routing
+use Rattle.node_rules.specs.declared.shown.Shown.{Shown}
+use Rattle.node_rules.specs.Showing.{shown_station, shown_of, nothing_shown}
+use Rattle.node_rules.specs.Memory.{StationMemory, Memory, Role, Meter}
+use Rattle.node_rules.specs.NodeSteps.{NodeStep, acts, changing, left_by, of_station}
+use Rattle.node_rules.specs.Plans.{Plan, Outcome, carry_out, resting}
 use Rattle.node_rules.specs.Meters as meters
 use Rattle.node_rules.specs.States.{State}
 use Rattle.node_rules.specs.StoreReading.{memory_of}
 use Rattle.node_rules.specs.Agreement.{Agrees, AgreesWith}
-use Rattle.node_rules.specs.Carrying.{Carries, Shows, IsCarriedOut, nothing}
-use Rattle.node_rules.specs.Tables.{HasShortTables, HasGaplessTables, HoldsTables, WritesInPlace, OfCoordinator}
+use Rattle.node_rules.specs.Carrying.{Carries, IsCarriedOut, nothing}
+use Rattle.node_rules.specs.declared.refusal.Halted.{Halted}
+use Rattle.node_rules.specs.Tables.{HasShortTables, HasGaplessTables, HoldsTables, WritesInPlace}
 use Rattle.node_rules.proofs.Outcomes.{carried}
 use Rattle.node_rules.proofs.Tables.{writes_keep_tables}
 use Rattle.meter_node.specs.MeterStates.{MeterState, memory_with, node_of}
@@ -29,7 +34,7 @@ use Rattle.line_rules.specs.Steps.{memory_by, restart_word, restarts, ticked}
 use Rattle.line_rules.specs.declared.event.Answer.{Answer}
 use Rattle.line_rules.specs.declared.event.Answer.TheVariants as said
 use Rattle.line_nodes.specs.Nodes.{cut_told, stored_in, node_in, of_meter}
-use Rattle.line_nodes.specs.Doings.{given_by, Took}
+use Rattle.line_nodes.specs.Doings.{Took}
 use Rattle.line_nodes.specs.Soundness.{AgreesAs, IsSound, IsSoundMeter}
 
 -- # What is there
@@ -154,14 +159,6 @@ agrees_of_meter psk y a = by y.station.memory a
     by : (o : Option StationMemory) → IfSome o (λ l. AgreesWith l y.station.store.records) → IfSome (option_map (memory_with y) o) (λ m. AgreesAs (Meter psk) m y.station.store.records)
     by None a = tt
     by (Some l) a = record { station = a; book = tt }
-
--- a sound meter's station agrees with its keeper
-pub station_agrees : (x : MeterState) → IsSoundMeter x → Agrees x.station
-station_agrees x sound = by x.station.memory sound.agrees
-  where
-    by : (o : Option StationMemory) → IfSome (option_map (memory_with x) o) (λ m. AgreesAs (Meter x.psk) m x.station.store.records) → IfSome o (λ l. AgreesWith l x.station.store.records)
-    by None a = tt
-    by (Some l) a = a.station
 
 pub sound_meter : (y : MeterState) → IsSome y.station.store.told → HasGaplessTables (Meter y.psk) y.station.store.records → Agrees y.station → IsSoundMeter y
 sound_meter y told tables agrees = record { told = told; tables = tables; home = tt; agrees = agrees_of_meter y.psk y agrees }
@@ -292,3 +289,131 @@ stored_sound x y sound store agrees =
 -- a meter at which what is old ended
 pub ended : (now : ℕ) (x y : MeterState) → node_of y ≡ record (node_of x) { memory = option_map (meters.tick now) (node_of x).memory } → y.psk ≡ x.psk → of_meter y ≡ ticked now (of_meter x)
 ended now x y state psk = λ i. node_in (Meter (psk i)) (state i)
+
+-- # A station that is asked first whether it is halted
+
+-- a meter of which the station was lent and given back
+unchanged : (x : MeterState) (s : State StationMemory) → s ≡ x.station → with_its s x ≡ x
+unchanged x s e = ap (λ k. with_its k x) e
+
+still : {A : Type 0} (s : State StationMemory) (answer : A) → StationStayed s answer answer nothing s
+still {A} s answer = by s.memory
+  where
+    by : (o : Option StationMemory) → IfNone o ((answer ≡ answer) × (◌≡◌ {A = Out} nothing nothing) × (s ≡ s))
+    by None = (refl, refl, refl)
+    by (Some l) = tt
+
+-- a halted one stays as it is
+pub rests : {A : Type 0} (x : MeterState) (s : State StationMemory) (halted : A) (p : Memory → Plan Memory A) → s ≡ x.station → IsSoundMeter x → s.memory ≡ None
+    → Took (acts (of_meter x) halted p) halted nothing (of_meter (with_its s x))
+rests {A} x s halted p same sound none =
+    let x_none : x.station.memory ≡ None = sym (ap (λ (k : State StationMemory). k.memory) same) ∙ none in
+    let n_none : (node_of x).memory ≡ None = ap (λ (o : Option StationMemory). option_map (memory_with x) o) x_none in
+    meter_took x (with_its s x) halted p halted nothing sound refl
+    (subst (λ (k : State StationMemory). StayedHalted (node_of x) halted halted nothing (node_of (with_its k x))) (sym same) (stays_lent x x.station halted halted nothing (still x.station halted)))
+    (not_some (node_of x).memory _ n_none)
+
+runs_still : (x : MeterState) (s : State StationMemory) (P : Type 0) → s ≡ x.station → IsSome s.memory → IfNone (node_of x).memory P
+runs_still x s P same is = by x.station.memory (subst (λ (k : State StationMemory). IsSome k.memory) same is)
+  where
+    by : (o : Option StationMemory) → IsSome o → IfNone (option_map (memory_with x) o) P
+    by None is = absurd (cc)
+    by (Some l) is = tt
+
+of_same : {A : Type 0} (x y : MeterState) (s : State StationMemory) (p : Memory → Plan Memory A) (answer : A) (out : Out) → s ≡ x.station
+    → IfSome (node_of (with_its s x)).memory (λ m. Carries (node_of (with_its s x)) (p m) answer out (node_of y)) → IfSome (node_of x).memory (λ m. Carries (node_of x) (p m) answer out (node_of y))
+of_same x y s p answer out same carries = subst (λ (z : MeterState). IfSome (node_of z).memory (λ m. Carries (node_of z) (p m) answer out (node_of y))) (unchanged x s same) carries
+
+-- a call of a meter that runs
+pub running_took : {A : Type 0} (x y : MeterState) (s : State StationMemory) (halted : A) (p : Memory → Plan Memory A) (answer : A) (out : Out) → s ≡ x.station → IsSoundMeter x → y.psk ≡ x.psk
+    → IsSome s.memory → IfSome (node_of (with_its s x)).memory (λ m. Carries (node_of (with_its s x)) (p m) answer out (node_of y))
+    → Took (acts (of_meter x) halted p) answer out (of_meter y)
+running_took x y s halted p answer out same sound psk is carries =
+    meter_took x y halted p answer out sound psk (runs_still x s _ same is) (of_same x y s p answer out same carries)
+
+pub running_sound : {A : Type 0} (x y : MeterState) (s : State StationMemory) (halted : A) (p : Memory → Plan Memory A) (answer : A) (out : Out) → Places p → s ≡ x.station → IsSoundMeter x
+    → IsSome s.memory → IfSome (node_of (with_its s x)).memory (λ m. Carries (node_of (with_its s x)) (p m) answer out (node_of y)) → Agrees y.station → IsSoundMeter y
+running_sound x y s halted p answer out places same sound is carries agrees =
+    meter_sound x y halted p answer out places sound (runs_still x s _ same is) (of_same x y s p answer out same carries) agrees
+
+-- # A link that broke
+
+-- a change of what is in memory, of which nothing is stored
+changed : {A : Type 0} (s t : State StationMemory) (l : StationMemory) (answer : A) → t ≡ record s { memory = Some l } → Carries s (resting l answer answer) answer nothing t
+unfolding resting
+changed {A} s t l answer e = subst (λ (k : State StationMemory). Carries s (resting l answer answer) answer nothing k) (sym e) (record {
+  done = true;
+  wrote = wrote_none s.store;
+  answer_is = refl;
+  out_is = refl;
+  new_is = refl;
+})
+
+-- the word for a link that broke
+abbrev pub IsBrokenWord : Result (Unit {0}) Halted → Answer → Type 0
+IsBrokenWord broke word = MatchResult broke (λ _. word ≡ said.Broken) (λ _. word ≡ said.Halted)
+
+pub broke_took : (x : MeterState) (s t : State StationMemory) (next : ℕ) (r : Result (Unit {0}) Halted) (word : Answer) → s ≡ x.station → IsSoundMeter x
+    → IfNone s.memory ((r ≡ Err (record {})) × (t ≡ s)) → IfSome s.memory (λ l. (r ≡ Ok tt) × (t ≡ record s { memory = Some (calls.broke next l) })) → IsBrokenWord r word
+    → Took (acts (of_meter x) said.Halted (λ m. changing said.Broken (with_station (calls.broke next m.station) m))) word nothing (of_meter (with_its t x))
+unfolding resting
+broke_took x s t next r word same sound halted ended is =
+    station_took x s t said.Halted (λ k l. resting (calls.broke next l) said.Broken said.Broken) word nothing same sound (stayed s.memory halted) (carries s.memory ended)
+  where
+    stayed : (o : Option StationMemory) → IfNone o ((r ≡ Err (record {})) × (t ≡ s)) → IfNone o ((word ≡ said.Halted) × (◌≡◌ {A = Out} nothing nothing) × (t ≡ s))
+    stayed None h = (subst (λ (k : Result (Unit {0}) Halted). IsBrokenWord k word) h.0 is, refl, h.1)
+    stayed (Some l) h = tt
+
+    carries : (o : Option StationMemory) → IfSome o (λ l. (r ≡ Ok tt) × (t ≡ record s { memory = Some (calls.broke next l) }))
+        → IfSome o (λ l. Carries s (resting (calls.broke next l) said.Broken said.Broken) word nothing t)
+    carries None h = tt
+    carries (Some l) h =
+        let w : word ≡ said.Broken = subst (λ (k : Result (Unit {0}) Halted). IsBrokenWord k word) h.0 is in
+        subst (λ (k : Answer). Carries s (resting (calls.broke next l) said.Broken said.Broken) k nothing t) (sym w) (changed s t (calls.broke next l) said.Broken h.1)
+
+-- # What is looked up at a station that is lent
+
+-- what a running station says of what it holds, its meter says as a node
+by_memory : {A : Type 0} (x : MeterState) (s : State StationMemory) (f : StationMemory → A) (none r : A) → s ≡ x.station → IsSome s.memory → IfSome s.memory (λ l. r ≡ f l)
+    → r ≡ option_map_or (λ (m : Memory). f m.station) (of_meter x).memory none
+by_memory {A} x s f none r same is h =
+    by x.station.memory (subst (λ (k : State StationMemory). IsSome k.memory) same is) (subst (λ (k : State StationMemory). IfSome k.memory (λ l. r ≡ f l)) same h)
+  where
+    by : (o : Option StationMemory) → IsSome o → IfSome o (λ l. r ≡ f l) → r ≡ option_map_or (λ (m : Memory). f m.station) (option_map (memory_with x) o) none
+    by None is h = absurd (cc)
+    by (Some l) is h = h
+
+-- and a halted one says nothing
+by_none : {A : Type 0} (x : MeterState) (s : State StationMemory) (f : StationMemory → A) (none : A) → s ≡ x.station → s.memory ≡ None
+    → none ≡ option_map_or (λ (m : Memory). f m.station) (of_meter x).memory none
+by_none {A} x s f none same e =
+    let x_none : x.station.memory ≡ None = sym (ap (λ (k : State StationMemory). k.memory) same) ∙ e in
+    ap (λ (o : Option StationMemory). option_map_or (λ (m : Memory). f m.station) (option_map (memory_with x) o) none) (sym x_none)
+
+-- what a word says of the routing of a station that runs
+of_routing : {A : Type 0} (f : routing.Routing → A) (o : Option StationMemory) (t : routing.Routing) (r : A) → IfSome o (λ l. t ≡ l.routing) → r ≡ f t → IfSome o (λ l. r ≡ f l.routing)
+of_routing f None t r h e = tt
+of_routing f (Some l) t r h e = e ∙ ap f h
+
+pub says : {A : Type 0} (f : routing.Routing → A) (x : MeterState) (s : State StationMemory) (t : routing.Routing) (none r : A) → s ≡ x.station → IsSome s.memory
+    → IfSome s.memory (λ l. t ≡ l.routing) → r ≡ f t → r ≡ option_map_or (λ (m : Memory). f m.station.routing) (of_meter x).memory none
+says f x s t none r same is h e = by_memory x s (λ l. f l.routing) none r same is (of_routing f s.memory t r h e)
+
+pub says_nothing : {A : Type 0} (f : routing.Routing → A) (x : MeterState) (s : State StationMemory) (none : A) → s ≡ x.station → s.memory ≡ None
+    → none ≡ option_map_or (λ (m : Memory). f m.station.routing) (of_meter x).memory none
+says_nothing f x s none same e = by_none x s (λ l. f l.routing) none same e
+
+-- what is shown
+pub shows : (x : MeterState) (s : State StationMemory) (out : Shown) → s ≡ x.station → (s.memory ≡ None → out ≡ nothing_shown) → IfSome s.memory (λ l. out ≡ shown_station l)
+    → out ≡ shown_of (of_meter x)
+shows x s out same none some = by x.station.memory refl
+  where
+    station_memory : s.memory ≡ x.station.memory
+    station_memory = ap (λ (k : State StationMemory). k.memory) same
+
+    by : (o : Option StationMemory) → x.station.memory ≡ o → out ≡ option_map_or (λ (m : Memory). shown_station m.station) (option_map (memory_with x) x.station.memory) nothing_shown
+    by None e =
+        none (station_memory ∙ e) ∙ ap (λ (o : Option StationMemory). option_map_or (λ (m : Memory). shown_station m.station) (option_map (memory_with x) o) nothing_shown) (sym e)
+    by (Some l) e =
+        at s.memory (λ k. out ≡ shown_station k) l (station_memory ∙ e) some
+        ∙ ap (λ (o : Option StationMemory). option_map_or (λ (m : Memory). shown_station m.station) (option_map (memory_with x) o) nothing_shown) (sym e)

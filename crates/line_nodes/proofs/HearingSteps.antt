@@ -1,5 +1,5 @@
 -- A meter hears a frame that it accepted.
-use Rattle.std.proofs.Common.{◌≡◌, ℕ, List, Option, Some, None, Result, Ok, Err, refl, subst}
+use Rattle.std.proofs.Common.{◌≡◌, ℕ, List, Option, Some, None, Result, Err, refl, subst}
 use Rattle.std.specs.Prelude.{IfSome, IsSome}
 use Rattle.std.specs.Option.{option_map}
 use Rattle.plc_base.specs.declared.out_frame.Out.{Out}

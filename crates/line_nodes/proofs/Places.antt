@@ -1,11 +1,12 @@
 -- The nodes of a list, each at its place.
-use Rattle.std.proofs.Common.{◌≡◌, ℕ, zero, suc, ◌+◌, ◌<◌, ◌≤◌, List, [], ◌∷◌, length, map, set, get_or, Option, Some, None, Result, Ok, Err, refl, sym, ap, subst, ◌∙◌}
-use Rattle.std.specs.Prelude.{IfSome, IfOk, slice_get, slice_set}
+use Rattle.std.proofs.Common.{◌≡◌, ℕ, zero, suc, ◌+◌, ◌<◌, ◌≤◌, Bool, not, cond, List, [], ◌∷◌, ◌++◌, length, map, take, drop, get_or, arith, Option, Some, None, Result, Ok, Err, refl, sym, ap, subst, ◌∙◌}
+use Rattle.std.specs.Prelude.{IfSome, IfOk, nat_lt, position, slice_get, slice_set}
 use Rattle.std.specs.Option.{option_map, option_and_then}
+use Rattle.std.specs.List.{position_or_len}
 use Rattle.std.proofs.Math.Seq.{map-set_same}
 use Rattle.plc_base.proofs.SlotTables.{slice_get-set}
+use Rattle.routing_set.proofs.Endings.{map_length, map_step, map_whole}
 use Rattle.std.proofs.lemmas.List.{map-set, length-map}
-use Rattle.std.proofs.lemmas.List.Elements.{All-set}
 use Rattle.std.proofs.lemmas.Option.{slice_get-map, slice_get_read}
 use Rattle.plc_base.specs.declared.out_frame.Out.{Out}
 use Rattle.node_rules.specs.declared.heard.Accepted.{Accepted}
@@ -78,3 +79,41 @@ address_is x r e = e ∙ by x.station.memory
 pub at_place : (ms : List MeterState) (old : List Node) (place : ℕ) (x : MeterState) (P : Node → Type 0) → map of_meter ms ≡ old → place < length old → x ≡ get_or ms place x
     → IfSome (slice_get old place) P → P (of_meter x)
 at_place ms old place x P view there here h = subst (λ (o : Option Node). IfSome o P) (found ms old place x view there here) h
+
+-- a meter that changed at a place changed there as a node
+pub set_at : (ms : List MeterState) (old : List Node) (place : ℕ) (y : MeterState) (n : Node) → map of_meter ms ≡ old → of_meter y ≡ n → map of_meter (slice_set ms place y) ≡ slice_set old place n
+set_at ms old place y n view node = map-set of_meter ms place y ∙ ap (λ (xs : List Node). slice_set xs place (of_meter y)) view ∙ ap (λ (k : Node). slice_set old place k) node
+
+-- # One place after the other
+
+there_is : {A : Type 0} (ys : List A) (p : ℕ) → p < length ys → (x : A) × (slice_get ys p ≡ Some x)
+there_is [] p h = absurd (omega (arith, h))
+there_is (x ∷ xs) zero h = (x, refl)
+there_is (x ∷ xs) (suc p) h = let less : p < length xs = omega (arith, h) in there_is xs p less
+
+-- what was done up to a place
+abbrev pub UpTo : (Node → Node) → List Node → ℕ → List Node → Type 0
+UpTo f xs p ys = ys ≡ map f (take p xs) ++ drop p xs
+
+pub up_to_next : (f : Node → Node) (xs ys zs : List Node) (p : ℕ) → UpTo f xs p ys → p < length ys → IfSome (slice_get ys p) (λ x. zs ≡ slice_set ys p (f x)) → UpTo f xs (p + 1) zs
+up_to_next f xs ys zs p so_far within h =
+    let x = there_is ys p within in
+    let got : slice_get (map f (take p xs) ++ drop p xs) p ≡ Some x.0 = sym (ap (λ (k : List Node). slice_get k p) so_far) ∙ x.1 in
+    let done : zs ≡ slice_set ys p (f x.0) = subst (λ (o : Option Node). IfSome o (λ x. zs ≡ slice_set ys p (f x))) x.1 h in
+    let next : suc p ≡ p + 1 = omega arith in
+    done ∙ ap (λ (k : List Node). slice_set k p (f x.0)) so_far ∙ map_step f xs p x.0 got ∙ ap (λ (n : ℕ). map f (take n xs) ++ drop n xs) next
+
+pub up_to_end : (f : Node → Node) (xs ys : List Node) (p : ℕ) → UpTo f xs p ys → length xs ≤ p → ys ≡ map f xs
+up_to_end f xs ys p so_far past = so_far ∙ map_whole f xs p past
+
+pub up_to_long : (f : Node → Node) (xs ys : List Node) (p : ℕ) → UpTo f xs p ys → length ys ≡ length xs
+up_to_long f xs ys p so_far = ap (λ (k : List Node). length k) so_far ∙ map_length f xs p
+
+-- # The first that passes
+
+first_map : {A B : Type 0} (f : A → B) (p : B → Bool) (xs : List A) → position_or_len p (map f xs) ≡ position_or_len (λ x. p (f x)) xs
+first_map f p [] = refl
+first_map f p (x ∷ xs) = ap (λ (n : ℕ). cond (not (p (f x))) (1 + n) 0) (first_map f p xs)
+
+pub position_map : {A B : Type 0} (f : A → B) (p : B → Bool) (xs : List A) → position p (map f xs) ≡ position (λ x. p (f x)) xs
+position_map f p xs = λ i. cond (nat_lt (first_map f p xs i) (length-map xs f i)) (Some (first_map f p xs i)) None

@@ -8,7 +8,8 @@ use Rattle.plc_base.specs.declared.key.Key.{Key}
 use Rattle.plc_base.specs.declared.key.Rand.{Rand}
 use Rattle.plc_base.specs.Keeper.{Records}
 use Rattle.group_keys.specs.KeyBook.{Book, book_code}
-use Rattle.node_rules.specs.Memory.{StationMemory, MeterSession, CoordinatorSession, Memory, Role, Coordinator, Meter, Stored, Node}
+use Rattle.node_rules.specs.Memory.{StationMemory, MeterSession, CoordinatorSession, Memory}
+use Rattle.node_rules.specs.Memory.{Role, Coordinator, Meter, Stored, Node}
 use Rattle.node_rules.specs.MemoryCodes.{station_code}
 use Rattle.node_rules.specs.States.{eui_code}
 use Rattle.meter_node.specs.Sessions as meter_sessions
@@ -28,23 +29,27 @@ role_back Coordinator = refl
 role_back (Meter psk) = refl
 
 abbrev pub role_code : Coded Role
-role_code = code_by (Option Key) (coded_option meter_sessions.key_code) (λ r. psk_in r) (λ p. role_by p) (λ r. role_back r)
+role_code =
+    code_by (Option Key) (coded_option meter_sessions.key_code) (λ r. psk_in r) (λ p. role_by p) (λ r. role_back r)
 
 abbrev pub cut_code : Coded Cut
-cut_code = code_by (ℕ × Bool) (coded× coded_ℕ coded_bool) (λ c. (c.nth, c.keeps_new)) (λ p. record { nth = p.0; keeps_new = p.1 }) (λ _. refl)
+cut_code =
+    code_by (ℕ × Bool) (coded× coded_ℕ coded_bool) (λ c. (c.nth, c.keeps_new))
+    (λ p. record { nth = p.0; keeps_new = p.1 }) (λ _. refl)
 
 abbrev pub stored_code : Coded Stored
 stored_code =
-    code_by (Records × Option Cut) (coded× (code coded_ℕ (coded_list coded_ℕ)) (coded_option cut_code)) (λ s. (s.records, s.cut))
-    (λ p. record { records = p.0; cut = p.1 }) (λ _. refl)
+    code_by (Records × Option Cut) (coded× (code coded_ℕ (coded_list coded_ℕ)) (coded_option cut_code))
+    (λ s. (s.records, s.cut)) (λ p. record { records = p.0; cut = p.1 }) (λ _. refl)
 
 abbrev pub memory_code : Coded Memory
 memory_code =
     code_by (StationMemory × (List Rand × (Option MeterSession × (List CoordinatorSession × Book))))
-    (coded× station_code (coded× (coded_list meter_sessions.rand_code) (coded× (coded_option meter_sessions.session_code)
-    (coded× (coded_list coordinator_sessions.session_code) book_code))))
+    (coded× station_code (coded× (coded_list meter_sessions.rand_code)
+    (coded× (coded_option meter_sessions.session_code) (coded× (coded_list coordinator_sessions.session_code) book_code))))
     (λ m. (m.station, (m.randoms, (m.session, (m.sessions, m.book)))))
-    (λ t. record { station = t.0; randoms = t.1.0; session = t.1.1.0; sessions = t.1.1.1.0; book = t.1.1.1.1 }) (λ _. refl)
+    (λ t. record { station = t.0; randoms = t.1.0; session = t.1.1.0; sessions = t.1.1.1.0; book = t.1.1.1.1 })
+    (λ _. refl)
 
 abbrev pub node_code : Coded Node
 node_code =

@@ -1,6 +1,8 @@
 -- The nodes of a line, as the rules of the line see them.
-use Rattle.std.specs.Prelude.{List, [], ◌∷◌, map, Option, Some, None}
+use Rattle.std.specs.Prelude.{Bool, List, [], ◌∷◌, map, Option, Some, None}
+use Rattle.plc_base.specs.declared.address.Eui.{Eui}
 use Rattle.plc_base.specs.declared.keeper.Cut.{Cut}
+use Rattle.node_rules.specs.Accepting.{same_eui}
 use Rattle.plc_base.specs.Keeper.{Store}
 use Rattle.node_rules.specs.Memory.{Memory, Role, Coordinator, Meter, Stored, Node}
 use Rattle.node_rules.specs.States.{State}
@@ -34,3 +36,7 @@ of_meter m = node_in (Meter m.psk) (meters.node_of m)
 abbrev pub nodes_of : Option CoordinatorState → List MeterState → List Node
 nodes_of None meters = []
 nodes_of (Some c) meters = of_coordinator c ∷ map of_meter meters
+
+-- whether a meter has this EUI
+abbrev pub has_eui : Eui → MeterState → Bool
+has_eui eui m = same_eui m.station.eui eui

@@ -1,7 +1,7 @@
-//! The nodes of a line, each over a keeper of its own in memory.
+//! The meters of a line, each over a keeper of its own in memory.
 //!
-//! Each call names a node by its place, and takes the step that the rules of the nodes give for it, whichever writes of its keeper
-//! fail.
+//! Each call names a meter by its place, and takes the step that the rules of the nodes give for it, whichever
+//! writes of its keeper fail.
 #![tactic(auto)]
 
 mod coordinator_steps;

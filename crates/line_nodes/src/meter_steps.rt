@@ -23,8 +23,8 @@ use group_keys::RingFault;
 use line_rules::Answer;
 use meter_node::Meter;
 use node_rules::{
-    Accepted, FrameRefusal, JoinRefusal, LeaveRefusal, PresetFault, RandomFault, SendRefusal,
-    SentHow, Shown,
+    Accepted, FrameRefusal, Halted, JoinRefusal, LeaveRefusal, PresetFault, RandomFault,
+    SendRefusal, SentHow, Shown,
 };
 use plc_base::{BadStore, DatagramBuf, Grant, LinkCost, MemKeeper, Out, Rand, Short};
 
@@ -39,7 +39,8 @@ pub(crate) fn send_by(
 ) -> Result<SentHow, SendRefusal>
     requires sound { IsSoundMeter meter.old }
     ensures took { Took (acts (of_meter meter.old) (Err SendRefusal.Halted)
-        (λ m. of_station m (calls.send m.station to datagram.now note now))) result out.new (of_meter meter.new) }
+        (λ m. of_station m (calls.send m.station to datagram.now note now)))
+        result out.new (of_meter meter.new) }
     ensures sound { IsSoundMeter meter.new }
 {
     meter.station().send(to, datagram, note, now, out)
@@ -52,8 +53,8 @@ pub(crate) fn accept_by(
 ) -> Result<Accepted, FrameRefusal>
     requires sound { IsSoundMeter meter.old }
     ensures took { Took (acts (of_meter meter.old) (Err FrameRefusal.Halted)
-        (λ m. of_station m (accepting.accept m.station meter.old.station.eui
-        (arrived network octets.now)))) result nothing (of_meter meter.new) }
+        (λ m. of_station m (accepting.accept m.station meter.old.station.eui (arrived network octets.now))))
+        result nothing (of_meter meter.new) }
     ensures sound { IsSoundMeter meter.new }
     ensures hears { IfOk result (λ got. MayHear (of_meter meter.new) got) }
 {
@@ -64,7 +65,8 @@ pub(crate) fn accept_by(
 pub(crate) fn set_counter(meter: &mut Meter<MemKeeper>, value: u32) -> Result<(), PresetFault>
     requires sound { IsSoundMeter meter.old }
     ensures took { Took (acts (of_meter meter.old) (Ok tt)
-        (λ m. of_station m (calls.preset_counter m.station value))) result nothing (of_meter meter.new) }
+        (λ m. of_station m (calls.preset_counter m.station value)))
+        result nothing (of_meter meter.new) }
     ensures sound { IsSoundMeter meter.new }
 {
     let station = meter.station();
@@ -79,7 +81,8 @@ pub(crate) fn set_number(meter: &mut Meter<MemKeeper>, value: u16) -> Result<(),
     requires sound { IsSoundMeter meter.old }
     requires value { 1 ≤ value }
     ensures took { Took (acts (of_meter meter.old) (Ok tt)
-        (λ m. of_station m (calls.preset_number m.station value))) result nothing (of_meter meter.new) }
+        (λ m. of_station m (calls.preset_number m.station value)))
+        result nothing (of_meter meter.new) }
     ensures sound { IsSoundMeter meter.new }
 {
     let station = meter.station();
@@ -98,7 +101,8 @@ pub(crate) fn offer_near(
 ) -> Result<(), PresetFault>
     requires sound { IsSoundMeter meter.old }
     ensures took { Took (acts (of_meter meter.old) (Ok tt)
-        (λ m. of_station m (calls.preset_near m.station to cost now))) result nothing (of_meter meter.new) }
+        (λ m. of_station m (calls.preset_near m.station to cost now)))
+        result nothing (of_meter meter.new) }
     ensures sound { IsSoundMeter meter.new }
 {
     let station = meter.station();
@@ -112,7 +116,8 @@ pub(crate) fn offer_near(
 pub(crate) fn give_random_to(meter: &mut Meter<MemKeeper>, value: Rand) -> Result<(), RandomFault>
     requires sound { IsSoundMeter meter.old }
     ensures took { Took (acts (of_meter meter.old) (Err RandomFault.Halted)
-        (λ m. drafts.give_random m value)) result nothing (of_meter meter.new) }
+        (λ m. drafts.give_random m value))
+        result nothing (of_meter meter.new) }
     ensures sound { IsSoundMeter meter.new }
 {
     meter.give_random(value)
@@ -127,7 +132,8 @@ pub(crate) fn join_by(
 ) -> Result<(), JoinRefusal>
     requires sound { IsSoundMeter meter.old }
     ensures took { Took (acts (of_meter meter.old) (Err JoinRefusal.Halted)
-        (λ m. meters.join (identity network (of_meter meter.old) meter.old.psk) m agent now)) result out.new (of_meter meter.new) }
+        (λ m. meters.join (identity network (of_meter meter.old) meter.old.psk) m agent now))
+        result out.new (of_meter meter.new) }
     ensures sound { IsSoundMeter meter.new }
 {
     meter.join(agent, now, out)
@@ -137,7 +143,8 @@ pub(crate) fn join_by(
 pub(crate) fn leave_by(meter: &mut Meter<MemKeeper>) -> Result<(), LeaveRefusal>
     requires sound { IsSoundMeter meter.old }
     ensures took { Took (acts (of_meter meter.old) (Err LeaveRefusal.Halted)
-        (meters.leave)) result nothing (of_meter meter.new) }
+        (meters.leave))
+        result nothing (of_meter meter.new) }
     ensures sound { IsSoundMeter meter.new }
 {
     meter.leave()
@@ -147,7 +154,8 @@ pub(crate) fn leave_by(meter: &mut Meter<MemKeeper>) -> Result<(), LeaveRefusal>
 pub(crate) fn provision_by(meter: &mut Meter<MemKeeper>, grant: &Grant) -> Result<(), RingFault>
     requires sound { IsSoundMeter meter.old }
     ensures took { Took (acts (of_meter meter.old) (Ok tt)
-        (λ m. meters.provision m grant.now)) result nothing (of_meter meter.new) }
+        (λ m. meters.provision m grant.now))
+        result nothing (of_meter meter.new) }
     ensures sound { IsSoundMeter meter.new }
 {
     if meter.station().halted() {
@@ -157,11 +165,12 @@ pub(crate) fn provision_by(meter: &mut Meter<MemKeeper>, grant: &Grant) -> Resul
 }
 
 // The word for a link that broke.
-fn broken_word(halted: bool) -> Answer {
-    if halted {
-        Answer::Halted
-    } else {
-        Answer::Broken
+fn broken_word(broke: Result<(), Halted>) -> Answer
+    ensures { MatchResult broke (λ _. result ≡ said.Broken) (λ _. result ≡ said.Halted) }
+{
+    match broke {
+        Ok(()) => Answer::Broken,
+        Err(_) => Answer::Halted,
     }
 }
 
@@ -169,11 +178,12 @@ fn broken_word(halted: bool) -> Answer {
 pub(crate) fn break_at(meter: &mut Meter<MemKeeper>, next: Short) -> Answer
     requires sound { IsSoundMeter meter.old }
     ensures took { Took (acts (of_meter meter.old) (said.Halted)
-        (λ m. changing said.Broken (drafts.with_station (calls.broke next m.station) m))) result nothing (of_meter meter.new) }
+        (λ m. changing said.Broken (drafts.with_station (calls.broke next m.station) m)))
+        result nothing (of_meter meter.new) }
     ensures sound { IsSoundMeter meter.new }
 {
     let broke = meter.station().broke(next);
-    broken_word(broke.is_err())
+    broken_word(broke)
 }
 
 // Whether a meter keeps a rank of an address. A halted one keeps none.

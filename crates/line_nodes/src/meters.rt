@@ -1,5 +1,6 @@
 //! The meters of a line, and what they do.
-ghost use Rattle.std.specs.Prelude.{◌≡◌, ◌≤◌, ◌<◌, ◌++◌, ◌∷◌, [], length, map, position, Ok, Err, OnOk, OnErr, Some, IfSome, IfOk, slice_get};
+ghost use Rattle.std.specs.Prelude.{◌≡◌, ◌≤◌, ◌<◌, ◌++◌, ◌∷◌, [], length, map, position};
+ghost use Rattle.std.specs.Prelude.{Ok, Err, OnOk, OnErr, Some, IfSome, IfOk, slice_get, slice_set};
 ghost use Rattle.node_rules.specs.Accepting as accepting;
 ghost use Rattle.node_rules.specs.Calls as calls;
 ghost use Rattle.node_rules.specs.Carrying.{nothing};
@@ -14,6 +15,7 @@ ghost use Rattle.node_rules.specs.Showing.{shown_of};
 ghost use Rattle.node_rules.specs.Accepting.{same_eui};
 ghost use Rattle.line_rules.specs.declared.event.Answer.TheVariants as said;
 ghost use Rattle.line_nodes.specs.Doings.{Did};
+ghost use Rattle.line_nodes.specs.Nodes.{has_eui};
 ghost use Rattle.line_nodes.specs.Receiving.{MayHear, Received};
 
 use crate::meter_steps::{
@@ -57,6 +59,20 @@ impl Model for Meters {
     ghost invariant = { λ n. All IsSoundMeter n.meters.items };
 }
 
+// Whether a meter has an EUI.
+fn has_eui(meter: &Meter<MemKeeper>, eui: Eui) -> bool
+    ensures { result ≡ has_eui eui meter.now }
+{
+    meter.eui().number() == eui.number()
+}
+
+// The place of the first meter with an EUI.
+fn place_of(meters: &[Meter<MemKeeper>], eui: Eui) -> Option<usize>
+    ensures { result ≡ position (has_eui eui) meters.now }
+{
+    meters.iter().position(|meter| has_eui(meter, eui))
+}
+
 impl Meters {
     /// No meter. It takes no memory.
     pub fn new(alloc: Global) -> Meters
@@ -74,7 +90,8 @@ impl Meters {
         self.meters.len()
     }
 
-    /// A meter sends a datagram to an address, under a number of the caller's, at a time in seconds. What goes out is in `out`.
+    /// A meter sends a datagram to an address, under a number of the caller's, at a time in seconds. What goes out is
+    /// in `out`.
     pub fn send(
         &mut self,
         place: usize,
@@ -86,7 +103,8 @@ impl Meters {
     ) -> Result<SentHow, SendRefusal>
         requires there { place < length self.old }
         ensures { IfSome (slice_get self.old place) (λ x. Did
-            (acts x (Err SendRefusal.Halted) (λ m. of_station m (calls.send m.station to datagram.now note now))) self.old place result out.new self.new) }
+            (acts x (Err SendRefusal.Halted) (λ m. of_station m (calls.send m.station to datagram.now note now)))
+            self.old place result out.new self.new) }
     {
         send_by(&mut self.meters[place], to, datagram, note, now, out)
     }
@@ -96,7 +114,8 @@ impl Meters {
         requires there { place < length self.old }
         ensures did { IfSome (slice_get self.old place) (λ x. Did
             (acts x (Err FrameRefusal.Halted) (λ m. of_station m (accepting.accept m.station x.eui
-            (arrived network octets.now)))) self.old place result nothing self.new) }
+            (arrived network octets.now))))
+            self.old place result nothing self.new) }
         ensures hears { IfOk result (λ got. IfSome (slice_get self.new place) (λ x. MayHear x got)) }
     {
         accept_by(&mut self.meters[place], octets)
@@ -106,7 +125,8 @@ impl Meters {
     pub fn preset_counter(&mut self, place: usize, value: u32) -> Result<(), PresetFault>
         requires there { place < length self.old }
         ensures { IfSome (slice_get self.old place) (λ x. Did
-            (acts x (Ok tt) (λ m. of_station m (calls.preset_counter m.station value))) self.old place result nothing self.new) }
+            (acts x (Ok tt) (λ m. of_station m (calls.preset_counter m.station value)))
+            self.old place result nothing self.new) }
     {
         set_counter(&mut self.meters[place], value)
     }
@@ -116,12 +136,14 @@ impl Meters {
         requires there { place < length self.old }
         requires value { 1 ≤ value }
         ensures { IfSome (slice_get self.old place) (λ x. Did
-            (acts x (Ok tt) (λ m. of_station m (calls.preset_number m.station value))) self.old place result nothing self.new) }
+            (acts x (Ok tt) (λ m. of_station m (calls.preset_number m.station value)))
+            self.old place result nothing self.new) }
     {
         set_number(&mut self.meters[place], value)
     }
 
-    /// Offers a neighbour over a link of this cost to a meter, as a route by itself, at a time in seconds. A halted one stays as it is.
+    /// Offers a neighbour over a link of this cost to a meter, as a route by itself, at a time in seconds. A halted
+    /// one stays as it is.
     pub fn preset_near(
         &mut self,
         place: usize,
@@ -131,7 +153,8 @@ impl Meters {
     ) -> Result<(), PresetFault>
         requires there { place < length self.old }
         ensures { IfSome (slice_get self.old place) (λ x. Did
-            (acts x (Ok tt) (λ m. of_station m (calls.preset_near m.station to cost now))) self.old place result nothing self.new) }
+            (acts x (Ok tt) (λ m. of_station m (calls.preset_near m.station to cost now)))
+            self.old place result nothing self.new) }
     {
         offer_near(&mut self.meters[place], to, cost, now)
     }
@@ -140,7 +163,8 @@ impl Meters {
     pub fn give_random(&mut self, place: usize, value: Rand) -> Result<(), RandomFault>
         requires there { place < length self.old }
         ensures { IfSome (slice_get self.old place) (λ x. Did
-            (acts x (Err RandomFault.Halted) (λ m. drafts.give_random m value)) self.old place result nothing self.new) }
+            (acts x (Err RandomFault.Halted) (λ m. drafts.give_random m value))
+            self.old place result nothing self.new) }
     {
         give_random_to(&mut self.meters[place], value)
     }
@@ -149,7 +173,8 @@ impl Meters {
     pub fn provision(&mut self, place: usize, grant: &Grant) -> Result<(), RingFault>
         requires there { place < length self.old }
         ensures { IfSome (slice_get self.old place) (λ x. Did
-            (acts x (Ok tt) (λ m. meters.provision m grant.now)) self.old place result nothing self.new) }
+            (acts x (Ok tt) (λ m. meters.provision m grant.now))
+            self.old place result nothing self.new) }
     {
         provision_by(&mut self.meters[place], grant)
     }
@@ -164,7 +189,8 @@ impl Meters {
     ) -> Result<(), JoinRefusal>
         requires there { place < length self.old }
         ensures { IfSome (slice_get self.old place) (λ x. IfSome (psk_of x) (λ psk. Did
-            (acts x (Err JoinRefusal.Halted) (λ m. meters.join (identity network x psk) m agent now)) self.old place result out.new self.new)) }
+            (acts x (Err JoinRefusal.Halted) (λ m. meters.join (identity network x psk) m agent now))
+            self.old place result out.new self.new)) }
     {
         join_by(&mut self.meters[place], agent, now, out)
     }
@@ -173,7 +199,8 @@ impl Meters {
     pub fn leave(&mut self, place: usize) -> Result<(), LeaveRefusal>
         requires there { place < length self.old }
         ensures { IfSome (slice_get self.old place) (λ x. Did
-            (acts x (Err LeaveRefusal.Halted) meters.leave) self.old place result nothing self.new) }
+            (acts x (Err LeaveRefusal.Halted) meters.leave)
+            self.old place result nothing self.new) }
     {
         leave_by(&mut self.meters[place])
     }
@@ -182,7 +209,8 @@ impl Meters {
     pub fn broke(&mut self, place: usize, next: Short) -> Answer
         requires there { place < length self.old }
         ensures { IfSome (slice_get self.old place) (λ x. Did
-            (acts x said.Halted (λ m. changing said.Broken (drafts.with_station (calls.broke next m.station) m))) self.old place result nothing self.new) }
+            (acts x said.Halted (λ m. changing said.Broken (drafts.with_station (calls.broke next m.station) m)))
+            self.old place result nothing self.new) }
     {
         break_at(&mut self.meters[place], next)
     }
@@ -191,13 +219,14 @@ impl Meters {
     pub fn restart(&mut self, place: usize) -> Answer
         requires there { place < length self.old }
         ensures { IfSome (slice_get self.old place) (λ x. Did
-            (restarts x) self.old place result nothing self.new) }
+            (restarts x)
+            self.old place result nothing self.new) }
     {
         restart_of(&mut self.meters[place])
     }
 
-    /// A meter will lose power at its nth store write from now on, which leaves the new record or the old one. It takes the place of a
-    /// loss of power that was to come.
+    /// A meter will lose power at its nth store write from now on, which leaves the new record or the old one. It
+    /// takes the place of a loss of power that was to come.
     pub fn cut(&mut self, place: usize, nth: u16, keeps_new: bool)
         requires there { place < length self.old }
         requires nth { 1 ≤ nth }
@@ -208,12 +237,20 @@ impl Meters {
         cut_of(&mut self.meters[place], nth, keeps_new);
     }
 
+    // Ends what is old at one meter.
+    fn tick_at(&mut self, place: usize, now: u64)
+        requires there { place < length self.old }
+        ensures { IfSome (slice_get self.old place) (λ x. self.new ≡ slice_set self.old place (ticked now x)) }
+    {
+        tick_of(&mut self.meters[place], now);
+    }
+
     /// Ends what is old at each meter, at a time in seconds.
     pub fn tick(&mut self, now: u64)
         ensures { self.new ≡ map (ticked now) self.old }
     {
-        for place in 0..self.meters.len() {
-            tick_of(&mut self.meters[place], now);
+        for place in 0..self.len() {
+            self.tick_at(place, now);
         }
     }
 
@@ -272,13 +309,11 @@ impl Meters {
     pub fn position(&self, eui: Eui) -> Option<usize>
         ensures { result ≡ position (λ (x : memory.Node). same_eui x.eui eui) self.now }
     {
-        let number = eui.number();
-        self.meters
-            .iter()
-            .position(|meter| meter.eui().number() == number)
+        place_of(&self.meters, eui)
     }
 
-    /// Makes the next meter, with an empty store. It fails only where memory runs out, and the meters are then as before.
+    /// Makes the next meter, with an empty store. It fails only where memory runs out, and the meters are then as
+    /// before.
     pub fn make(&mut self, alloc: Global, eui: Eui, psk: Key) -> Result<(), AllocError>
         ensures ok { OnOk result (self.new ≡ self.old ++ blank_node (memory.Meter psk) eui ∷ []) }
         ensures err { OnErr result (self.new ≡ self.old) }
@@ -291,8 +326,8 @@ impl Meters {
         Ok(())
     }
 
-    /// A meter hears a frame that it accepted, over a link of this cost, under a number of the caller's, at a time in seconds. A
-    /// datagram that is handed up is then in `datagram`, and what goes out is in `out`.
+    /// A meter hears a frame that it accepted, over a link of this cost, under a number of the caller's, at a time in
+    /// seconds. A datagram that is handed up is then in `datagram`, and what goes out is in `out`.
     pub fn hear(
         &mut self,
         place: usize,

@@ -1,30 +1,21 @@
 -- A counter is set.
-use Rattle.std.proofs.Common.{Ok, Err, refl}
-use Rattle.node_rules.specs.Accepting as accepting
+use Rattle.std.proofs.Common.{Ok}
 use Rattle.node_rules.specs.Calls as calls
-use Rattle.node_rules.specs.Ciphers.{network}
-use Rattle.node_rules.specs.Frames.{arrived}
-use Rattle.node_rules.specs.MemoryDrafts as drafts
-use Rattle.node_rules.specs.Meters as meters
-use Rattle.node_rules.specs.declared.refusal.SendRefusal.TheVariants as sends
-use Rattle.node_rules.specs.declared.refusal.FrameRefusal.TheVariants as frames
-use Rattle.node_rules.specs.declared.refusal.RandomFault.TheVariants as randoms
-use Rattle.node_rules.specs.declared.refusal.JoinRefusal.TheVariants as joins
-use Rattle.node_rules.specs.declared.refusal.LeaveRefusal.TheVariants as leaves
-use Rattle.node_rules.proofs.TablePlans.{stations, meters_in_place}
-use Rattle.meter_node.specs.MeterStates.{node_of, identity_of}
-use Rattle.plc_base.specs.declared.out_frame.Out.{Out}
-use Rattle.node_rules.specs.Carrying.{Carries, nothing}
-use Rattle.line_nodes.proofs.Acting.{station_took, station_sound, station_agrees, meter_took, meter_sound, meter_stayed, gives_nothing, not_some, not_none}
+use Rattle.node_rules.proofs.TablePlans.{stations}
+use Rattle.node_rules.specs.Carrying.{nothing}
+use Rattle.line_nodes.proofs.Acting.{station_took, station_sound, not_none, rests}
 use Rattle.line_nodes.proofs.meter_steps.set_counter.Goals as goal
+
+pub returns-then-halted-clause-took : goal.returns-then-halted-clause-took
+returns-then-halted-clause-took c = rests c.args.meter.now c.station-station.result.now (Ok tt) _ c.station-station.ensures.value c.requires.sound c.if-halted.ensures
 
 pub returns-clause-took : goal.returns-clause-took
 returns-clause-took c =
-    station_took c.args.meter.now c.station.result.now c.preset_counter.new.self (Ok tt) (λ s l. calls.preset_counter l c.args.value)
-    c.preset_counter.result nothing c.station.ensures.value c.requires.sound (not_none c.station.result.now.memory _ ?) c.preset_counter.ensures.carries
+    station_took c.args.meter.now c.station-station.result.now c.preset_counter.new.self (Ok tt) (λ s l. calls.preset_counter l c.args.value)
+    c.preset_counter.result nothing c.station-station.ensures.value c.requires.sound (not_none c.station-station.result.now.memory _ c.if-halted.ensures) c.preset_counter.ensures.carries
 
 pub returns-clause-sound : goal.returns-clause-sound
 returns-clause-sound c =
-    station_sound c.args.meter.now c.station.result.now c.preset_counter.new.self (Ok tt) (λ s l. calls.preset_counter l c.args.value)
+    station_sound c.args.meter.now c.station-station.result.now c.preset_counter.new.self (Ok tt) (λ s l. calls.preset_counter l c.args.value)
     c.preset_counter.result nothing (λ m short. (stations m.station m.book short).counter c.args.value)
-    c.station.ensures.value c.requires.sound (not_none c.station.result.now.memory _ ?) c.preset_counter.ensures.carries c.preset_counter.ensures.agrees
+    c.station-station.ensures.value c.requires.sound (not_none c.station-station.result.now.memory _ c.if-halted.ensures) c.preset_counter.ensures.carries c.preset_counter.ensures.agrees

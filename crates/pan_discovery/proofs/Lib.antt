@@ -1,0 +1,6 @@
+mod Readings
+mod Orders
+mod Meaning
+mod Hearing
+mod Histories
+mod Worked
