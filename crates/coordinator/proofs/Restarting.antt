@@ -56,6 +56,14 @@ module _ (records : Records) where
       by_station (Ok l) = ap (λ k. if_read (read_by (Ok l) k)) h
       by_station (Err c) = refl
 
+  -- a station that has no reading holds nothing
+  pub unread_holds : (f : StationMemory → Memory) (bad : BadStore) → Err bad ≡ stations.read_answer (station_of records) → IfSome (option_map f (stations.if_read (station_of records))) (λ m. HoldsWith m records)
+  unread_holds f bad is = by_station (station_of records) is
+    where
+      by_station : (o : Result StationMemory BadStore) → Err bad ≡ stations.read_answer o → IfSome (option_map f (stations.if_read o)) (λ m. HoldsWith m records)
+      by_station (Ok l) h = absurd (cc)
+      by_station (Err b) h = tt
+
   -- the address that the records give is the coordinator's
   pub restarted_holds : (b : book.Book) (o : Option StationMemory) → IfSome o (λ l. AgreesWith l records) → book.IsKept b records → HasHome records
       → IfSome (option_map (memory_in [] [] b) o) (λ m. HoldsWith m records)
