@@ -340,7 +340,8 @@ pub(crate) fn hear_by(
 ) -> Reception
     requires sound { IsSound memory.Coordinator (node_of coordinator.old) }
     requires accepted { MayHear (of_coordinator coordinator.old) got.now }
-    ensures tells { Tells result datagram.new (hears network (of_coordinator coordinator.old) got.now cost note now).answer }
+    ensures tells { Tells result datagram.new
+        (hears network (of_coordinator coordinator.old) got.now cost note now).answer }
     ensures took { Took (hears network (of_coordinator coordinator.old) got.now cost note now)
         (hears network (of_coordinator coordinator.old) got.now cost note now).answer
         out.new (of_coordinator coordinator.new) }
