@@ -21,4 +21,4 @@ unread f s t bad is e =
 pub returns-in_err-restart-clause-holds : goal.returns-in_err-restart-clause-holds
 returns-in_err-restart-clause-holds g c =
     λ marks ranks entries home.
-    unread (memory_in c.clear.new.self c.clear-2.new.self c.self.inside.book) _ c.restart.new.self c.in_err-restart.field-0.0 c.in_err-restart.ensures.answer c.in_err-restart.ensures.state
+    unread (memory_in c.clear.new.self c.clear-2.new.self c.self.inside.book) c.self.inside.station c.restart.new.self c.in_err-restart.field-0.0 c.in_err-restart.ensures.answer c.in_err-restart.ensures.state
