@@ -95,3 +95,5 @@ pub mod AgreeRuns
 pub mod BookGrowth
 pub mod NonceRuns
 pub mod KeyedAnswers
+pub mod CipherOctets
+pub mod HeardOctets

@@ -24,6 +24,7 @@ use Rattle.node_rules.specs.Drafts.{Draft, empty_draft}
 use Rattle.node_rules.specs.MemoryDrafts.{with_station, on_station, station_part, with_memory_by, with_pair_tags, goes_up, goes_down}
 use Rattle.node_rules.specs.Coordinators as coordinators
 use Rattle.node_rules.specs.Coordinators.{with_book_entry}
+use Rattle.line_laws.proofs.Readings.{none_held}
 use Rattle.line_laws.proofs.Keeping.{Leads, leads_beside, leads_one, leads_map}
 use Rattle.line_laws.proofs.Beside.{Lasts, With}
 use Rattle.line_laws.proofs.StoreRanks.{EntryFits}
@@ -45,7 +46,7 @@ station_stays l r slot octets k high = record {
 }
 
 reads_entry : (place : ℕ) (e : BookEntry) → place < 999 → IsReadableEntry e → book.entries.read place (book.entries.octets place e) ≡ Some (book.entries.rest e)
-reads_entry place e within h = entry_in-entry_octets place e within h.eui h.psk h.key0 h.key1
+reads_entry place e within h = entry_in-entry_octets place e within h.eui h.psk h.key0.0 h.key1.0
 
 -- the book with an entry is what the records with its record give
 book_with : (b : book.Book) (e : BookEntry) (r : Records) → IsBookKept b r → IsReadableEntry e → book.has_room b e.eui ≡ true
@@ -101,7 +102,7 @@ module _ (role : Role) where
       by_role (Meter psk) c b f g = absurd (cc)
 
   pub same_book : (m : Memory) (b : book.Book) (r : Records) → IsKept role m r → b ≡ m.book → IsKept role (record m { book = b }) r
-  same_book m b r k e = record { station = k.station; book = rw e k.book; sessions = k.sessions }
+  same_book m b r k e = record { station = k.station; book = subst (λ c. BookKept role c r) (sym e) k.book; sessions = k.sessions }
 
   -- an entry is stored where it changes
   pub entry_leads : (m : Memory) (e : BookEntry) → ((r : Records) → IsBookKept m.book r → IsReadableEntry e) → book.has_room m.book e.eui ≡ true → role ≡ Coordinator
@@ -189,7 +190,7 @@ module _ (role : Role) (W : RingWord → Type 0) (L : Granted → Type 0) (P : E
   entry_fits b e (Allows eui psk is pair room) r k = by_entry (book.entry_for b eui) refl
     where
       by_entry : (o : Option BookEntry) → book.entry_for b eui ≡ o → IsReadableEntry (book.allowed_entry eui psk o)
-      by_entry None at = record { eui = known eui is; psk = pairs eui psk pair; key0 = refl; key1 = refl }
+      by_entry None at = record { eui = known eui is; psk = pairs eui psk pair; key0 = none_held; key1 = none_held }
       by_entry (Some x) at =
           let h = looked_up IsReadableEntry b (book.place_of b eui) x at k.each in
           record { eui = known eui is; psk = pairs eui psk pair; key0 = h.key0; key1 = h.key1 }
@@ -199,7 +200,7 @@ module _ (role : Role) (W : RingWord → Type 0) (L : Granted → Type 0) (P : E
       record { eui = named eui from; psk = h.psk; key0 = keys.0; key1 = keys.1 }
   entry_fits b e (Kicks eui x is allowed) r k =
       let h = looked_up IsReadableEntry b (book.place_of b eui) x (stands b eui x allowed) k.each in
-      record { eui = h.eui; psk = h.psk; key0 = refl; key1 = refl }
+      record { eui = h.eui; psk = h.psk; key0 = none_held; key1 = none_held }
 
   pub entry_room : (b : book.Book) (e : BookEntry) → EntryChange L P E m b e → book.has_room b e.eui ≡ true
   entry_room b e (Allows eui psk is pair room) = by_entry (book.entry_for b eui)

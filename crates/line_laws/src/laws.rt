@@ -1,7 +1,15 @@
 //! Laws of the runs: each carried by a function that does nothing.
 ghost use Rattle.line_laws.specs.Issued.{EveryJoiningAgrees, OnlyIssuedKeys};
+ghost use Rattle.line_laws.specs.Owed.{KeepsRanges};
+ghost use Rattle.node_rules.specs.Ciphers.{network};
 ghost use Rattle.line_laws.specs.Loops.{EveryRunIsLoopFree};
 ghost use Rattle.line_laws.specs.Laws.{EveryAddressDiffers, EveryCountIsRight, EveryCounterRises, EveryFlightIsSpelled, EveryForgeryIsTold, EveryNonceDiffers, EveryRestartIsAnswered, EveryRunIsSized, EverySenderIsRight, EveryTraceIsRight};
+
+/// What the network's ciphers open of octets, under keys of octets, is octets, and each grant that they open can be stored.
+#[tactic(auto)]
+pub fn network_keeps_ranges()
+    ensures { KeepsRanges network }
+{}
 
 /// In every run, forged or not, no table passes its size, and no event sends more than 24 frames.
 #[tactic(auto)]
