@@ -25,11 +25,14 @@ use Rattle.node_rules.specs.Memory.{StationMemory, Memory, Role, Coordinator}
 use Rattle.node_rules.specs.Plans.{Plan, resting}
 use Rattle.node_rules.specs.Accepting.{Accepting, accept, marking}
 use Rattle.node_rules.specs.Drafts.{Ends}
+use Rattle.node_rules.specs.Hearing as station_rules
 use Rattle.node_rules.specs.Hearing.{dropped}
+use Rattle.node_rules.specs.MemoryDrafts.{Unread, unread}
+use Rattle.line_laws.proofs.HeardOctets.{eui_octets, unread_octets}
 use Rattle.node_rules.specs.MemoryDrafts.{in_memory}
 use Rattle.node_rules.specs.Coordinators as coordinators
 use Rattle.node_rules.specs.NodeSteps.{of_station}
-use Rattle.line_laws.specs.Stores.{IsHeld, IsReadable, IsKept}
+use Rattle.line_laws.specs.Stores.{IsHeld, IsReadable, IsKept, HasEui}
 use Rattle.line_laws.specs.Sizes.{IsMemorySized}
 use Rattle.line_laws.specs.Owed.{AreOctets, KeepsRanges}
 use Rattle.line_laws.proofs.HeadsSaid.{head_ranges}
@@ -51,10 +54,11 @@ use Rattle.line_laws.proofs.NodeCalls.{handed_counter, RoutesFit, heard_given, c
 
 -- # The coordinator
 
--- an EUI and a pair key of a line
-abbrev HasEui : Eui → Type 0
-HasEui eui = length eui.0 ≡ 8
+-- the EUI of a joining message that is heard
+pub heard_euis : (m : Memory) (got : Accepted) (cost note now : ℕ) → RoutesFit got → (u : Unread) (join : JoinMessage) → unread (station_rules.hear m.station got cost note now).answer ≡ Some u → join_in u.body ≡ Some join → HasEui join.eui
+heard_euis m got cost note now routes u join e read = ((join_ranges u.body join read).0, eui_octets u.body join (unread_octets m.station got cost note now u routes.payload e) read)
 
+-- a pair key of a line
 abbrev HasPair : Eui → Key → Type 0
 HasPair eui psk = length psk.0 ≡ 16
 
@@ -63,9 +67,6 @@ abbrev Ordered : RingWord → Type 0
 Ordered w = WordFits w
 
 module _ (ciphers : Ciphers) (fits : KeepsRanges ciphers) (own : coordinators.CoordinatorIdentity) (m : Memory) (h : IsMemorySized m) where
-  heard_eui : (octets : List ℕ) (join : JoinMessage) → join_in octets ≡ Some join → HasEui join.eui
-  heard_eui octets join e = (join_ranges octets join e).0
-
   L : Granted → Type 0
   L granted = IsGranted m granted
 
@@ -81,31 +82,31 @@ module _ (ciphers : Ciphers) (fits : KeepsRanges ciphers) (own : coordinators.Co
   pub coordinator_hears_ok : (got : Accepted) (cost note now : ℕ) → RoutesFit got → PlanOk Coordinator m (coordinators.hear_coordinator own m got cost note now)
   coordinator_hears_ok got cost note now routes = coordinator_ok (heard_given got cost note now) (heard_offers got cost note now routes) dropped (HandedIn coordinator_heard.Station (heard_given got cost note now) m) HandsNothingUp
       (handed_kept Coordinator m h coordinator_heard.Station (heard_given got cost note now)) (handed_within Coordinator m h coordinator_heard.Station (heard_given got cost note now)) (handed_counter m coordinator_heard.Station (heard_given got cost note now)) _
-      (coordinator_is Ordered HasPair HasEui heard_eui (heard_given got cost note now) own m (λ to there join said. omega arith) got refl)
+      (coordinator_is Ordered HasPair HasEui (heard_given got cost note now) own m (λ to there join said. omega arith) got refl (heard_euis m got cost note now routes))
 
   pub allow_ok : (eui : Eui) (psk : Key) → HasEui eui → HasPair eui psk → PlanOk Coordinator m (coordinators.allow m eui psk)
-  allow_ok eui psk known pair = order_ok 0 coordinators.orders _ (allow_is Ordered HasPair HasEui heard_eui (call_given 0 0 0) own m (λ to there join said. omega arith) eui psk known pair)
+  allow_ok eui psk known pair = order_ok 0 coordinators.orders _ (allow_is Ordered HasPair HasEui (call_given 0 0 0) own m (λ to there join said. omega arith) eui psk known pair)
 
   pub depot_ok : (eui : Eui) (psk : Key) → HasEui eui → HasPair eui psk → PlanOk Coordinator m (coordinators.depot m eui psk)
-  depot_ok eui psk known pair = order_ok 0 coordinators.orders _ (depot_is Ordered HasPair HasEui heard_eui (call_given 0 0 0) own m (λ to there join said. omega arith) eui psk known pair)
+  depot_ok eui psk known pair = order_ok 0 coordinators.orders _ (depot_is Ordered HasPair HasEui (call_given 0 0 0) own m (λ to there join said. omega arith) eui psk known pair)
 
   pub rekey_ok : (index : ℕ) (key : Key) → IsHeld (Some key) → PlanOk Coordinator m (coordinators.rekey m index key)
-  rekey_ok index key held = order_ok 0 coordinators.orders _ (rekey_is Ordered HasPair HasEui heard_eui (call_given 0 0 0) own m (λ to there join said. omega arith) index key held)
+  rekey_ok index key held = order_ok 0 coordinators.orders _ (rekey_is Ordered HasPair HasEui (call_given 0 0 0) own m (λ to there join said. omega arith) index key held)
 
   pub activate_self_ok : (index : ℕ) → index ≤ 1 → PlanOk Coordinator m (coordinators.activate_self m index)
-  activate_self_ok index low = order_ok 0 coordinators.orders _ (activate_self_is Ordered HasPair HasEui heard_eui (call_given 0 0 0) own m (λ to there join said. omega arith) index low)
+  activate_self_ok index low = order_ok 0 coordinators.orders _ (activate_self_is Ordered HasPair HasEui (call_given 0 0 0) own m (λ to there join said. omega arith) index low)
 
   pub challenge_ok : (eui : Eui) (now : ℕ) → HasEui eui → PlanOk Coordinator m (coordinators.challenge own.eui m eui now)
-  challenge_ok eui now known = order_ok now coordinators.orders _ (challenge_is Ordered HasPair HasEui heard_eui (call_given 0 0 now) own m (λ to there join said. omega arith) eui known)
+  challenge_ok eui now known = order_ok now coordinators.orders _ (challenge_is Ordered HasPair HasEui (call_given 0 0 now) own m (λ to there join said. omega arith) eui known)
 
   pub activate_ok : (eui : Eui) (index now : ℕ) → PlanOk Coordinator m (coordinators.activate m eui index now)
-  activate_ok eui index now = order_ok now coordinators.orders _ (activate_is Ordered HasPair HasEui heard_eui (call_given 0 0 now) own m (λ to there join said. omega arith) eui index)
+  activate_ok eui index now = order_ok now coordinators.orders _ (activate_is Ordered HasPair HasEui (call_given 0 0 now) own m (λ to there join said. omega arith) eui index)
 
   pub kick_ok : (eui : Eui) → HasEui eui → PlanOk Coordinator m (coordinators.kick m eui)
-  kick_ok eui known = order_ok 0 coordinators.orders _ (kick_is Ordered HasPair HasEui heard_eui (call_given 0 0 0) own m (λ to there join said. omega arith) eui known)
+  kick_ok eui known = order_ok 0 coordinators.orders _ (kick_is Ordered HasPair HasEui (call_given 0 0 0) own m (λ to there join said. omega arith) eui known)
 
 pub depot_failed : (ciphers : Ciphers) → KeepsRanges ciphers → (own : coordinators.CoordinatorIdentity) (m : Memory) (eui : Eui) (psk : Key) → HasEui eui → HasPair eui psk → (coordinators.depot m eui psk).failed ≡ Err coordinators.orders.store
-depot_failed ciphers fits own m eui psk known pair = planned_failed _ (depot_is Ordered HasPair HasEui (λ octets join e. (join_ranges octets join e).0) (call_given 0 0 0) own m (λ to there join said. omega arith) eui psk known pair)
+depot_failed ciphers fits own m eui psk known pair = planned_failed _ (depot_is Ordered HasPair HasEui (call_given 0 0 0) own m (λ to there join said. omega arith) eui psk known pair)
 
 -- # Accepting a frame
 

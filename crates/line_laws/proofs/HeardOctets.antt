@@ -32,7 +32,7 @@ use Rattle.node_rules.specs.Plans.{resting}
 use Rattle.node_rules.specs.Drafts.{Draft, alone, sealed, sealing, checked, choose, counters_left}
 use Rattle.node_rules.specs.Hearing.{Hearing, dropped, drop_it, ends, rank_over, hear_request, hear_reply, hear_reply_for, hear_error, report_by, forward_by, gathered, hear_message, hear_message_in, hear_over_mesh, hear_sealed, is_joining, hear_plain, hear_unit, hear_unit_in, hear}
 use Rattle.node_rules.specs.MemoryDrafts.{Unread, unread}
-use Rattle.line_laws.proofs.CipherOctets.{after_octets}
+use Rattle.line_laws.proofs.CipherOctets.{after_octets, part_octets}
 
 -- # Units
 
@@ -214,3 +214,11 @@ join_octets octets join are = by_fault (is_some (join_fault octets))
     by_fault : (b : Bool) → (if b then None else Some (record { eui = record { 0 = part 1 8 octets }; body = body_in (octet 0 octets) octets })) ≡ Some join → BodyOctets join.body
     by_fault true e = absurd (cc)
     by_fault false e = subst (λ (j : JoinMessage). BodyOctets j.body) (same_Some _ _ e) (by_code (octet 0 octets == 1) (octet 0 octets == 2) (octet 0 octets == 3) (octet 0 octets == 4) (octet 0 octets == 5))
+
+pub eui_octets : (octets : List ℕ) (join : JoinMessage) → AreOctets octets → join_in octets ≡ Some join → AreOctets join.eui.0
+unfolding join_in
+eui_octets octets join are = by_fault (is_some (join_fault octets))
+  where
+    by_fault : (b : Bool) → (if b then None else Some (record { eui = record { 0 = part 1 8 octets }; body = body_in (octet 0 octets) octets })) ≡ Some join → AreOctets join.eui.0
+    by_fault true e = absurd (cc)
+    by_fault false e = subst (λ (j : JoinMessage). AreOctets j.eui.0) (same_Some _ _ e) (part_octets 1 8 octets are)

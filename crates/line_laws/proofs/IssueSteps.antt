@@ -64,7 +64,7 @@ use Rattle.plc_base.specs.declared.keeper.BadStore.{BadStore}
 use Rattle.node_rules.specs.StoreReading.{station_of, reading}
 use Rattle.node_rules.specs.Hearing.{dropped}
 use Rattle.node_rules.specs.Memory.{MeterSession}
-use Rattle.line_laws.specs.Stores.{IsReadable, IsKept, IsBookKept}
+use Rattle.line_laws.specs.Stores.{IsReadable, IsKept, IsBookKept, HasEui}
 use Rattle.line_laws.specs.Sizes.{IsMemorySized}
 use Rattle.line_laws.specs.Owed.{AreOctets, KeepsRanges}
 use Rattle.line_laws.proofs.Readings.{join_ranges}
@@ -703,7 +703,7 @@ module _ (ciphers : Ciphers) (fits : KeepsRanges ciphers) (w : World) (ok : Worl
       plan : Memory → Plan Memory (Result Granted CoordinatorRefusal)
       plan m = coordinator_rules.depot m x.eui psk
 
-      known : length x.eui.0 ≡ 8
+      known : HasEui x.eui
       known = (node_fits number x hx).eui
 
       good : NodeOk c

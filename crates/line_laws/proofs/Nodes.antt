@@ -21,7 +21,7 @@ use Rattle.node_rules.specs.NodeSteps.{NodeStep, acts, stays, left_by}
 use Rattle.node_rules.specs.Laws.{IsWhole, IsCutOff}
 use Rattle.node_rules.proofs.Sizes.{pending, pending_bound}
 use Rattle.node_rules.proofs.Writing.{clean}
-use Rattle.line_laws.specs.Stores.{IsHeld, IsReadable, BookKept, IsKept}
+use Rattle.line_laws.specs.Stores.{IsHeld, IsReadable, BookKept, IsKept, HasEui}
 use Rattle.line_laws.specs.Owed.{AreOctets}
 use Rattle.line_laws.specs.Sizes.{IsMemorySized}
 use Rattle.line_laws.proofs.Keeping.{Leads, Left, carried}
@@ -146,7 +146,7 @@ waits_little m h = pending_bound m.station h.station.waiting
 module _ (role : Role) (W : RingWord → Type 0) (L : Granted → Type 0) (P : Eui → Key → Type 0) (E : Eui → Type 0) (g : Given) (m : Memory)
     (words : (w : RingWord) → W w → WordFits w)
     (offers : (address : Option ℕ) (by origin : ℕ) (rank : Rank) → Offered g address by origin rank → EntryFits (routing.offered_entry origin rank by g.now))
-    (known : (eui : Eui) → E eui → length eui.0 ≡ 8) (pairs : (eui : Eui) (psk : Key) → P eui psk → length psk.0 ≡ 16)
+    (known : (eui : Eui) → E eui → HasEui eui) (pairs : (eui : Eui) (psk : Key) → P eui psk → length psk.0 ≡ 16)
     (coordinator : (b : book.Book) (e : BookEntry) → EntryChange L P E m b e → role ≡ Coordinator)
     (grants : (r : Records) → IsKept role m r → (granted : Granted) → L granted → IsHeld granted.key0 × IsHeld granted.key1) where
   plan_few : {H F : Type 0} (ends : Ends F) (K : Memory → H → Type 0) (p : Plan Memory (Result H F)) → Planned in_memory ends m K (λ d a. MadeIn W L P E g m d × Few m.station d) p → pending m.station ≤ 21 → length p.frames ≤ 24

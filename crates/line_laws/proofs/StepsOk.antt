@@ -59,7 +59,7 @@ use Rattle.line_rules.specs.Events.{IsEvent}
 use Rattle.line_rules.specs.Worlds.{World, Flight, Trace, node_at, flight_at, is_forged_tag}
 use Rattle.line_rules.specs.Steps.{Step, set_up, ran, told, flights_of, acted, once_begun, in_setup, has_begun, takes_setup, on_node, on_meter, made_node, blank_node, identity, hears, restarts, memory_by, ticked, rand, join, joins_by, leave, send, sends_by, sent_if, breaks, breaks_by, lose, tick, restart, cut, show, psk_of, trace_of, happened, coordinator, coordinator_node, meter, is_known, depot, depot_by, provisioned, near, near_by, keeps_rank, ranks_full, offered_near, preset, allow, allowed, deliver, inject, arrives, accepted_by, received, by_coordinator, forged_by, note_by, rekey, challenge, activate, kick, step}
 use Rattle.node_rules.specs.NodeSteps.{NodeStep, acts, stays, answering, of_station}
-use Rattle.line_laws.specs.Stores.{IsReadable, IsStationKept, BookKept, IsNamed, IsKept}
+use Rattle.line_laws.specs.Stores.{IsReadable, IsStationKept, BookKept, IsNamed, IsKept, HasEui}
 use Rattle.line_laws.specs.Sizes.{IsStationSized, IsMemorySized}
 use Rattle.line_laws.specs.Owed.{AreOctets, KeepsRanges}
 use Rattle.line_laws.proofs.Keeping.{Left, leads_beside}
@@ -557,12 +557,12 @@ module _ (ciphers : Ciphers) (fits : KeepsRanges ciphers) (w : World) (ok : Worl
       by_ring true = resting_ok Coordinator m sized (Ok tt) (Err RingStore)
       by_ring false = provision_ok Coordinator m sized (first_grant key) readable
 
-  coordinator_good : (eui : Eui) (key : Key) → length eui.0 ≡ 8 → length key.0 ≡ 16 → AreOctets key.0 → StepGood w (coordinator w eui key)
+  coordinator_good : (eui : Eui) (key : Key) → HasEui eui → length key.0 ≡ 16 → AreOctets key.0 → StepGood w (coordinator w eui key)
   unfolding coordinator
   coordinator_good eui key known long are = branch (has_begun w) _ _ (λ _. Fails faults.Setup) (λ none.
       let did = acts_ok (blank_node Coordinator eui) (Ok tt) (λ m. coordinator_rules.begin m (first_grant key)) (blank_ok Coordinator eui tt) (λ m there kept sized. begin_ok key long are m sized) in
       let few : length w.nodes ≤ 0 = ltb-false _ _ none in
-      Taken _ (made_ok (coordinator_node eui key) did.node (record { eui = ap (λ (e : Eui). length e.0) did.eui ∙ known; psk = λ psk e. absurd (not_meter psk (sym did.role ∙ e)) }) (omega arith)
+      Taken _ (made_ok (coordinator_node eui key) did.node (record { eui = subst HasEui (sym did.eui) known; psk = λ psk e. absurd (not_meter psk (sym did.role ∙ e)) }) (omega arith)
       (λ c is. first_made w.nodes few (coordinator_node eui key) did.role c is)) (omega arith) (none_more w (set_up w) refl))
     where
       not_meter : (psk : Key) → Coordinator ≡ Meter psk → ⊥
@@ -572,7 +572,7 @@ module _ (ciphers : Ciphers) (fits : KeepsRanges ciphers) (w : World) (ok : Worl
       first_made [] few x is c e = let this : x ≡ c = same_Some _ _ e in ap (λ (y : Node). y.role) (sym this) ∙ is
       first_made (y ∷ xs) few x is c e = absurd (omega arith)
 
-  meter_good : (eui : Eui) (psk : Key) → length eui.0 ≡ 8 → length psk.0 ≡ 16 → AreOctets psk.0 → StepGood w (meter w eui psk)
+  meter_good : (eui : Eui) (psk : Key) → HasEui eui → length psk.0 ≡ 16 → AreOctets psk.0 → StepGood w (meter w eui psk)
   unfolding meter
   meter_good eui psk known long are = branch (not (takes_setup w) || (nat_lt 999 (length w.nodes) || is_known w eui)) _ _ (λ _. Fails faults.Setup) (λ may.
       let parts = or_parts _ _ may in
@@ -661,20 +661,20 @@ module _ (ciphers : Ciphers) (fits : KeepsRanges ciphers) (w : World) (ok : Worl
       kept_at : (c : Node) (m : Memory) → NodeOk c → c.memory ≡ Some m → IsKept c.role m c.store.records × IsMemorySized m
       kept_at c m h e = (subst (λ o. Left (IsKept c.role) c.store.records o) e h.kept, subst (λ o. IfSome o IsMemorySized) e h.sized)
 
-      granted : (c : Node) (eui : Eui) (psk : Key) (g : Granted) → c.role ≡ Coordinator → NodeOk c → length eui.0 ≡ 8 → length psk.0 ≡ 16 → (acts c (Err orders.Halted) (λ m. coordinator_rules.depot m eui psk)).answer ≡ Ok g → IsReadable g
+      granted : (c : Node) (eui : Eui) (psk : Key) (g : Granted) → c.role ≡ Coordinator → NodeOk c → HasEui eui → length psk.0 ≡ 16 → (acts c (Err orders.Halted) (λ m. coordinator_rules.depot m eui psk)).answer ≡ Ok g → IsReadable g
       granted c eui psk g is h known long e =
           let a = acts_answered c orders.Halted orders.Store (λ m. coordinator_rules.depot m eui psk) (λ m. coordinator_failed m eui psk known long) g e in
           let k = kept_at c a.memory h a.there in
           depot_grants a.memory eui psk g k.0.station.range.ring (of_role c.role a.memory c.store.records is k.0) a.is
         where
-          coordinator_failed : (m : Memory) (eui : Eui) (psk : Key) → length eui.0 ≡ 8 → length psk.0 ≡ 16 → (coordinator_rules.depot m eui psk).failed ≡ Err orders.Store
+          coordinator_failed : (m : Memory) (eui : Eui) (psk : Key) → HasEui eui → length psk.0 ≡ 16 → (coordinator_rules.depot m eui psk).failed ≡ Err orders.Store
           coordinator_failed m eui psk known long = depot_failed ciphers fits (own_of c) m eui psk known long
 
   -- # All kinds
 
   pub step_good : (event : Event) → IsEvent event → StepGood w (step ciphers w event)
-  step_good (events.Coordinator eui key) e = coordinator_good eui key e.0.0 e.1.0 e.1.1
-  step_good (events.Meter eui psk) e = meter_good eui psk e.0.0 e.1.0 e.1.1
+  step_good (events.Coordinator eui key) e = coordinator_good eui key e.0 e.1.0 e.1.1
+  step_good (events.Meter eui psk) e = meter_good eui psk e.0 e.1.0 e.1.1
   step_good (events.Depot node) e = depot_good node
   step_good (events.Near a b cost) e = near_good a b cost e.2.1
   step_good (events.Counter node value) e = preset_good node _ (λ role m sized. counter_ok role m sized value e.1) (λ l. counter_quiet l value)

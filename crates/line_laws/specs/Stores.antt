@@ -3,6 +3,7 @@ use Rattle.std.specs.Prelude.{◌≡◌, ℕ, ◌<◌, ◌≤◌, ◌^◌, [], l
 use Rattle.std.specs.FinMap.{get}
 use Rattle.plc_base.specs.Fields.{AreOctets}
 use Rattle.plc_base.specs.Keeper.{Records}
+use Rattle.plc_base.specs.declared.address.Eui.{Eui}
 use Rattle.plc_base.specs.declared.key.Key.{Key}
 use Rattle.plc_base.specs.Grant.{Granted, IsGrant}
 use Rattle.plc_base.specs.SlotTables as slots
@@ -70,9 +71,13 @@ abbrev pub BookKept : Role → book.Book → Records → Type 0
 BookKept Coordinator b records = IsBookKept b records
 BookKept (Meter psk) b records = (b ≡ []) × AreOctets psk.0
 
--- the meter of a session has an EUI of 8 octets
+-- an EUI of 8 octets
+abbrev pub HasEui : Eui → Type 0
+HasEui eui = (length eui.0 ≡ 8) × AreOctets eui.0
+
+-- the meter of a session has one
 abbrev pub IsNamed : CoordinatorSession → Type 0
-IsNamed s = length s.server.eui.0 ≡ 8
+IsNamed s = HasEui s.server.eui
 
 -- What a node of this role holds is what the records give.
 pub record IsKept (role : Role) (m : Memory) (records : Records) : Type 0 where
