@@ -97,3 +97,4 @@ pub mod NonceRuns
 pub mod KeyedAnswers
 pub mod CipherOctets
 pub mod HeardOctets
+pub mod IssuedNamed

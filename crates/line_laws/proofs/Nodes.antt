@@ -113,7 +113,7 @@ acts_ok x halted plan ok f =
     }
 
 -- what a node that is not halted keeps
-node_kept : (x : Node) (m : Memory) → NodeOk x → x.memory ≡ Some m → IsKept x.role m x.store.records
+pub node_kept : (x : Node) (m : Memory) → NodeOk x → x.memory ≡ Some m → IsKept x.role m x.store.records
 node_kept x m ok there = subst (λ o. Left (IsKept x.role) x.store.records o) there ok.kept
 
 -- its ring is readable

@@ -115,7 +115,7 @@ module _ (role : Role) where
 
 -- # What is looked up
 
-looked_up : {A : Type 0} (P : A → Type 0) (xs : List A) (o : Option ℕ) (x : A) → option_and_then (slice_get xs) o ≡ Some x → All P xs → P x
+pub looked_up : {A : Type 0} (P : A → Type 0) (xs : List A) (o : Option ℕ) (x : A) → option_and_then (slice_get xs) o ≡ Some x → All P xs → P x
 looked_up P xs None x e all = absurd (cc)
 looked_up {A = A} P xs (Some place) x e all = at_place xs place e all
   where
