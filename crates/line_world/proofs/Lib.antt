@@ -4,6 +4,7 @@ mod Custody
 mod Depots
 mod Enrolment
 pub mod Parts
+mod FlightOctets
 mod Flown
 mod Forging
 mod Histories

@@ -1,6 +1,8 @@
 //! The flights of a line, and the first of those that are the same.
-ghost use Rattle.std.specs.Prelude.{◌≡◌, ◌+◌, ◌<◌, ◌≤◌, ◌-◌, ◌++◌, ◌∷◌, [], false, true, IfSome, OnOk, OnErr, MatchOption, length, drop, slice_get, slice_set};
+ghost use Rattle.std.specs.Prelude.{All, ◌≡◌, ◌+◌, ◌<◌, ◌≤◌, ◌-◌, ◌++◌, ◌∷◌, [], false, true, IfSome, OnOk, OnErr, MatchOption, length, drop, slice_get, slice_set};
 ghost use Rattle.std.specs.Option.{option_map};
+ghost use Rattle.plc_base.specs.Fields.{AreOctets};
+ghost use Rattle.line_world.specs.declared.world.Flight.{Flight as FlightValue};
 ghost use Rattle.line_world.specs.Buckets.{bucket_of, flight_of};
 ghost use Rattle.line_world.specs.Flights.{is_same, is_under};
 ghost use Rattle.line_rules.specs.declared.event.TheConstants.{MAX_EVENTS};
@@ -69,6 +71,12 @@ fn bucket(octets: &[u8]) -> usize
     number % CHAINS
 }
 
+/// What is held as octets is below 256. Nothing is done.
+fn octets_only(octets: &[u8])
+    ensures { AreOctets octets.now }
+{
+}
+
 /// The flight whose octets stand in a part of a vector.
 fn flight_of<'a>(octets: &'a [u8], kept: &Kept) -> Flight<'a>
     requires order { kept.now.start ≤ kept.now.end }
@@ -121,6 +129,13 @@ impl Flights {
         ensures { result ≡ length self.now }
     {
         self.items.len()
+    }
+
+    /// Every flight is octets. Nothing is done.
+    pub fn are_octets(&self)
+        ensures { All (λ (f : FlightValue). AreOctets f.octets) self.now }
+    {
+        octets_only(self.octets.as_slice());
     }
 
     /// The flight at a place from 0 on.

@@ -1,5 +1,7 @@
 //! The world: its nodes and flights, and the step that an event makes.
-ghost use Rattle.std.specs.Prelude.{◌≡◌, ◌<◌, ◌≤◌, length};
+ghost use Rattle.std.specs.Prelude.{All, ◌≡◌, ◌<◌, ◌≤◌, length};
+ghost use Rattle.plc_base.specs.Fields.{AreOctets};
+ghost use Rattle.line_world.specs.declared.world.Flight.{Flight as FlightValue};
 ghost use Rattle.line_rules.specs.declared.event.TheConstants.{MAX_EVENTS};
 
 use crate::flights::Flights;
@@ -118,6 +120,13 @@ impl World {
             ups: self.ups,
             forged: self.forged,
         }
+    }
+
+    /// Every flight is octets. Nothing is done.
+    pub fn flights_are_octets(&self)
+        ensures { All (λ (f : FlightValue). AreOctets f.octets) self.now.flights }
+    {
+        self.flights.are_octets();
     }
 
     /// The octets of a flight, lost or not. None exactly where no flight has that number.
