@@ -1,12 +1,10 @@
 -- What a node makes of octets that it accepted is octets: units, joining messages that are handed on, and packets in them.
-use Rattle.std.proofs.Common.{◌≡◌, ℕ, ◌+◌, Bool, true, false, List, length, Option, Some, None, Result, Ok, Err, refl, sym, ap, ◌∙◌, subst}
+use Rattle.std.proofs.Common.{◌≡◌, ℕ, ◌+◌, Bool, true, false, List, length, Option, Some, None, Result, Ok, Err, refl, subst}
 use Rattle.std.specs.Prelude.{if◌then◌else◌, is_some, nat_lt, ◌==◌, IfSome}
 use Rattle.std.specs.Option.{option_map_or}
 use Rattle.std.proofs.lemmas.Option.{same_Some}
-use Rattle.plc_base.specs.declared.fields.Fault.{Fault}
 use Rattle.plc_base.specs.Fields.{AreOctets, octet, part, after}
 use Rattle.fragment_buffers.specs.Taking as pieces
-use Rattle.joining_messages.specs.declared.fault.JoinFaultKind.{JoinFaultKind}
 use Rattle.joining_messages.specs.declared.message.JoinMessage.{JoinMessage}
 use Rattle.joining_messages.specs.declared.message.JoinBody.{JoinBody}
 use Rattle.joining_messages.specs.declared.message.JoinBody.TheVariants as body
@@ -19,7 +17,7 @@ use Rattle.mesh_header.specs.declared.unit.Mesh.{Mesh}
 use Rattle.mesh_header.specs.declared.unit.Unit.{Unit as MeshUnit}
 use Rattle.mesh_header.specs.declared.unit.Unit.TheVariants as units
 use Rattle.mesh_header.specs.Faults.{origin_at, unit_fault}
-use Rattle.mesh_header.specs.Reading.{unit_in, fields_in, load_in, part_in, mesh_in, first_piece_at, later_piece_at}
+use Rattle.mesh_header.specs.Reading.{unit_in, fields_in, load_in, mesh_in, first_piece_at, later_piece_at}
 use Rattle.node_rules.specs.declared.heard.Accepted.{Accepted}
 use Rattle.node_rules.specs.declared.heard.Heard.{Heard}
 use Rattle.node_rules.specs.declared.heard.Heard.TheVariants as heard
@@ -30,7 +28,7 @@ use Rattle.node_rules.specs.declared.refusal.Dropped.TheVariants.{BadUnit}
 use Rattle.node_rules.specs.Memory.{StationMemory, address_of, next_hop}
 use Rattle.node_rules.specs.Plans.{resting}
 use Rattle.node_rules.specs.Drafts.{Draft, alone, sealed, sealing, checked, choose, counters_left}
-use Rattle.node_rules.specs.Hearing.{Hearing, dropped, drop_it, ends, rank_over, hear_request, hear_reply, hear_reply_for, hear_error, report_by, forward_by, gathered, hear_message, hear_message_in, hear_over_mesh, hear_sealed, is_joining, hear_plain, hear_unit, hear_unit_in, hear}
+use Rattle.node_rules.specs.Hearing.{Hearing, dropped, drop_it, ends, rank_over, hear_reply_for, report_by, forward_by, gathered, hear_message, hear_message_in, hear_over_mesh, hear_sealed, is_joining, hear_plain, hear_unit, hear_unit_in, hear}
 use Rattle.node_rules.specs.MemoryDrafts.{Unread, unread}
 use Rattle.line_laws.proofs.CipherOctets.{after_octets, part_octets}
 

@@ -13,8 +13,6 @@ use Rattle.frame_counters.specs.SendCounter as counter
 use Rattle.frame_counters.specs.PeerMarks as marks
 use Rattle.group_keys.specs.KeyRing as ring
 use Rattle.group_keys.specs.KeyBook as book
-use Rattle.joining_messages.specs.declared.message.JoinMessage.{JoinMessage}
-use Rattle.joining_messages.specs.Reading.{join_in}
 use Rattle.eap_psk.specs.declared.server.Agreed.{Agreed}
 use Rattle.routing_set.specs.declared.rank.Rank.{Rank}
 use Rattle.routing_set.specs.RoutingSet as routing
@@ -44,7 +42,6 @@ use Rattle.line_laws.specs.Owed.{AreOctets, KeepsRanges}
 use Rattle.line_laws.proofs.Keeping.{Leads, leads_beside}
 use Rattle.line_laws.proofs.Beside.{low_one}
 use Rattle.line_laws.proofs.StoreWords.{limit_kept, number_kept}
-use Rattle.line_laws.proofs.Readings.{join_ranges}
 use Rattle.line_laws.proofs.StoreRanks.{EntryFits}
 use Rattle.node_rules.specs.Laws.{IsLoad}
 use Rattle.line_laws.proofs.StoreFold.{WordFits, ring_fits, ended_kept}

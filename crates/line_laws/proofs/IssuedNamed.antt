@@ -1,7 +1,6 @@
 -- Every meter to which keys are issued is named by an EUI of 8 octets.
-use Rattle.std.proofs.Common.{◌≡◌, ℕ, Bool, true, false, List, [], ◌∷◌, ◌+◌, ◌++◌, Option, Some, None, Result, Ok, Err, refl, sym, ap, ◌∙◌, subst}
-use Rattle.std.specs.Prelude.{All, if◌then◌else◌}
-use Rattle.std.specs.Option.{option_map_or}
+use Rattle.std.proofs.Common.{◌≡◌, ℕ, Bool, true, false, List, [], ◌∷◌, ◌+◌, ◌++◌, Option, Some, None, Result, Ok, Err, refl, sym, subst}
+use Rattle.std.specs.Prelude.{All}
 use Rattle.std.proofs.lemmas.List.Elements.{All-nil, All-cons, All-head, All-tail}
 use Rattle.plc_base.specs.declared.address.Eui.{Eui}
 use Rattle.plc_base.specs.declared.key.Key.{Key}
@@ -31,13 +30,12 @@ use Rattle.line_rules.specs.Forgery.{Comes, accepting}
 use Rattle.line_rules.specs.Runs.{Entry, IsRun, events_of}
 use Rattle.line_rules.specs.Worlds.{World, Issued, Trace, node_at, start}
 use Rattle.line_rules.specs.Steps.{Step, step, identity, hears, note_by, issued_at, issued_by, issued_of, sent_if, is_taken, tag_of, acted}
-use Rattle.line_laws.specs.Stores.{HasEui, IsNamed, IsKept}
-use Rattle.line_laws.specs.Owed.{AreOctets, KeepsRanges}
+use Rattle.line_laws.specs.Stores.{HasEui, IsNamed}
+use Rattle.line_laws.specs.Owed.{KeepsRanges}
 use Rattle.line_laws.specs.Laws.{IsLineRun, FlightsAreOctets}
 use Rattle.line_laws.proofs.Planned.{planned_failed}
 use Rattle.line_laws.proofs.StoreBook.{looked_up}
-use Rattle.line_laws.proofs.StoreMarks.{accept_is}
-use Rattle.line_laws.proofs.Answered.{Answered, acts_answered}
+use Rattle.line_laws.proofs.Answered.{acts_answered}
 use Rattle.line_laws.proofs.Nodes.{NodeOk, acts_ok, node_kept}
 use Rattle.line_laws.proofs.NodeCalls.{heard_given}
 use Rattle.line_laws.proofs.CoordinatorCalls.{accept_ok}

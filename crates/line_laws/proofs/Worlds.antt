@@ -6,7 +6,6 @@ use Rattle.std.proofs.lemmas.List.{length-set}
 use Rattle.std.proofs.lemmas.List.Elements.{All-nil, All-set, All-append, All-map}
 use Rattle.std.proofs.lemmas.Option.{same_Some}
 use Rattle.plc_base.proofs.SlotTables.{slice_get-set, slice_get-set_other}
-use Rattle.plc_base.specs.declared.address.Eui.{Eui}
 use Rattle.plc_base.specs.declared.key.Key.{Key}
 use Rattle.node_rules.specs.Ciphers.{Ciphers}
 use Rattle.node_rules.specs.Frames.{spelled}

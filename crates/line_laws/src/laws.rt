@@ -1,5 +1,6 @@
 //! Laws of the runs: each carried by a function that does nothing.
 ghost use Rattle.line_laws.specs.Issued.{EveryJoiningAgrees, OnlyIssuedKeys};
+ghost use Rattle.line_laws.specs.Network.{EveryNetworkRunIsRight};
 ghost use Rattle.line_laws.specs.Owed.{KeepsRanges};
 ghost use Rattle.node_rules.specs.Ciphers.{network};
 ghost use Rattle.line_laws.specs.Loops.{EveryRunIsLoopFree};
@@ -92,4 +93,10 @@ pub fn every_address_differs()
 #[tactic(auto)]
 pub fn every_nonce_differs()
     ensures { EveryNonceDiffers }
+{}
+
+/// In every run of the network whose flights are octets, all these laws hold, with nothing further asked of the ciphers.
+#[tactic(auto)]
+pub fn every_network_run_is_right()
+    ensures { EveryNetworkRunIsRight }
 {}

@@ -74,8 +74,7 @@ fn bucket(octets: &[u8]) -> usize
 /// What is held as octets is below 256. Nothing is done.
 fn octets_only(octets: &[u8])
     ensures { AreOctets octets.now }
-{
-}
+{}
 
 /// The flight whose octets stand in a part of a vector.
 fn flight_of<'a>(octets: &'a [u8], kept: &Kept) -> Flight<'a>
