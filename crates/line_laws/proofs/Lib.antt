@@ -97,4 +97,5 @@ pub mod NonceRuns
 pub mod KeyedAnswers
 pub mod CipherOctets
 pub mod HeardOctets
+pub mod NetworkOpens
 pub mod IssuedNamed

@@ -2,7 +2,7 @@
 ghost use Rattle.line_laws.specs.Issued.{EveryJoiningAgrees, OnlyIssuedKeys};
 ghost use Rattle.line_laws.specs.Network.{EveryNetworkRunIsRight};
 ghost use Rattle.line_laws.specs.Owed.{KeepsRanges};
-ghost use Rattle.node_rules.specs.Ciphers.{network};
+ghost use Rattle.node_rules.specs.Ciphers.{OpensWhatItSeals, network};
 ghost use Rattle.line_laws.specs.Loops.{EveryRunIsLoopFree};
 ghost use Rattle.line_laws.specs.Laws.{EveryAddressDiffers, EveryCountIsRight, EveryCounterRises, EveryFlightIsSpelled, EveryForgeryIsTold, EveryNonceDiffers, EveryRestartIsAnswered, EveryRunIsSized, EverySenderIsRight, EveryTraceIsRight};
 
@@ -10,6 +10,12 @@ ghost use Rattle.line_laws.specs.Laws.{EveryAddressDiffers, EveryCountIsRight, E
 #[tactic(auto)]
 pub fn network_keeps_ranges()
     ensures { KeepsRanges network }
+{}
+
+/// What a key of the network seals, the same key opens, under the same head; a sealed body is four octets longer than its payload.
+#[tactic(auto)]
+pub fn network_opens_what_it_seals()
+    ensures { OpensWhatItSeals network }
 {}
 
 /// In every run, forged or not, no table passes its size, and no event sends more than 24 frames.
