@@ -6,13 +6,15 @@ ghost use Rattle.node_rules.specs.Ciphers.{OpensWhatItSeals, network};
 ghost use Rattle.line_laws.specs.Loops.{EveryRunIsLoopFree};
 ghost use Rattle.line_laws.specs.Laws.{EveryAddressDiffers, EveryCountIsRight, EveryCounterRises, EveryFlightIsSpelled, EveryForgeryIsTold, EveryNonceDiffers, EveryRestartIsAnswered, EveryRunIsSized, EverySenderIsRight, EveryTraceIsRight};
 
-/// What the network's ciphers open of octets, under keys of octets, is octets, and each grant that they open can be stored.
+/// What the network's ciphers open of octets, under keys of octets, is octets, and each grant that they open can be
+/// stored.
 #[tactic(auto)]
 pub fn network_keeps_ranges()
     ensures { KeepsRanges network }
 {}
 
-/// What a key of the network seals, the same key opens, under the same head; a sealed body is four octets longer than its payload.
+/// What a key of the network seals, the same key opens, under the same head; a sealed body is four octets longer than
+/// its payload.
 #[tactic(auto)]
 pub fn network_opens_what_it_seals()
     ensures { OpensWhatItSeals network }
@@ -101,7 +103,7 @@ pub fn every_nonce_differs()
     ensures { EveryNonceDiffers }
 {}
 
-/// In every run of the network whose flights are octets, all these laws hold, with nothing further asked of the ciphers.
+/// In every run of the network whose flights are octets, these laws hold, with nothing asked of the ciphers.
 #[tactic(auto)]
 pub fn every_network_run_is_right()
     ensures { EveryNetworkRunIsRight }
