@@ -97,5 +97,6 @@ pub mod NonceRuns
 pub mod KeyedAnswers
 pub mod CipherOctets
 pub mod HeardOctets
+pub mod LastFlights
 pub mod NetworkOpens
 pub mod IssuedNamed

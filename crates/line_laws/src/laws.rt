@@ -1,6 +1,6 @@
 //! Laws of the runs: each carried by a function that does nothing.
 ghost use Rattle.line_laws.specs.Issued.{EveryJoiningAgrees, OnlyIssuedKeys};
-ghost use Rattle.line_laws.specs.Network.{EveryNetworkRunIsRight};
+ghost use Rattle.line_laws.specs.Network.{EveryNetworkRunIsRight, LastFlightsSayAll};
 ghost use Rattle.line_laws.specs.Owed.{KeepsRanges};
 ghost use Rattle.node_rules.specs.Ciphers.{OpensWhatItSeals, network};
 ghost use Rattle.line_laws.specs.Loops.{EveryRunIsLoopFree};
@@ -107,4 +107,10 @@ pub fn every_nonce_differs()
 #[tactic(auto)]
 pub fn every_network_run_is_right()
     ensures { EveryNetworkRunIsRight }
+{}
+
+/// In every run where the flights of the last world are octets, those of each world are.
+#[tactic(auto)]
+pub fn the_last_flights_say_all()
+    ensures { LastFlightsSayAll }
 {}
