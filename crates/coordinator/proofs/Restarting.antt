@@ -1,5 +1,5 @@
 -- What a restart gives, of what its station and its book give.
-use Rattle.std.proofs.Common.{◌≡◌, [], Option, Some, None, Result, Ok, Err, refl, sym, ap, ◌∙◌}
+use Rattle.std.proofs.Common.{◌≡◌, [], Option, Some, None, Result, Ok, Err, refl, sym, ap, subst, ◌∙◌}
 use Rattle.std.specs.Prelude.{IfSome}
 use Rattle.std.specs.Option.{option_map, option_and_then}
 use Rattle.plc_base.specs.Keeper.{Records}
@@ -65,3 +65,12 @@ module _ (records : Records) where
     book = kept;
     home = ap (option_and_then (option_map (λ (g : Granted). g.address))) (sym a.ring.stored) ∙ home;
   }
+
+  -- a station whose store has no reading holds nothing
+  pub unread_holds : (bad : BadStore) (o : Option StationMemory) (f : StationMemory → Memory) (P : Memory → Type 0) → Err bad ≡ stations.read_answer (station_of records)
+      → o ≡ stations.if_read (station_of records) → IfSome (option_map f o) P
+  unread_holds bad o f P is e = subst (λ (k : Option StationMemory). IfSome (option_map f k) P) (sym e) (by_station (station_of records) is)
+    where
+      by_station : (r : Result StationMemory BadStore) → Err bad ≡ stations.read_answer r → IfSome (option_map f (stations.if_read r)) P
+      by_station (Ok l) s = absurd (cc)
+      by_station (Err b) s = tt
