@@ -41,6 +41,7 @@ impl<K: Keeper + Drop> Meter<K> {
             (meters.reply (identity_of self.old) m (memory.ByAgent agent) packet.now now)
             result out.new (node_of self.new)) }
         ensures agrees { Agrees self.new.station }
+        ensures psk { self.new.psk ≡ self.old.psk }
     {
         self.awaits(agent)?;
         let mut eap = EapBuf::new();
@@ -73,6 +74,7 @@ impl<K: Keeper + Drop> Meter<K> {
         ensures carries { IfSome (node_of self.old).memory (λ m. Carries (node_of self.old)
             (meters.reply (identity_of self.old) m memory.ByCommand packet.now now) result out.new (node_of self.new)) }
         ensures agrees { Agrees self.new.station }
+        ensures psk { self.new.psk ≡ self.old.psk }
     {
         let mut eap = EapBuf::new();
         let mut tags = TagList::new();
@@ -113,6 +115,7 @@ impl<K: Keeper + Drop> Meter<K> {
             (meters.take (identity_of self.old) m (memory.ByAgent agent) packet.now now)
             result out.new (node_of self.new)) }
         ensures agrees { Agrees self.new.station }
+        ensures psk { self.new.psk ≡ self.old.psk }
     {
         self.awaits(agent)?;
         let mut eap = EapBuf::new();
@@ -145,6 +148,7 @@ impl<K: Keeper + Drop> Meter<K> {
         ensures carries { IfSome (node_of self.old).memory (λ m. Carries (node_of self.old)
             (meters.take (identity_of self.old) m memory.ByCommand packet.now now) result out.new (node_of self.new)) }
         ensures agrees { Agrees self.new.station }
+        ensures psk { self.new.psk ≡ self.old.psk }
     {
         if !self.has_session(Course::ByCommand) {
             return Err(Dropped::NoSession);
@@ -190,6 +194,7 @@ impl<K: Keeper + Drop> Meter<K> {
             (meters.challenged (identity_of self.old) m (memory.ByAgent agent) packet.now now)
             result out.new (node_of self.new)) }
         ensures agrees { Agrees self.new.station }
+        ensures psk { self.new.psk ≡ self.old.psk }
     {
         if is_first(packet) {
             return self.reply_by_agent(agent, packet, now, out);
@@ -212,6 +217,7 @@ impl<K: Keeper + Drop> Meter<K> {
             (meters.challenged (identity_of self.old) m memory.ByCommand packet.now now)
             result out.new (node_of self.new)) }
         ensures agrees { Agrees self.new.station }
+        ensures psk { self.new.psk ≡ self.old.psk }
     {
         if is_first(packet) {
             return self.reply_by_command(packet, now, out);

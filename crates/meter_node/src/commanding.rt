@@ -92,6 +92,7 @@ impl<K: Keeper + Drop> Meter<K> {
         ensures carries { IfSome (node_of self.old).memory (λ m. Carries (node_of self.old)
             (meters.carry_up m from join.now join.now.body now) result out.new (node_of self.new)) }
         ensures agrees { Agrees self.new.station }
+        ensures psk { self.new.psk ≡ self.old.psk }
     {
         if !is_join(&join.body) {
             return Err(Dropped::BadUnit);

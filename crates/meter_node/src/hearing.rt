@@ -76,6 +76,7 @@ impl<K: Keeper + Drop> Meter<K> {
         ensures carries { IfSome (node_of self.old).memory (λ m. Carries (node_of self.old)
             (meters.declined m agent) result nothing (node_of self.new)) }
         ensures agrees { Agrees self.new.station }
+        ensures psk { self.new.psk ≡ self.old.psk }
     {
         if self.is_joined() {
             return Err(Dropped::BadUnit);
@@ -94,6 +95,7 @@ impl<K: Keeper + Drop> Meter<K> {
         ensures carries { IfSome (node_of self.old).memory (λ m. Carries (node_of self.old)
             (meters.kicked m) result nothing (node_of self.new)) }
         ensures agrees { Agrees self.new.station }
+        ensures psk { self.new.psk ≡ self.old.psk }
     {
         self.session = None;
         let Ok(()) = self.station.leave() else {
@@ -110,6 +112,7 @@ impl<K: Keeper + Drop> Meter<K> {
         ensures carries { IfSome (node_of self.old).memory (λ m. Carries (node_of self.old)
             (meters.activated m index) result nothing (node_of self.new)) }
         ensures agrees { Agrees self.new.station }
+        ensures psk { self.new.psk ≡ self.old.psk }
     {
         let done = self.station.activate(index);
         activated_as(done)
@@ -124,6 +127,7 @@ impl<K: Keeper + Drop> Meter<K> {
         ensures carries { IfSome (node_of self.old).memory (λ m. Carries (node_of self.old)
             (meters.carry_down m join.now join.now.body) result out.new (node_of self.new)) }
         ensures agrees { Agrees self.new.station }
+        ensures psk { self.new.psk ≡ self.old.psk }
     {
         let Some(own) = self.station.ring().joined() else {
             return Err(Dropped::BadUnit);
@@ -154,6 +158,7 @@ impl<K: Keeper + Drop> Meter<K> {
         ensures carries { IfSome (node_of self.old).memory (λ m. Carries (node_of self.old)
             (meters.hear_near (identity_of self.old) m agent body.now now) result out.new (node_of self.new)) }
         ensures agrees { Agrees self.new.station }
+        ensures psk { self.new.psk ≡ self.old.psk }
     {
         match body {
             JoinBody::Challenge { eap } => self.challenged_by_agent(agent, eap.octets(), now, out),
@@ -180,6 +185,7 @@ impl<K: Keeper + Drop> Meter<K> {
         ensures carries { IfSome (node_of self.old).memory (λ m. Carries (node_of self.old)
             (meters.hear_order (identity_of self.old) m body.now now) result out.new (node_of self.new)) }
         ensures agrees { Agrees self.new.station }
+        ensures psk { self.new.psk ≡ self.old.psk }
     {
         match body {
             JoinBody::Challenge { eap } => self.challenged_by_command(eap.octets(), now, out),
@@ -207,6 +213,7 @@ impl<K: Keeper + Drop> Meter<K> {
         ensures carries { IfSome (node_of self.old).memory (λ m. Carries (node_of self.old)
             (meters.hear_join (identity_of self.old) m way join.now now) result out.new (node_of self.new)) }
         ensures agrees { Agrees self.new.station }
+        ensures psk { self.new.psk ≡ self.old.psk }
     {
         let own = join.eui.number() == self.station.eui().number();
         match way {
@@ -245,6 +252,7 @@ impl<K: Keeper + Drop> Meter<K> {
             (meters.hear_join_in (identity_of self.old) m way (join_in body.now) now)
             result out.new (node_of self.new)) }
         ensures agrees { Agrees self.new.station }
+        ensures psk { self.new.psk ≡ self.old.psk }
     {
         let Some(join) = read_message(body.octets()) else {
             return Err(Dropped::BadUnit);
@@ -273,6 +281,7 @@ impl<K: Keeper + Drop> Meter<K> {
         ensures carries { IfSome (node_of self.old).memory (λ m. Carries (node_of self.old)
             (meters.hear_meter (identity_of self.old) m got.now cost note now) result out.new (node_of self.new)) }
         ensures agrees { Agrees self.new.station }
+        ensures psk { self.new.psk ≡ self.old.psk }
     {
         let heard = self.station.hear(got, cost, note, now, out);
         match joining_command(heard) {

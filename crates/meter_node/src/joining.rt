@@ -31,6 +31,7 @@ impl<K: Keeper + Drop> Meter<K> {
         ensures carries { IfSome (node_of self.old).memory (λ m.
             Carries (node_of self.old) (drafts.give_random m value) result nothing (node_of self.new)) }
         ensures agrees { Agrees self.new.station }
+        ensures psk { self.new.psk ≡ self.old.psk }
     {
         if self.station.halted() {
             return Err(RandomFault::Halted);
@@ -48,6 +49,7 @@ impl<K: Keeper + Drop> Meter<K> {
         ensures carries { IfSome (node_of self.old).memory (λ m.
             Carries (node_of self.old) (meters.provision m grant.now) result nothing (node_of self.new)) }
         ensures agrees { Agrees self.new.station }
+        ensures psk { self.new.psk ≡ self.old.psk }
     {
         self.station.install(grant)
     }
@@ -62,6 +64,7 @@ impl<K: Keeper + Drop> Meter<K> {
         ensures carries { IfSome (node_of self.old).memory (λ m.
             Carries (node_of self.old) (meters.join (identity_of self.old) m agent now) result out.new (node_of self.new)) }
         ensures agrees { Agrees self.new.station }
+        ensures psk { self.new.psk ≡ self.old.psk }
     {
         out.clear();
         if self.station.halted() {
@@ -90,6 +93,7 @@ impl<K: Keeper + Drop> Meter<K> {
         ensures carries { IfSome (node_of self.old).memory (λ m.
             Carries (node_of self.old) (meters.leave m) result nothing (node_of self.new)) }
         ensures agrees { Agrees self.new.station }
+        ensures psk { self.new.psk ≡ self.old.psk }
     {
         if self.station.halted() {
             return Err(LeaveRefusal::Halted);

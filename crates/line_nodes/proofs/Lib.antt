@@ -1,0 +1,5 @@
+mod Acting
+mod Places
+mod AcceptingSteps
+mod HearingSteps
+mod Making

@@ -1,0 +1,10 @@
+-- What is found at a place.
+use Rattle.line_nodes.proofs.Places.{found_at, same_at}
+use Rattle.line_nodes.proofs.meters.Meters.keeps_rank.Goals as goal
+
+pub returns-clause-value : goal.returns-clause-value
+returns-clause-value c =
+    found_at c.self.inside.meters.items _ c.args.place c.index_mut.result.now _ c.self.view_is c.requires.there c.index_mut.ensures.value c.has_rank.ensures.value
+
+pub returns-clause-same : goal.returns-clause-same
+returns-clause-same c = same_at c.self.inside.meters.items _ c.args.place _ _ c.self.view_is c.index_mut.ensures.value c.has_rank.ensures.same

@@ -1,0 +1,5 @@
+pub mod NodeCodes
+pub mod Nodes
+pub mod Soundness
+pub mod Doings
+pub mod Receiving

@@ -1,0 +1,37 @@
+-- What a node makes of a frame that it accepted, for the line.
+use Rattle.std.specs.Prelude.{◌≡◌, ⊤, ℕ, List, is_some, Option, Some, None, IsSome, IfSome}
+use Rattle.std.specs.Option.{option_map}
+use Rattle.plc_base.specs.declared.out_frame.Out.{Out}
+use Rattle.node_rules.specs.declared.heard.Accepted.{Accepted}
+use Rattle.node_rules.specs.Memory.{Memory, Node, Role, Coordinator, Meter}
+use Rattle.node_rules.specs.NodeSteps.{NodeStep}
+use Rattle.line_rules.specs.Answers as rules
+use Rattle.plc_station.specs.Heard.{Fits}
+use Rattle.meter_node.specs.Hearing.{CameUp}
+use Rattle.line_nodes.specs.declared.reception.Reception.{Reception}
+use Rattle.line_nodes.specs.Doings.{Did, given_by}
+
+-- a frame came to a meter as its station accepts them
+abbrev pub CameTo : Role → Accepted → Memory → Type 0
+CameTo Coordinator got m = ⊤
+CameTo (Meter psk) got m = CameUp got.path m.station
+
+-- A node may hear a frame: it is not halted, and its station accepted the frame.
+pub record MayHear (x : Node) (got : Accepted) : Type 0 where
+  pub running : IsSome x.memory
+  pub fits : Fits got
+  pub came : IfSome x.memory (λ m. CameTo x.role got m)
+
+-- The word and what is told beside it are those of the reception; a datagram that was handed up stands in these octets.
+pub record Tells (told : Reception) (datagram : List ℕ) (r : rules.Reception) : Type 0 where
+  pub answer : told.answer ≡ r.answer
+  pub up : told.up ≡ option_map (λ (u : rules.Up). u.note) r.up
+  pub octets : IfSome r.up (λ (u : rules.Up). datagram ≡ u.octets)
+  pub took : told.took ≡ is_some r.took
+  pub done : told.done ≡ option_map (λ (d : rules.CompletedJoining). d.eui) r.done
+
+-- The node of this number heard a frame.
+pub record Received (step : NodeStep rules.Reception) (old : List Node) (number : ℕ) (told : Reception)
+    (datagram : List ℕ) (out : Out) (new : List Node) : Type 0 where
+  pub tells : Tells told datagram step.answer
+  pub did : Did step old number step.answer out new

@@ -1,0 +1,13 @@
+//! The meters of a line, each over a keeper of its own in memory.
+//!
+//! Each call names a meter by its place, and takes the step that the rules of the nodes give for it, whichever
+//! writes of its keeper fail.
+#![tactic(auto)]
+
+mod hearing;
+mod meter_steps;
+mod meters;
+mod reception;
+
+pub use meters::Meters;
+pub use reception::Reception;
