@@ -1,5 +1,5 @@
 -- What a restart gives, of what its station and its book give.
-use Rattle.std.proofs.Common.{◌≡◌, [], Option, Some, None, Result, Ok, Err, refl, sym, ap, ◌∙◌}
+use Rattle.std.proofs.Common.{◌≡◌, [], Option, Some, None, Result, Ok, Err, refl, sym, ap, subst, ◌∙◌}
 use Rattle.std.specs.Prelude.{IfSome}
 use Rattle.std.specs.Option.{option_map, option_and_then}
 use Rattle.plc_base.specs.Keeper.{Records}
@@ -56,14 +56,6 @@ module _ (records : Records) where
       by_station (Ok l) = ap (λ k. if_read (read_by (Ok l) k)) h
       by_station (Err c) = refl
 
-  -- a station that has no reading holds nothing
-  pub unread_holds : (f : StationMemory → Memory) (bad : BadStore) → Err bad ≡ stations.read_answer (station_of records) → IfSome (option_map f (stations.if_read (station_of records))) (λ m. HoldsWith m records)
-  unread_holds f bad is = by_station (station_of records) is
-    where
-      by_station : (o : Result StationMemory BadStore) → Err bad ≡ stations.read_answer o → IfSome (option_map f (stations.if_read o)) (λ m. HoldsWith m records)
-      by_station (Ok l) h = absurd (cc)
-      by_station (Err b) h = tt
-
   -- the address that the records give is the coordinator's
   pub restarted_holds : (b : book.Book) (o : Option StationMemory) → IfSome o (λ l. AgreesWith l records) → book.IsKept b records → HasHome records
       → IfSome (option_map (memory_in [] [] b) o) (λ m. HoldsWith m records)
@@ -73,3 +65,12 @@ module _ (records : Records) where
     book = kept;
     home = ap (option_and_then (option_map (λ (g : Granted). g.address))) (sym a.ring.stored) ∙ home;
   }
+
+  -- a station whose store has no reading holds nothing
+  pub unread_holds : (bad : BadStore) (o : Option StationMemory) (f : StationMemory → Memory) (P : Memory → Type 0) → Err bad ≡ stations.read_answer (station_of records)
+      → o ≡ stations.if_read (station_of records) → IfSome (option_map f o) P
+  unread_holds bad o f P is e = subst (λ (k : Option StationMemory). IfSome (option_map f k) P) (sym e) (by_station (station_of records) is)
+    where
+      by_station : (r : Result StationMemory BadStore) → Err bad ≡ stations.read_answer r → IfSome (option_map f (stations.if_read r)) P
+      by_station (Ok l) s = absurd (cc)
+      by_station (Err b) s = tt

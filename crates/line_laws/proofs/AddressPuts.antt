@@ -27,7 +27,7 @@ use Rattle.line_laws.proofs.Made.{Given, RingWord, RingChange, Made, Starts, Ran
 -- a ring that is readable is read back
 pub readable_reads : (x : ring.Ring) → IfSome x IsReadable → ring.ring_in (ring.ring_octets x) ≡ Some x
 readable_reads None h = refl
-readable_reads (Some g) h = ring_in-ring_octets g h.grant h.address h.key0 h.key1
+readable_reads (Some g) h = ring_in-ring_octets g h.grant h.address h.key0.0 h.key1.0
 
 -- a write leaves the slot of the ring alone, or puts there a ring that is read back and of which S holds
 pub data RingWrite (S : ring.Ring → Type 0) : Write → Type 0 where

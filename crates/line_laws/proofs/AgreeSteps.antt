@@ -57,9 +57,11 @@ use Rattle.line_laws.specs.Sizes.{IsMemorySized}
 use Rattle.line_laws.specs.Owed.{AreOctets, KeepsRanges}
 use Rattle.line_laws.proofs.Readings.{join_ranges}
 use Rattle.line_laws.proofs.Keeping.{Left}
-use Rattle.line_laws.proofs.Nodes.{NodeOk}
-use Rattle.line_laws.proofs.NodeCalls.{heard_given}
-use Rattle.line_laws.proofs.CoordinatorCalls.{accept_ok}
+use Rattle.line_laws.proofs.Answered.{acts_answered}
+use Rattle.line_laws.proofs.StoreMarks.{accept_is}
+use Rattle.line_laws.proofs.Nodes.{NodeOk, ring_readable, pair_octets}
+use Rattle.line_laws.proofs.NodeCalls.{RoutesFit, heard_given}
+use Rattle.line_laws.proofs.CoordinatorCalls.{accept_ok, accept_failed, accepted_routes}
 use Rattle.line_laws.proofs.Nodes.{DidOk, acts_ok}
 use Rattle.line_laws.proofs.Worlds.{FlightFits, WorldOk, at_place}
 use Rattle.line_laws.proofs.IssueWords.{Among, Each}
@@ -400,9 +402,9 @@ module _ (ciphers : Ciphers) (fits : KeepsRanges ciphers) (w : World) (ok : Worl
   abbrev paired : ℕ → Option Agreed → Option Pairing
   paired number took = option_map (λ (a : Agreed). record { node = number; agreed = a }) took
 
-  meter_told : (number : ℕ) (x y : Node) (psk : Key) (got : Accepted) (cost note now : ℕ) → node_at w number ≡ Some x → NodeOk y → y.eui ≡ x.eui → IfSome y.memory (λ m. PeerIs y.eui m.session)
+  meter_told : (number : ℕ) (x y : Node) (psk : Key) → y.role ≡ Meter psk → (got : Accepted) (cost note now : ℕ) → node_at w number ≡ Some x → NodeOk y → y.eui ≡ x.eui → IfSome y.memory (λ m. PeerIs y.eui m.session) → RoutesFit got
       → let d : NodeStep (Result MeterHeard Dropped) = acts y (Err drops.Store) (λ m. meters.hear_meter (identity ciphers y psk) m got cost note now) in Confirmed (told ciphers (ran w) number d) (taken ++ one_of (paired number (meter_reception d.answer).took))
-  meter_told number x y psk got cost note now there good eui peer =
+  meter_told number x y psk role got cost note now there good eui peer routes =
       let plan : Memory → Plan Memory (Result MeterHeard Dropped) = λ m. meters.hear_meter (identity ciphers y psk) m got cost note now in
       let d = acts y (Err drops.Store) plan in
       let same : d.node.eui ≡ y.eui = acts_eui y (Err drops.Store) plan in
@@ -410,7 +412,7 @@ module _ (ciphers : Ciphers) (fits : KeepsRanges ciphers) (w : World) (ok : Worl
       let kept : IsKept y.role m y.store.records = subst (λ o. Left (IsKept y.role) y.store.records o) here good.kept in
       let session : PeerIs y.eui m.session = subst (λ o. IfSome o (λ (n : Memory). PeerIs y.eui n.session)) here peer in
       (meter_plan y.eui m dropped took_in (λ r. (meter_reception r).took) took_same kept.station.range.ring session _
-      (meter_hears (identity ciphers y psk) m (heard_given got cost note now) kept.station.range.ring session (λ p packet granted right is. fits.granted psk p packet granted right is) (λ octets join index read e. (join_ranges octets join read).1 index e) got refl)).made) in
+      (meter_hears (identity ciphers y psk) m (heard_given got cost note now) kept.station.range.ring session (λ p packet granted are right is. fits.granted psk p packet granted (pair_octets y m psk kept role) are right is) (λ octets join index read e. (join_ranges octets join read).1 index e) got routes.payload refl)).made) in
       let here : slice_get (slice_set w.nodes number d.node) number ≡ Some d.node = slice_get-set w.nodes number d.node (place_within w.nodes number x there) in
       told_confirmed ciphers (ran w) number x d there (same ∙ eui) taken (one_of (paired number (meter_reception d.answer).took)) c
       (each_weaker (MeterTag y.eui (meter_reception d.answer).took) (TagTaken (slice_set w.nodes number d.node) (taken ++ one_of (paired number (meter_reception d.answer).took)))
@@ -495,10 +497,10 @@ module _ (ciphers : Ciphers) (fits : KeepsRanges ciphers) (w : World) (ok : Worl
   Agreeing : (number : ℕ) → NodeStep Reception → Type 0
   Agreeing number d = Confirmed (told ciphers (ran w) number d) (taken ++ one_of (paired number d.answer.took)) × IfSome (done_by w d.answer.done) (λ p. Among p taken)
 
-  hears_agree : (number : ℕ) (x y : Node) (got : Accepted) (cost note now : ℕ) → node_at w number ≡ Some x → NodeOk y → y.eui ≡ x.eui → y.role ≡ x.role → (number ≢ 0 → IfSome y.memory (λ m. PeerIs y.eui m.session))
+  hears_agree : (number : ℕ) (x y : Node) (got : Accepted) (cost note now : ℕ) → node_at w number ≡ Some x → NodeOk y → y.eui ≡ x.eui → y.role ≡ x.role → (number ≢ 0 → IfSome y.memory (λ m. PeerIs y.eui m.session)) → RoutesFit got
       → list_any (is_forged_tag w.made) (hears ciphers y got cost note now).opened ≡ false → Agreeing number (hears ciphers y got cost note now)
   unfolding Agreeing told
-  hears_agree number x y got cost note now there good eui role peer = by_role y.role refl
+  hears_agree number x y got cost note now there good eui role peer routes = by_role y.role refl
     where
       hears_as : Role → NodeStep Reception
       hears_as Coordinator = answering coordinator_reception (acts y (Err drops.Store) (λ m. coordinator_rules.hear_coordinator (record { eui = y.eui; ciphers = ciphers }) m got cost note now))
@@ -546,7 +548,7 @@ module _ (ciphers : Ciphers) (fits : KeepsRanges ciphers) (w : World) (ok : Worl
       by_role (Meter psk) is honest =
           let d = acts y (Err drops.Store) (λ m. meters.hear_meter (identity ciphers y psk) m got cost note now) in
           let ne : number ≢ 0 = λ e. not_meter psk (sym (k.coordinator x (ap (slice_get w.nodes) (sym e) ∙ there)).role ∙ sym role ∙ is) in
-          (meter_told number x y psk got cost note now there good eui (peer ne), subst (λ o. IfSome (done_by w o) (λ p. Among p taken)) (sym (meter_done d.answer)) tt)
+          (meter_told number x y psk is got cost note now there good eui (peer ne) routes, subst (λ o. IfSome (done_by w o) (λ p. Among p taken)) (sym (meter_done d.answer)) tt)
 
   arrives_agrees : (number : ℕ) (x : Node) (octets : List ℕ) (cost : ℕ) → node_at w number ≡ Some x → AreOctets octets → Good (Ok (arrives ciphers w number x octets cost))
   unfolding arrives Agreeing told
@@ -557,6 +559,11 @@ module _ (ciphers : Ciphers) (fits : KeepsRanges ciphers) (w : World) (ok : Worl
 
       did : DidOk x (acts x (Err frames.Halted) plan)
       did = acts_ok x (Err frames.Halted) plan (node_ok number x there) (λ m here kept sized. accept_ok ciphers fits octets are x.role m x.eui sized)
+
+      routes : (got : Accepted) → (acts x (Err frames.Halted) plan).answer ≡ Ok got → RoutesFit got
+      routes got e =
+          let a = acts_answered x frames.Halted frames.Store plan (λ m. accept_failed ciphers fits octets are m.station _ (accept_is m.station x.eui (arrived ciphers octets))) got e in
+          accepted_routes ciphers fits octets are a.memory.station (ring_readable x a.memory (node_ok number x there) a.there) _ got (accept_is a.memory.station x.eui (arrived ciphers octets)) a.is
 
       by_answer : (r : Result Accepted FrameRefusal) → (acts x (Err frames.Halted) plan).answer ≡ r → Good (Ok (accepted_by ciphers w number octets cost (acts x (Err frames.Halted) plan)))
       by_answer (Err reason) e =
@@ -569,7 +576,7 @@ module _ (ciphers : Ciphers) (fits : KeepsRanges ciphers) (w : World) (ok : Worl
           let forged = forged_by w octets got.path || list_any (is_forged_tag w.made) d.opened in
           rw e (Happened (received ciphers w number forged d) (λ honest.
           hears_agree number x y got cost (note_by w octets got.path) w.clock there did.node did.eui did.role
-          (λ ne. (quiet_meter_did ciphers fits w ok flown given k x (Err frames.Halted) plan k.book (node_ok number x there) (k.meters number x ne there) (λ m sized. accept_quietly ciphers fits octets are m x.eui)).node.session) (or_false (forged_by w octets got.path) _ honest)))
+          (λ ne. (quiet_meter_did ciphers fits w ok flown given k x (Err frames.Halted) plan k.book (node_ok number x there) (k.meters number x ne there) (λ m sized. accept_quietly ciphers fits octets are m x.eui)).node.session) (routes got e) (or_false (forged_by w octets got.path) _ honest)))
 
   deliver_agrees : (flight number cost : ℕ) → Good (deliver ciphers w flight number cost)
   unfolding deliver

@@ -39,8 +39,9 @@ use Rattle.line_rules.specs.Steps.{Step, set_up, ran, told, acted, sending, sent
 use Rattle.line_laws.specs.Stores.{IsReadable, IsBookKept}
 use Rattle.line_laws.specs.Sizes.{IsMemorySized}
 use Rattle.line_laws.specs.Owed.{KeepsRanges}
-use Rattle.line_laws.proofs.Nodes.{NodeOk, acts_ok}
+use Rattle.line_laws.proofs.Nodes.{NodeOk, acts_ok, ring_readable}
 use Rattle.line_laws.proofs.NodeCalls.{RoutesFit}
+use Rattle.line_laws.proofs.Readings.{held}
 use Rattle.line_laws.proofs.CoordinatorCalls.{accept_ok, accept_failed, accepted_routes}
 use Rattle.line_laws.proofs.StoreMarks.{accept_is}
 use Rattle.line_laws.proofs.Answered.{acts_answered}
@@ -118,7 +119,7 @@ module _ (ciphers : Ciphers) (fits : KeepsRanges ciphers) (w : World) (ok : Worl
       order_grows number x _ first there (λ m sized b nought reads. depot_coordinator ciphers fits (own_of x) m sized b nought reads y.eui psk (given_at meter y at.there).eui ((given_at meter y at.there).psk psk (psk_meter y psk pair)))
   call_grows number x A halted plan there (Allows meter y psk zero_is at pair) first =
       order_grows number x _ first there (λ m sized b nought reads. allow_coordinator ciphers fits (own_of x) m sized b nought reads y.eui psk (given_at meter y at.there).eui ((given_at meter y at.there).psk psk (psk_meter y psk pair)))
-  call_grows number x A halted plan there (Rekeys index key zero_is low long) first = order_grows number x _ first there (λ m sized b nought reads. rekey_coordinator ciphers fits (own_of x) m sized b nought reads index key (omega (arith, long.0)))
+  call_grows number x A halted plan there (Rekeys index key zero_is low long) first = order_grows number x _ first there (λ m sized b nought reads. rekey_coordinator ciphers fits (own_of x) m sized b nought reads index key (held key long.0 long.1))
   call_grows number x A halted plan there (Turns index zero_is low) first = order_grows number x _ first there (λ m sized b nought reads. activate_self_coordinator ciphers fits (own_of x) m sized b nought reads index low)
   call_grows number x A halted plan there (Challenges meter y zero_is at) first = order_grows number x _ first there (λ m sized b nought reads. challenge_coordinator ciphers fits (own_of x) m sized b nought reads y.eui w.clock (given_at meter y at.there).eui)
   call_grows number x A halted plan there (Activates meter y index zero_is at low) first = order_grows number x _ first there (λ m sized b nought reads. activate_coordinator ciphers fits (own_of x) m sized b nought reads y.eui index w.clock)
@@ -230,7 +231,7 @@ module _ (ciphers : Ciphers) (fits : KeepsRanges ciphers) (w : World) (ok : Worl
       let plan : Memory → Plan Memory (Result Accepted FrameRefusal) = λ m. of_station m (accept m.station x.eui (arrived ciphers octets)) in
       let did = acts_ok x (Err frames.Halted) plan (good_at number x there) (λ m here kept sized. accept_ok ciphers fits octets are x.role m x.eui sized) in
       let a = acts_answered x frames.Halted frames.Store plan (λ m. accept_failed ciphers fits octets are m.station _ (accept_is m.station x.eui (arrived ciphers octets))) got is in
-      let routes = accepted_routes ciphers fits octets are a.memory.station _ got (accept_is a.memory.station x.eui (arrived ciphers octets)) a.is in
+      let routes = accepted_routes ciphers fits octets are a.memory.station (ring_readable x a.memory (good_at number x there) a.there) _ got (accept_is a.memory.station x.eui (arrived ciphers octets)) a.is in
       let y = (accepting ciphers x octets).node in
       let d = hears ciphers y got cost (note_by w octets got.path) w.clock in
       told_goes (ran w) _ number x d (same_goes w (ran w) refl self_goes) (told_nodes (ran w) number d) there (hears_eui y got cost (note_by w octets got.path) w.clock ∙ acts_eui x (Err frames.Halted) plan)

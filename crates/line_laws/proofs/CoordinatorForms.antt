@@ -104,7 +104,7 @@ no_route : (o : Option ℕ) → o ≡ None → is_some o ≡ true → ⊥
 no_route None e t = cc
 no_route (Some hop) e t = cc
 
-module _ (W : RingWord → Type 0) (P : Eui → Key → Type 0) (E : Eui → Type 0) (heard_eui : (octets : List ℕ) (join : JoinMessage) → join_in octets ≡ Some join → E join.eui) (g : Given) (own : CoordinatorIdentity) (m : Memory)
+module _ (W : RingWord → Type 0) (P : Eui → Key → Type 0) (E : Eui → Type 0) (g : Given) (own : CoordinatorIdentity) (m : Memory)
     (says_to : (to : ℕ) → IsReached g m to → (join : JoinMessage) → IsSaidDown E own m join → W (Carry to 0 (Command (command_of join)))) where
   abbrev pub L : Granted → Type 0
   L granted = IsGranted m granted
@@ -252,17 +252,18 @@ module _ (W : RingWord → Type 0) (P : Eui → Key → Type 0) (E : Eui → Typ
   join_is way eui (body.Join (x ∷ packet)) there known = answered_is eui (x ∷ packet)
   join_is way eui _ there known = Refuses _
 
-  join_in_is : (octets : List ℕ) (way : Way) (join : Option JoinMessage) → WayIsReached g m way → join_in octets ≡ join → Is (hear_join_in own m way join g.now)
-  join_in_is octets way None there read = Refuses _
-  join_in_is octets way (Some join) there read = choose_planned (λ may. join_is way join.eui join.body there (heard_eui octets join read)) (λ other. Refuses _)
+  join_in_is : (octets : List ℕ) (way : Way) (join : Option JoinMessage) → WayIsReached g m way → ((message : JoinMessage) → join_in octets ≡ Some message → E message.eui) → join_in octets ≡ join → Is (hear_join_in own m way join g.now)
+  join_in_is octets way None there known read = Refuses _
+  join_in_is octets way (Some join) there known read = choose_planned (λ may. join_is way join.eui join.body there (known join read)) (λ other. Refuses _)
 
-  heard_by_is : (p : Plan StationMemory (Result Heard Dropped)) (u : Option Unread) → ((x : Unread) → u ≡ Some x → WayIsReached g m x.way) → Planned alone dropped m.station (Handed g m.station) (MadeOf W g m.station) p → Is (heard_by own m g.now p u)
-  heard_by_is p None there s = within_planned W L P E g m HandsNothingUp heard.Station p (λ h k. k) s
-  heard_by_is p (Some u) there s = join_in_is u.body u.way (join_in u.body) (there u refl) refl
+  heard_by_is : (p : Plan StationMemory (Result Heard Dropped)) (u : Option Unread) → ((x : Unread) → u ≡ Some x → WayIsReached g m x.way) → ((x : Unread) (join : JoinMessage) → u ≡ Some x → join_in x.body ≡ Some join → E join.eui) → Planned alone dropped m.station (Handed g m.station) (MadeOf W g m.station) p → Is (heard_by own m g.now p u)
+  heard_by_is p None there known s = within_planned W L P E g m HandsNothingUp heard.Station p (λ h k. k) s
+  heard_by_is p (Some u) there known s = join_in_is u.body u.way (join_in u.body) (there u refl) (λ join read. known u join refl read) refl
 
-  pub coordinator_is : (got : Accepted) → g.got ≡ Some got → Is (hear_coordinator own m got g.cost g.note g.now)
-  coordinator_is got is =
-      let p = station_rules.hear m.station got g.cost g.note g.now in heard_by_is p (unread p.answer) (λ u e origin way. AsHeard origin got u is e way) (hear_is W g m.station got is)
+  pub coordinator_is : (got : Accepted) → g.got ≡ Some got
+      → ((u : Unread) (join : JoinMessage) → unread (station_rules.hear m.station got g.cost g.note g.now).answer ≡ Some u → join_in u.body ≡ Some join → E join.eui) → Is (hear_coordinator own m got g.cost g.note g.now)
+  coordinator_is got is known =
+      let p = station_rules.hear m.station got g.cost g.note g.now in heard_by_is p (unread p.answer) (λ u e origin way. AsHeard origin got u is e way) known (hear_is W g m.station got is)
 
   -- # Orders
 

@@ -93,9 +93,6 @@ AnyEui eui = Unit {0}
 abbrev pub AnyPair : Eui → Key → Type 0
 AnyPair eui psk = Unit {0}
 
-pub any_heard : (octets : List ℕ) (join : JoinMessage) → join_in octets ≡ Some join → AnyEui join.eui
-any_heard octets join e = tt
-
 -- what comes of a frame weighs so much at most
 pub record Comes (g : Given) (n i brought : ℕ) : Type 0 where
   pub comes : (by : ℕ) (u : MeshUnit) → IsCome g by false u → weigh n g.note (content_is i u) ≤ brought
@@ -137,7 +134,7 @@ module _ (got : Accepted) (cost note now n i brought : ℕ) (some : 0 < n) (come
   coordinator_hears_kept own m agrees =
       plan_kept CoordinatorWord came n i brought some (brings CoordinatorWord (coordinator_says n i)) (λ granted. coordinator.IsGranted m granted) AnyPair AnyEui m dropped (coordinator_up n i) (HandedIn coordinator_heard.Station came m) _
       (λ k answer h. handed_in_kept CoordinatorWord came n i brought (brings CoordinatorWord (coordinator_says n i)).first coordinator_heard.Station (coordinator_up n i) (λ a. refl) m k answer agrees h)
-      (λ d answer h. (h.0, no_up answer h.2)) _ (coordinator.coordinator_is CoordinatorWord AnyPair AnyEui any_heard came own m (λ to there join said. Says to join) got refl)
+      (λ d answer h. (h.0, no_up answer h.2)) _ (coordinator.coordinator_is CoordinatorWord AnyPair AnyEui came own m (λ to there join said. Says to join) got refl (λ u join e read. tt))
     where
       no_up : (a : CoordinatorHeard) → coordinator.HandsNothingUp a → coordinator_up n i a ≡ 0
       no_up (coordinator_heard.Station h) none = up_none CoordinatorWord came n i brought (brings CoordinatorWord (coordinator_says n i)).first h none

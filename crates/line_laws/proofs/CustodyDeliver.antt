@@ -195,7 +195,7 @@ module _ (ciphers : Ciphers) (opens : OpensWhatItSeals ciphers) (w : World) (are
   opening_of : (m : Memory) (got : Accepted) (p : Accepting) → Accepts m.station (arrived ciphers octets) p → p.answer ≡ Ok got → forged_by w octets got.path ≡ false → Opening got
   unfolding resting marking
   opening_of m got p (Turned reason) e unforged = absurd (err_ok reason got e)
-  opening_of m got p (Plain g plain) e unforged = let same : g ≡ got = cc in subst Opening same (of_plain g plain)
+  opening_of m got p (Plain g plain) e unforged = let same : g ≡ got = cc in subst Opening same (of_plain g plain.path)
   opening_of m got p (Marked from counter g a) e unforged = let same : g ≡ got = cc in of_letter m from counter got (subst (IsAdmitted m.station (arrived ciphers octets) from counter) same a) unforged
 
   failed_store : (m : Memory) → (of_station m (accept m.station x.eui (arrived ciphers octets))).failed ≡ Err frames.Store

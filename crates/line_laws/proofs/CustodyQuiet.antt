@@ -39,7 +39,7 @@ use Rattle.line_laws.proofs.CallForms as forms
 use Rattle.line_laws.proofs.NodeCalls.{NoGrant, NoPair, NoEui, NoWord, call_given, no_some}
 use Rattle.line_laws.proofs.RangeFrames.{IsSent}
 use Rattle.line_laws.proofs.CustodyPlans.{BringsIn, up_by, BodiesKept, plan_kept, DidKeep}
-use Rattle.line_laws.proofs.CustodyCalls.{SaysNoDatagram, meter_says, coordinator_says, CoordinatorWord, Says, Draws, Activates, AnyEui, AnyPair, any_heard}
+use Rattle.line_laws.proofs.CustodyCalls.{SaysNoDatagram, meter_says, coordinator_says, CoordinatorWord, Says, Draws, Activates, AnyEui, AnyPair}
 use Rattle.line_laws.proofs.CustodyWorld.{custody_after, sent_flies}
 
 -- # An event that brings nothing
@@ -130,24 +130,24 @@ module _ (n i : ℕ) (some : 0 < n) (m : Memory) where
 
   -- of the coordinator
   module _ (own : coordinators.CoordinatorIdentity) (now : ℕ) where
-    order_kept : {A : Type 0} (p : coordinators.Ordering A) → coordinator.IsOrder CoordinatorWord AnyPair AnyEui any_heard (call_given 0 0 now) own m (λ to there join said. Says to join) p → BodiesKept n i 0 (up_by (λ (a : A). 0)) m p
+    order_kept : {A : Type 0} (p : coordinators.Ordering A) → coordinator.IsOrder CoordinatorWord AnyPair AnyEui (call_given 0 0 now) own m (λ to there join said. Says to join) p → BodiesKept n i 0 (up_by (λ (a : A). 0)) m p
     order_kept p s = plan_kept CoordinatorWord (call_given 0 0 now) n i 0 some (quiet_brings CoordinatorWord now (coordinator_says n i)) (λ granted. coordinator.IsGranted m granted) AnyPair AnyEui m coordinators.orders (λ a. 0) _ _
         (λ k answer none. absurd none) (λ d answer h. (h.0, refl)) p s
 
     pub allow_kept : (eui : Eui) (psk : Key) → BodiesKept n i 0 (up_by (λ a. 0)) m (coordinators.allow m eui psk)
-    allow_kept eui psk = order_kept _ (coordinator.allow_is CoordinatorWord AnyPair AnyEui any_heard (call_given 0 0 now) own m (λ to there join said. Says to join) eui psk tt tt)
+    allow_kept eui psk = order_kept _ (coordinator.allow_is CoordinatorWord AnyPair AnyEui (call_given 0 0 now) own m (λ to there join said. Says to join) eui psk tt tt)
 
     pub rekey_kept : (index : ℕ) (key : Key) → BodiesKept n i 0 (up_by (λ a. 0)) m (coordinators.rekey m index key)
-    rekey_kept index key = order_kept _ (coordinator.rekey_is CoordinatorWord AnyPair AnyEui any_heard (call_given 0 0 now) own m (λ to there join said. Says to join) index key (Draws index key))
+    rekey_kept index key = order_kept _ (coordinator.rekey_is CoordinatorWord AnyPair AnyEui (call_given 0 0 now) own m (λ to there join said. Says to join) index key (Draws index key))
 
     pub activate_self_kept : (index : ℕ) → BodiesKept n i 0 (up_by (λ a. 0)) m (coordinators.activate_self m index)
-    activate_self_kept index = order_kept _ (coordinator.activate_self_is CoordinatorWord AnyPair AnyEui any_heard (call_given 0 0 now) own m (λ to there join said. Says to join) index (Activates index))
+    activate_self_kept index = order_kept _ (coordinator.activate_self_is CoordinatorWord AnyPair AnyEui (call_given 0 0 now) own m (λ to there join said. Says to join) index (Activates index))
 
     pub challenge_kept : (eui : Eui) → BodiesKept n i 0 (up_by (λ a. 0)) m (coordinators.challenge own.eui m eui now)
-    challenge_kept eui = order_kept _ (coordinator.challenge_is CoordinatorWord AnyPair AnyEui any_heard (call_given 0 0 now) own m (λ to there join said. Says to join) eui tt)
+    challenge_kept eui = order_kept _ (coordinator.challenge_is CoordinatorWord AnyPair AnyEui (call_given 0 0 now) own m (λ to there join said. Says to join) eui tt)
 
     pub activate_kept : (eui : Eui) (index : ℕ) → BodiesKept n i 0 (up_by (λ a. 0)) m (coordinators.activate m eui index now)
-    activate_kept eui index = order_kept _ (coordinator.activate_is CoordinatorWord AnyPair AnyEui any_heard (call_given 0 0 now) own m (λ to there join said. Says to join) eui index)
+    activate_kept eui index = order_kept _ (coordinator.activate_is CoordinatorWord AnyPair AnyEui (call_given 0 0 now) own m (λ to there join said. Says to join) eui index)
 
     pub kick_kept : (eui : Eui) → BodiesKept n i 0 (up_by (λ a. 0)) m (coordinators.kick m eui)
-    kick_kept eui = order_kept _ (coordinator.kick_is CoordinatorWord AnyPair AnyEui any_heard (call_given 0 0 now) own m (λ to there join said. Says to join) eui tt)
+    kick_kept eui = order_kept _ (coordinator.kick_is CoordinatorWord AnyPair AnyEui (call_given 0 0 now) own m (λ to there join said. Says to join) eui tt)

@@ -18,7 +18,7 @@ use Rattle.node_rules.specs.Coordinators as coordinators
 use Rattle.std.proofs.lemmas.Option.{same_Some}
 use Rattle.line_laws.proofs.StoreMarks.{IsPlain}
 use Rattle.line_laws.proofs.CoordinatorForms as coordinator
-use Rattle.line_laws.proofs.CustodyCalls.{CoordinatorWord, Says, AnyEui, AnyPair, any_heard}
+use Rattle.line_laws.proofs.CustodyCalls.{CoordinatorWord, Says, AnyEui, AnyPair}
 use Rattle.node_rules.specs.declared.heard.Accepted.{Accepted}
 use Rattle.node_rules.specs.Frames.{Letter, Sent, Sealed, Up, Down}
 use Rattle.node_rules.specs.Memory.{StationMemory, Memory, Node, Load, address_of}
@@ -233,7 +233,7 @@ module _ (S : ℕ → SentAs → Type 0) (one : OneSend S) (own : ℕ) (got : Ac
   coordinator_hears_true x m first agrees =
       plan_true S own CoordinatorWord came coordinator_known (λ granted. coordinator.IsGranted m granted) AnyPair AnyEui m first dropped (CoordinatorUpIsOf S own) (HandedIn coordinator_heard.Station came m) _
       (station_true m first agrees coordinator_heard.Station (CoordinatorUpIsOf S own) (λ h u. u)) (λ d answer h. (h.0, no_up answer h.2)) _
-      (coordinator.coordinator_is CoordinatorWord AnyPair AnyEui any_heard came x m (λ to there join said. Says to join) got refl)
+      (coordinator.coordinator_is CoordinatorWord AnyPair AnyEui came x m (λ to there join said. Says to join) got refl (λ u join e read. tt))
     where
       no_up : (a : CoordinatorHeard) → coordinator.HandsNothingUp a → CoordinatorUpIsOf S own a
       no_up (coordinator_heard.Station h) none = no_station S own h none

@@ -41,8 +41,9 @@ use Rattle.line_laws.specs.Stores.{IsReadable, IsKept}
 use Rattle.line_laws.specs.Owed.{AreOctets, KeepsRanges}
 use Rattle.line_laws.proofs.Keeping.{Left}
 use Rattle.line_laws.specs.Sizes.{IsMemorySized}
-use Rattle.line_laws.proofs.Nodes.{PlanOk, NodeOk, DidOk, acts_ok}
+use Rattle.line_laws.proofs.Nodes.{PlanOk, NodeOk, DidOk, acts_ok, ring_readable}
 use Rattle.line_laws.proofs.NodeCalls.{random_ok, join_ok, leave_ok, send_ok, broke_ok}
+use Rattle.line_laws.proofs.Readings.{held}
 use Rattle.line_laws.proofs.CoordinatorCalls.{accept_ok, accept_failed, accepted_routes, rekey_ok, activate_self_ok, challenge_ok, activate_ok, kick_ok}
 use Rattle.line_laws.proofs.StoreMarks.{accept_is}
 use Rattle.line_laws.proofs.Answered.{acts_answered}
@@ -209,7 +210,7 @@ module _ (ciphers : Ciphers) (fits : KeepsRanges ciphers) (w : World) (ok : Worl
   call_sent number x A halted plan there (Provisions psk c g ne pair at is) = Silent (acts_quiet x _ _ (λ m. install_quiet m.station g))
   call_sent number x A halted plan there (Depots meter y psk first open_is at pair) = Silent (acts_quiet x _ _ (λ m. depot_quiet m y.eui psk))
   call_sent number x A halted plan there (Allows meter y psk first at pair) = Silent (acts_quiet x _ _ (λ m. allow_quiet m y.eui psk))
-  call_sent number x A halted plan there (Rekeys index key first low long) = order_sent number x _ first there (λ m sized. rekey_ok ciphers fits (own_of x) m sized index key (omega (arith, long.0)))
+  call_sent number x A halted plan there (Rekeys index key first low long) = order_sent number x _ first there (λ m sized. rekey_ok ciphers fits (own_of x) m sized index key (held key long.0 long.1))
   call_sent number x A halted plan there (Turns index first low) = order_sent number x _ first there (λ m sized. activate_self_ok ciphers fits (own_of x) m sized index low)
   call_sent number x A halted plan there (Challenges meter y first at) = order_sent number x _ first there (λ m sized. challenge_ok ciphers fits (own_of x) m sized y.eui w.clock (given_at meter y at.there).eui)
   call_sent number x A halted plan there (Activates meter y index first at low) = order_sent number x _ first there (λ m sized. activate_ok ciphers fits (own_of x) m sized y.eui index w.clock)
@@ -237,7 +238,7 @@ module _ (ciphers : Ciphers) (fits : KeepsRanges ciphers) (w : World) (ok : Worl
       let plan : Memory → Plan Memory (Result Accepted FrameRefusal) = λ m. of_station m (accept m.station x.eui (arrived ciphers octets)) in
       let did = acts_ok x (Err frames.Halted) plan (good_at number x there) (λ m here kept sized. accept_ok ciphers fits octets are x.role m x.eui sized) in
       let a = acts_answered x frames.Halted frames.Store plan (λ m. accept_failed ciphers fits octets are m.station _ (accept_is m.station x.eui (arrived ciphers octets))) got is in
-      let routes = accepted_routes ciphers fits octets are a.memory.station _ got (accept_is a.memory.station x.eui (arrived ciphers octets)) a.is in
+      let routes = accepted_routes ciphers fits octets are a.memory.station (ring_readable x a.memory (good_at number x there) a.there) _ got (accept_is a.memory.station x.eui (arrived ciphers octets)) a.is in
       let y = (accepting ciphers x octets).node in
       let d = hears ciphers y got cost (note_by w octets got.path) w.clock in
       one_told (ran w) (heard ciphers w number y octets got cost).0 number x d refl refl refl refl there (speaks y d (hears_ok ciphers fits w ok flown y got cost (note_by w octets got.path) w.clock did.node routes))

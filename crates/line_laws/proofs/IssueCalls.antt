@@ -13,8 +13,6 @@ use Rattle.frame_counters.specs.SendCounter as counter
 use Rattle.frame_counters.specs.PeerMarks as marks
 use Rattle.group_keys.specs.KeyRing as ring
 use Rattle.group_keys.specs.KeyBook as book
-use Rattle.joining_messages.specs.declared.message.JoinMessage.{JoinMessage}
-use Rattle.joining_messages.specs.Reading.{join_in}
 use Rattle.eap_psk.specs.declared.server.Agreed.{Agreed}
 use Rattle.routing_set.specs.declared.rank.Rank.{Rank}
 use Rattle.routing_set.specs.RoutingSet as routing
@@ -38,13 +36,12 @@ use Rattle.node_rules.specs.MemoryDrafts.{in_memory, with_station, give_random, 
 use Rattle.node_rules.specs.Calls as calls
 use Rattle.node_rules.specs.Coordinators as coordinators
 use Rattle.node_rules.specs.NodeSteps.{of_station}
-use Rattle.line_laws.specs.Stores.{IsHeld, IsReadable}
+use Rattle.line_laws.specs.Stores.{IsHeld, IsReadable, HasEui}
 use Rattle.line_laws.specs.Sizes.{IsMemorySized}
 use Rattle.line_laws.specs.Owed.{AreOctets, KeepsRanges}
 use Rattle.line_laws.proofs.Keeping.{Leads, leads_beside}
 use Rattle.line_laws.proofs.Beside.{low_one}
 use Rattle.line_laws.proofs.StoreWords.{limit_kept, number_kept}
-use Rattle.line_laws.proofs.Readings.{join_ranges}
 use Rattle.line_laws.proofs.StoreRanks.{EntryFits}
 use Rattle.node_rules.specs.Laws.{IsLoad}
 use Rattle.line_laws.proofs.StoreFold.{WordFits, ring_fits, ended_kept}
@@ -57,7 +54,7 @@ use Rattle.line_laws.proofs.CoordinatorForms.{HandsNothingUp, IsGranted, coordin
 use Rattle.line_laws.proofs.CallForms.{Few, Nothing, send_is, near_is, random_is}
 use Rattle.line_laws.proofs.Nodes.{waits_little}
 use Rattle.line_laws.proofs.NodeCalls.{RoutesFit, heard_given, call_given, near_given, heard_offers, call_offers, near_offers, granted_keys, few_of, handed_kept, of_station_planned}
-use Rattle.line_laws.proofs.CoordinatorCalls.{admitted_fits}
+use Rattle.line_laws.proofs.CoordinatorCalls.{admitted_fits, heard_euis}
 use Rattle.line_laws.proofs.AddressPuts.{Away, RingWrites, writes_append, counter_away, made_rung}
 use Rattle.line_laws.proofs.AddressBook.{Grows, Grown, station_grown, plan_grown, grows_entry}
 use Rattle.line_laws.proofs.IssueWords.{Each, made_tags}
@@ -265,9 +262,6 @@ coordinator_changes r y change reads here = (nought r y change here, ring_fits C
     nought None y (Activates index w held) k = tt
     nought (Some g) y (Activates index w held) k = k
 
-abbrev HasEui : Eui → Type 0
-HasEui eui = length eui.0 ≡ 8
-
 abbrev HasPair : Eui → Key → Type 0
 HasPair eui psk = length psk.0 ≡ 16
 
@@ -278,9 +272,6 @@ handed_grown b m h g n a k r q = record { kept = handed_kept Coordinator m h coo
     same_book (ByStation l x y) = refl
 
 module _ (ciphers : Ciphers) (fits : KeepsRanges ciphers) (own : coordinators.CoordinatorIdentity) (m : Memory) (h : IsMemorySized m) (b : book.Book) (nought : Nought m.station.ring) (reads : IfSome m.station.ring IsReadable) where
-  heard_eui : (octets : List ℕ) (join : JoinMessage) → join_in octets ≡ Some join → HasEui join.eui
-  heard_eui octets join e = (join_ranges octets join e).0
-
   coordinator_leads : {H F : Type 0} (g : Given) → ((address : Option ℕ) (by origin : ℕ) (rank : Rank) → Offered g address by origin rank → EntryFits (routing.offered_entry origin rank by g.now))
       → (ends : Ends F) (K : Memory → H → Type 0) (N : H → Type 0) → ((n : Memory) (answer : H) → K n answer → (r : Records) → Grown (Grows b) m r → Grown (Grows b) n r)
       → (p : Plan Memory (Result H F)) → Planned in_memory ends m K (MadeBy CoordinatorWord (IsGranted m) HasPair HasEui g m N) p → Leads (Grown (Grows b)) m p.puts p.memory × RingWrites Nought p.puts
@@ -296,7 +287,7 @@ module _ (ciphers : Ciphers) (fits : KeepsRanges ciphers) (own : coordinators.Co
   hears_coordinator got cost note now routes keyed done same finished failed =
       let g = heard_given got cost note now in
       let p = coordinators.hear_coordinator own m got cost note now in
-      let l = coordinator_leads g (heard_offers got cost note now routes) dropped (HandedIn coordinator_heard.Station g m) HandsNothingUp (handed_grown b m h g) p (coordinator_is CoordinatorWord HasPair HasEui heard_eui g own m (λ to there join said. omega arith) got refl) in
+      let l = coordinator_leads g (heard_offers got cost note now routes) dropped (HandedIn coordinator_heard.Station g m) HandsNothingUp (handed_grown b m h g) p (coordinator_is CoordinatorWord HasPair HasEui g own m (λ to there join said. omega arith) got refl (heard_euis m got cost note now routes)) in
       let t = says_tags m dropped (λ n a. done_in a ≡ None) keyed done same finished failed (λ a n k. k) p (coordinator_hears own m g got refl) in
       (record { leads = l.0; ring = l.1; made = t.made }, t)
 
@@ -309,26 +300,23 @@ module _ (ciphers : Ciphers) (fits : KeepsRanges ciphers) (own : coordinators.Co
   abbrev Order : {H : Type 0} → Plan Memory (Result H CoordinatorRefusal) → Type 0
   Order p = CoordinatorPlan b m None p
 
-  known_eui : (octets : List ℕ) (join : JoinMessage) → join_in octets ≡ Some join → HasEui join.eui
-  known_eui octets join e = (join_ranges octets join e).0
-
   pub allow_coordinator : (eui : Eui) (psk : Key) → HasEui eui → HasPair eui psk → Order (coordinators.allow m eui psk)
-  allow_coordinator eui psk known pair = order_plan ciphers fits own m h b nought reads 0 _ (allow_is CoordinatorWord HasPair HasEui known_eui (call_given 0 0 0) own m (λ to there join said. omega arith) eui psk known pair) (allow_untagged m eui psk).0
+  allow_coordinator eui psk known pair = order_plan ciphers fits own m h b nought reads 0 _ (allow_is CoordinatorWord HasPair HasEui (call_given 0 0 0) own m (λ to there join said. omega arith) eui psk known pair) (allow_untagged m eui psk).0
 
   pub depot_coordinator : (eui : Eui) (psk : Key) → HasEui eui → HasPair eui psk → Order (coordinators.depot m eui psk)
-  depot_coordinator eui psk known pair = order_plan ciphers fits own m h b nought reads 0 _ (depot_is CoordinatorWord HasPair HasEui known_eui (call_given 0 0 0) own m (λ to there join said. omega arith) eui psk known pair) (depot_untagged m eui psk).0
+  depot_coordinator eui psk known pair = order_plan ciphers fits own m h b nought reads 0 _ (depot_is CoordinatorWord HasPair HasEui (call_given 0 0 0) own m (λ to there join said. omega arith) eui psk known pair) (depot_untagged m eui psk).0
 
   pub rekey_coordinator : (index : ℕ) (key : Key) → IsHeld (Some key) → Order (coordinators.rekey m index key)
-  rekey_coordinator index key held = order_plan ciphers fits own m h b nought reads 0 _ (rekey_is CoordinatorWord HasPair HasEui known_eui (call_given 0 0 0) own m (λ to there join said. omega arith) index key held) (rekey_untagged m index key).0
+  rekey_coordinator index key held = order_plan ciphers fits own m h b nought reads 0 _ (rekey_is CoordinatorWord HasPair HasEui (call_given 0 0 0) own m (λ to there join said. omega arith) index key held) (rekey_untagged m index key).0
 
   pub activate_self_coordinator : (index : ℕ) → index ≤ 1 → Order (coordinators.activate_self m index)
-  activate_self_coordinator index low = order_plan ciphers fits own m h b nought reads 0 _ (activate_self_is CoordinatorWord HasPair HasEui known_eui (call_given 0 0 0) own m (λ to there join said. omega arith) index low) (activate_self_untagged m index).0
+  activate_self_coordinator index low = order_plan ciphers fits own m h b nought reads 0 _ (activate_self_is CoordinatorWord HasPair HasEui (call_given 0 0 0) own m (λ to there join said. omega arith) index low) (activate_self_untagged m index).0
 
   pub challenge_coordinator : (eui : Eui) (now : ℕ) → HasEui eui → Order (coordinators.challenge own.eui m eui now)
-  challenge_coordinator eui now known = order_plan ciphers fits own m h b nought reads now _ (challenge_is CoordinatorWord HasPair HasEui known_eui (call_given 0 0 now) own m (λ to there join said. omega arith) eui known) (challenge_untagged m own.eui eui now).0
+  challenge_coordinator eui now known = order_plan ciphers fits own m h b nought reads now _ (challenge_is CoordinatorWord HasPair HasEui (call_given 0 0 now) own m (λ to there join said. omega arith) eui known) (challenge_untagged m own.eui eui now).0
 
   pub activate_coordinator : (eui : Eui) (index now : ℕ) → Order (coordinators.activate m eui index now)
-  activate_coordinator eui index now = order_plan ciphers fits own m h b nought reads now _ (activate_is CoordinatorWord HasPair HasEui known_eui (call_given 0 0 now) own m (λ to there join said. omega arith) eui index) (activate_untagged m eui index now).0
+  activate_coordinator eui index now = order_plan ciphers fits own m h b nought reads now _ (activate_is CoordinatorWord HasPair HasEui (call_given 0 0 now) own m (λ to there join said. omega arith) eui index) (activate_untagged m eui index now).0
 
   pub kick_coordinator : (eui : Eui) → HasEui eui → Order (coordinators.kick m eui)
-  kick_coordinator eui known = order_plan ciphers fits own m h b nought reads 0 _ (kick_is CoordinatorWord HasPair HasEui known_eui (call_given 0 0 0) own m (λ to there join said. omega arith) eui known) (kick_untagged m eui).0
+  kick_coordinator eui known = order_plan ciphers fits own m h b nought reads 0 _ (kick_is CoordinatorWord HasPair HasEui (call_given 0 0 0) own m (λ to there join said. omega arith) eui known) (kick_untagged m eui).0

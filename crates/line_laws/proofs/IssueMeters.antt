@@ -40,6 +40,8 @@ use Rattle.node_rules.specs.MemoryDrafts.{in_memory, with_station, goes_up, goes
 use Rattle.node_rules.specs.Meters.{Hearing, Identity, with_session, drop_it, ends, says, leaves, carry_up, carries_down, carry_down, reply_with, reply, take_with, take_by, take, takes, replies, challenged, declined, kicked, activated, hear_near, hear_order, hear_join, hear_join_in, heard_by, hear_meter, joining_ends, join, leaving_ends, leave}
 use Rattle.node_rules.proofs.MemoryDraftShapes.{whole}
 use Rattle.line_laws.specs.Stores.{IsReadable}
+use Rattle.line_laws.specs.Owed.{AreOctets}
+use Rattle.line_laws.proofs.HeardOctets.{BodyOctets, heard_octets, join_octets}
 use Rattle.line_laws.proofs.Planned.{Planned, Refuses, Keeps, Ended, checked_planned, choose_planned, sealed_planned, option_planned, sealing_planned}
 use Rattle.line_laws.proofs.Made.{RingWord, RingChange, Drops, Installs, Draws, Activates, Given, Made}
 use Rattle.line_laws.proofs.HearingForms.{Handed, HandsUp, HandsOn, Gathers, Completes, MadeOf, hear_is}
@@ -192,7 +194,7 @@ abbrev NoWord : RingWord → Type 0
 NoWord w = ⊥
 
 module _ (x : Identity) (m : Memory) (now : ℕ) (reads : IfSome m.station.ring IsReadable) (peer_is : PeerIs x.eui m.session)
-    (granted_fits : (peer : Peer) (packet : List ℕ) (granted : Granted) → x.ciphers.third_fault x.psk peer packet ≡ None → x.ciphers.granted x.psk peer packet ≡ Some granted → IsReadable granted)
+    (granted_fits : (peer : Peer) (packet : List ℕ) (granted : Granted) → AreOctets packet → x.ciphers.third_fault x.psk peer packet ≡ None → x.ciphers.granted x.psk peer packet ≡ Some granted → IsReadable granted)
     (index_fits : (octets : List ℕ) (join : JoinMessage) (index : ℕ) → join_in octets ≡ Some join → join.body ≡ body.Activate index → index ≤ 1) where
   abbrev pub DoneBy : Draft Memory → MeterHeard → Type 0
   DoneBy d a = MeterDone x.eui m.station.ring (took_in a) d
@@ -234,23 +236,23 @@ module _ (x : Identity) (m : Memory) (now : ℕ) (reads : IfSome m.station.ring 
   no_fault f None e = refl
   no_fault f (Some a) e = absurd (cc)
 
-  take_with_is : (course : Course) (packet : List ℕ) (peer : Peer) (granted : Option Granted) → peer.eui ≡ x.eui → x.ciphers.third_fault x.psk peer packet ≡ None → x.ciphers.granted x.psk peer packet ≡ granted
+  take_with_is : (course : Course) (packet : List ℕ) (peer : Peer) (granted : Option Granted) → peer.eui ≡ x.eui → x.ciphers.third_fault x.psk peer packet ≡ None → x.ciphers.granted x.psk peer packet ≡ granted → AreOctets packet
       → Is (take_with x m course packet now peer granted)
-  take_with_is course packet peer None own right is = Refuses _
-  take_with_is course packet peer (Some granted) own right is = takes_is course peer _ granted _ own (granted_fits peer packet granted right is)
+  take_with_is course packet peer None own right is are = Refuses _
+  take_with_is course packet peer (Some granted) own right is are = takes_is course peer _ granted _ own (granted_fits peer packet granted are right is)
 
-  take_by_is : (course : Course) (packet : List ℕ) (peer : Option Peer) → IfSome peer (λ p. p.eui ≡ x.eui) → Is (take_by x m course packet now peer)
-  take_by_is course packet None own = Refuses _
-  take_by_is course packet (Some peer) own = checked_planned (λ e.
-      take_with_is course packet peer (x.ciphers.granted x.psk peer packet) own (no_fault packet_fault (x.ciphers.third_fault x.psk peer packet) e) refl)
+  take_by_is : (course : Course) (packet : List ℕ) (peer : Option Peer) → AreOctets packet → IfSome peer (λ p. p.eui ≡ x.eui) → Is (take_by x m course packet now peer)
+  take_by_is course packet None are own = Refuses _
+  take_by_is course packet (Some peer) are own = checked_planned (λ e.
+      take_with_is course packet peer (x.ciphers.granted x.psk peer packet) own (no_fault packet_fault (x.ciphers.third_fault x.psk peer packet) e) refl are)
 
-  take_is : (course : Course) (packet : List ℕ) → Is (take x m course packet now)
-  take_is course packet = checked_planned (λ e.
+  take_is : (course : Course) (packet : List ℕ) → AreOctets packet → Is (take x m course packet now)
+  take_is course packet are = checked_planned (λ e.
       option_planned (λ (s : MeterSession). take_by x m course packet now s.peer) m.session (drop_it m NoSession)
-      (λ s here. take_by_is course packet s.peer (subst (PeerIs x.eui) here peer_is)) (λ none. Refuses _))
+      (λ s here. take_by_is course packet s.peer are (subst (PeerIs x.eui) here peer_is)) (λ none. Refuses _))
 
-  challenged_is : (course : Course) (packet : List ℕ) → Is (challenged x m course packet now)
-  challenged_is course packet = choose_planned (λ first. reply_is course packet) (λ third. take_is course packet)
+  challenged_is : (course : Course) (packet : List ℕ) → AreOctets packet → Is (challenged x m course packet now)
+  challenged_is course packet are = choose_planned (λ first. reply_is course packet) (λ third. take_is course packet are)
 
   declined_is : (agent : ℕ) → Is (declined m agent)
   declined_is agent = choose_planned (λ joined. Refuses _)
@@ -265,27 +267,27 @@ module _ (x : Identity) (m : Memory) (now : ℕ) (reads : IfSome m.station.ring 
   noted_is : Is (ends m (empty_draft m) heard.Noted)
   noted_is = sealed_planned _ _ (start None)
 
-  near_is : (agent : ℕ) (b : JoinBody) → Is (hear_near x m agent b now)
-  near_is agent (body.Challenge eap) = challenged_is (ByAgent agent) eap
-  near_is agent (body.Accept identifier) = noted_is
-  near_is agent body.Decline = declined_is agent
-  near_is agent _ = Refuses _
+  near_is : (agent : ℕ) (b : JoinBody) → BodyOctets b → Is (hear_near x m agent b now)
+  near_is agent (body.Challenge eap) are = challenged_is (ByAgent agent) eap are
+  near_is agent (body.Accept identifier) are = noted_is
+  near_is agent body.Decline are = declined_is agent
+  near_is agent _ are = Refuses _
 
-  order_is : (b : JoinBody) → ((index : ℕ) → b ≡ body.Activate index → index ≤ 1) → Is (hear_order x m b now)
-  order_is (body.Challenge eap) told = challenged_is ByCommand eap
-  order_is (body.Accept identifier) told = noted_is
-  order_is body.Kick told = kicked_is
-  order_is (body.Activate index) told = activated_is index (told index refl)
-  order_is _ told = Refuses _
+  order_is : (b : JoinBody) → BodyOctets b → ((index : ℕ) → b ≡ body.Activate index → index ≤ 1) → Is (hear_order x m b now)
+  order_is (body.Challenge eap) are told = challenged_is ByCommand eap are
+  order_is (body.Accept identifier) are told = noted_is
+  order_is body.Kick are told = kicked_is
+  order_is (body.Activate index) are told = activated_is index (told index refl)
+  order_is _ are told = Refuses _
 
-  join_is : (octets : List ℕ) (way : Way) (join : JoinMessage) → join_in octets ≡ Some join → Is (hear_join x m way join now)
-  join_is octets (Air from) join read = carry_up_is from join join.body
-  join_is octets (Near agent) join read = choose_planned (λ mine. near_is agent join.body) (λ other. Refuses _)
-  join_is octets (Mesh origin) join read = choose_planned (λ coordinator. choose_planned (λ mine. order_is join.body (λ index e. index_fits octets join index read e)) (λ other. carry_down_is join join.body)) (λ other. Refuses _)
+  join_is : (octets : List ℕ) (way : Way) (join : JoinMessage) → BodyOctets join.body → join_in octets ≡ Some join → Is (hear_join x m way join now)
+  join_is octets (Air from) join are read = carry_up_is from join join.body
+  join_is octets (Near agent) join are read = choose_planned (λ mine. near_is agent join.body are) (λ other. Refuses _)
+  join_is octets (Mesh origin) join are read = choose_planned (λ coordinator. choose_planned (λ mine. order_is join.body are (λ index e. index_fits octets join index read e)) (λ other. carry_down_is join join.body)) (λ other. Refuses _)
 
-  join_in_is : (octets : List ℕ) (way : Way) (join : Option JoinMessage) → join_in octets ≡ join → Is (hear_join_in x m way join now)
-  join_in_is octets way None read = Refuses _
-  join_in_is octets way (Some join) read = join_is octets way join read
+  join_in_is : (octets : List ℕ) (way : Way) (join : Option JoinMessage) → AreOctets octets → join_in octets ≡ join → Is (hear_join_in x m way join now)
+  join_in_is octets way None are read = Refuses _
+  join_in_is octets way (Some join) are read = join_is octets way join (join_octets octets join are read) read
 
 -- # The station
 
@@ -319,17 +321,17 @@ pub handed_stays : (g : Given) (m : Memory) (n : StationMemory) (a : Heard) → 
 handed_stays g m n a k = record { ring = handed_ring g m.station n a k; session = refl; book = refl }
 
 module _ (x : Identity) (m : Memory) (g : Given) (reads : IfSome m.station.ring IsReadable) (peer_is : PeerIs x.eui m.session)
-    (granted_fits : (peer : Peer) (packet : List ℕ) (granted : Granted) → x.ciphers.third_fault x.psk peer packet ≡ None → x.ciphers.granted x.psk peer packet ≡ Some granted → IsReadable granted)
+    (granted_fits : (peer : Peer) (packet : List ℕ) (granted : Granted) → AreOctets packet → x.ciphers.third_fault x.psk peer packet ≡ None → x.ciphers.granted x.psk peer packet ≡ Some granted → IsReadable granted)
     (index_fits : (octets : List ℕ) (join : JoinMessage) (index : ℕ) → join_in octets ≡ Some join → join.body ≡ body.Activate index → index ≤ 1) where
-  heard_by_is : (p : Plan StationMemory (Result Heard Dropped)) (u : Option Unread) → Planned alone dropped m.station (Handed g m.station) (MadeOf NoWord g m.station) p → Is x m g.now reads peer_is granted_fits index_fits (heard_by x m g.now p u)
+  heard_by_is : (p : Plan StationMemory (Result Heard Dropped)) (u : Option Unread) → IfSome u (λ (a : Unread). AreOctets a.body) → Planned alone dropped m.station (Handed g m.station) (MadeOf NoWord g m.station) p → Is x m g.now reads peer_is granted_fits index_fits (heard_by x m g.now p u)
   unfolding resting
-  heard_by_is p None (Refuses reason) = Refuses reason
-  heard_by_is p None (Keeps n answer k) = Keeps (with_station n m) (heard.Station answer) (handed_stays g m n answer k)
-  heard_by_is p None (Ended d answer done left) = Ended (whole m d) (heard.Station answer) (station_done x.eui m.station.ring None g m d refl reads peer_is done.0) left
-  heard_by_is p (Some u) s = join_in_is x m g.now reads peer_is granted_fits index_fits u.body u.way (join_in u.body) refl
+  heard_by_is p None are (Refuses reason) = Refuses reason
+  heard_by_is p None are (Keeps n answer k) = Keeps (with_station n m) (heard.Station answer) (handed_stays g m n answer k)
+  heard_by_is p None are (Ended d answer done left) = Ended (whole m d) (heard.Station answer) (station_done x.eui m.station.ring None g m d refl reads peer_is done.0) left
+  heard_by_is p (Some u) are s = join_in_is x m g.now reads peer_is granted_fits index_fits u.body u.way (join_in u.body) are refl
 
-  pub meter_hears : (got : Accepted) → g.got ≡ Some got → Is x m g.now reads peer_is granted_fits index_fits (hear_meter x m got g.cost g.note g.now)
-  meter_hears got is = let p = station_rules.hear m.station got g.cost g.note g.now in heard_by_is p (unread p.answer) (hear_is NoWord g m.station got is)
+  pub meter_hears : (got : Accepted) → AreOctets got.payload → g.got ≡ Some got → Is x m g.now reads peer_is granted_fits index_fits (hear_meter x m got g.cost g.note g.now)
+  meter_hears got are is = let p = station_rules.hear m.station got g.cost g.note g.now in heard_by_is p (unread p.answer) (heard_octets m.station got g.cost g.note g.now are) (hear_is NoWord g m.station got is)
 
 -- # Plans
 

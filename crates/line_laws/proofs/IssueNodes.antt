@@ -105,7 +105,7 @@ module _ (b c : book.Book) (given more : List Issued) (grows : Grows b c) where
 
 pub place_is : (k : Option Key) → IsHeld k → IsPlace k
 place_is None h = tt
-place_is (Some key) h = omega (arith, h)
+place_is (Some key) h = omega (arith, h.0)
 
 pub is_granted : (g : Granted) → IsReadable g → IsGranted g
 is_granted g h = record { address = h.address; active = h.grant; first = place_is g.key0 h.key0; second = place_is g.key1 h.key1 }

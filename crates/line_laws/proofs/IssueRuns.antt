@@ -20,7 +20,8 @@ use Rattle.line_rules.specs.SafeRuns.{IsIssued, HoldsIssued, HasIssuedKeys, HasO
 use Rattle.line_laws.specs.Stores.{IsKept}
 use Rattle.line_laws.specs.Owed.{KeepsRanges}
 use Rattle.line_laws.specs.Laws.{FlightsAreOctets}
-use Rattle.line_laws.specs.Issued.{IssuedAreNamed, IsIssuedAfter, OnlyIssuedKeys}
+use Rattle.line_laws.specs.Issued.{IsIssuedAfter, OnlyIssuedKeys}
+use Rattle.line_laws.proofs.IssuedNamed.{IssuedAreNamed, issued_named}
 use Rattle.line_laws.proofs.Keeping.{Left}
 use Rattle.line_laws.proofs.Nodes.{NodeOk}
 use Rattle.line_laws.proofs.Worlds.{FlightFits, WorldOk, at_place}
@@ -147,4 +148,4 @@ only_from ciphers fits w ok flown before k names (x ∷ xs) says fly named run =
     )
 
 pub only_issued : OnlyIssuedKeys
-only_issued ciphers fits entries r fly named = only_from ciphers fits start start_ok (All-nil FlightFits) [] start_keyed tt entries r.events fly named r.run
+only_issued ciphers fits entries r fly = only_from ciphers fits start start_ok (All-nil FlightFits) [] start_keyed tt entries r.events fly (issued_named ciphers fits entries r fly) r.run

@@ -64,13 +64,14 @@ use Rattle.plc_base.specs.declared.keeper.BadStore.{BadStore}
 use Rattle.node_rules.specs.StoreReading.{station_of, reading}
 use Rattle.node_rules.specs.Hearing.{dropped}
 use Rattle.node_rules.specs.Memory.{MeterSession}
-use Rattle.line_laws.specs.Stores.{IsReadable, IsKept, IsBookKept}
+use Rattle.line_laws.specs.Stores.{IsReadable, IsKept, IsBookKept, HasEui}
 use Rattle.line_laws.specs.Sizes.{IsMemorySized}
 use Rattle.line_laws.specs.Owed.{AreOctets, KeepsRanges}
 use Rattle.line_laws.proofs.Readings.{join_ranges}
 use Rattle.line_laws.proofs.Keeping.{Left}
-use Rattle.line_laws.proofs.Nodes.{NodeOk}
+use Rattle.line_laws.proofs.Nodes.{NodeOk, ring_readable, pair_octets}
 use Rattle.line_laws.proofs.NodeCalls.{RoutesFit, no_some, heard_given}
+use Rattle.line_laws.proofs.Readings.{held, none_held}
 use Rattle.line_laws.proofs.CoordinatorCalls.{accept_ok, accept_failed, accepted_routes, depot_ok, depot_failed}
 use Rattle.line_laws.proofs.StoreMarks.{accept_is}
 use Rattle.line_laws.proofs.Answered.{acts_answered, depot_grants}
@@ -290,9 +291,9 @@ module _ (ciphers : Ciphers) (fits : KeepsRanges ciphers) (w : World) (ok : Worl
   abbrev own_of : Node → coordinator_rules.CoordinatorIdentity
   own_of c = record { eui = c.eui; ciphers = ciphers }
 
-  rekey_keyed : (index : ℕ) (key : Key) → length key.0 ≡ 16 → Good (rekey ciphers w index key)
+  rekey_keyed : (index : ℕ) (key : Key) → length key.0 ≡ 16 → AreOctets key.0 → Good (rekey ciphers w index key)
   unfolding rekey
-  rekey_keyed index key long = once _ (at_node 0 _ (λ c there. ordered_keyed c said.Drawn _ there (λ m sized b nought reads. rekey_coordinator ciphers fits (own_of c) m sized b nought reads index key (omega (arith, long)))))
+  rekey_keyed index key long are = once _ (at_node 0 _ (λ c there. ordered_keyed c said.Drawn _ there (λ m sized b nought reads. rekey_coordinator ciphers fits (own_of c) m sized b nought reads index key (held key long are))))
 
   challenge_keyed : (number : ℕ) → Good (challenge ciphers w number)
   unfolding challenge
@@ -429,13 +430,13 @@ module _ (ciphers : Ciphers) (fits : KeepsRanges ciphers) (w : World) (ok : Worl
 
   -- # deliver, inject
 
-  meter_hears_did : (x : Node) (psk : Key) (got : Accepted) (cost note now : ℕ) (b : book.Book) → NodeOk x → MeterOk b given x → Each (TagOk b given) w.made
+  meter_hears_did : (x : Node) (psk : Key) → x.role ≡ Meter psk → (got : Accepted) (cost note now : ℕ) (b : book.Book) → RoutesFit got → NodeOk x → MeterOk b given x → Each (TagOk b given) w.made
       → list_any (is_forged_tag w.made) (acts x (Err drops.Store) (λ m. meters.hear_meter (identity ciphers x psk) m got cost note now)).opened ≡ false
       → MeterDid b given x (acts x (Err drops.Store) (λ m. meters.hear_meter (identity ciphers x psk) m got cost note now))
-  meter_hears_did x psk got cost note now b good h each honest =
+  meter_hears_did x psk role got cost note now b routes good h each honest =
       meter_acts b given x (Err drops.Store) (λ m. meters.hear_meter (identity ciphers x psk) m got cost note now) w.made good h each (all_made w.made _ honest) (λ r. (meter_reception r).took)
       (λ m here kept session. meter_plan x.eui m dropped took_in (λ r. (meter_reception r).took) took_same kept.station.range.ring session _
-      (meter_hears (identity ciphers x psk) m (heard_given got cost note now) kept.station.range.ring session (λ peer packet granted right is. fits.granted psk peer packet granted right is) (λ octets join index read e. (join_ranges octets join read).1 index e) got refl))
+      (meter_hears (identity ciphers x psk) m (heard_given got cost note now) kept.station.range.ring session (λ peer packet granted are right is. fits.granted psk peer packet granted (pair_octets x m psk kept role) are right is) (λ octets join index read e. (join_ranges octets join read).1 index e) got routes.payload refl))
 
   coordinator_hears_did : (x : Node) (got : Accepted) (cost note now : ℕ) (b : book.Book) → RoutesFit got → NodeOk x → CoordinatorOk b x
       → let d : NodeStep (Result CoordinatorHeard Dropped) = acts x (Err drops.Store) (λ m. coordinator_rules.hear_coordinator (record { eui = x.eui; ciphers = ciphers }) m got cost note now) in
@@ -496,7 +497,7 @@ module _ (ciphers : Ciphers) (fits : KeepsRanges ciphers) (w : World) (ok : Worl
       by_role (Meter psk) is honest = ⊎_elim
           (λ (e : number ≡ 0). absurd (not_meter psk (sym (ran_keyed.coordinator x (ap (slice_get w.nodes) (sym e) ∙ there)).role ∙ sym role ∙ is)))
           (λ (ne : number ≢ 0).
-          let did = meter_hears_did y psk got cost note now ran_keyed.book good (meter ne) ran_keyed.made honest in
+          let did = meter_hears_did y psk is got cost note now ran_keyed.book routes good (meter ne) ran_keyed.made honest in
           let d = acts y (Err drops.Store) (λ m. meters.hear_meter (identity ciphers y psk) m got cost note now) in
           let none : issued_of (meter_reception d.answer).keyed ≡ [] = ap issued_of (no_keys d.answer) in
           told_later number meter_reception d _ (subst (Keyed (told ciphers (ran w) number d)) (sym (append-nil given) ∙ ap (λ more. given ++ more) (sym none))
@@ -525,7 +526,7 @@ module _ (ciphers : Ciphers) (fits : KeepsRanges ciphers) (w : World) (ok : Worl
       routes : (got : Accepted) → (acts x (Err frames.Halted) plan).answer ≡ Ok got → RoutesFit got
       routes got e =
           let a = acts_answered x frames.Halted frames.Store plan (λ m. accept_failed ciphers fits octets are m.station _ (accept_is m.station x.eui (arrived ciphers octets))) got e in
-          accepted_routes ciphers fits octets are a.memory.station _ got (accept_is a.memory.station x.eui (arrived ciphers octets)) a.is
+          accepted_routes ciphers fits octets are a.memory.station (ring_readable x a.memory (node_ok number x there) a.there) _ got (accept_is a.memory.station x.eui (arrived ciphers octets)) a.is
 
       by_answer : (r : Result Accepted FrameRefusal) → (acts x (Err frames.Halted) plan).answer ≡ r → Good (Ok (accepted_by ciphers w number octets cost (acts x (Err frames.Halted) plan)))
       by_answer (Err reason) e =
@@ -599,12 +600,12 @@ module _ (ciphers : Ciphers) (fits : KeepsRanges ciphers) (w : World) (ok : Worl
       let got : ring.ring_at (get empty 1) ≡ Some None = ap ring.ring_at (get-empty nat_cmp 1) in
       subst S (same_Some _ _ (sym got ∙ e)) none
 
-  begin_writes : (key : Key) → length key.0 ≡ 16 → (m : Memory) → RingWrites Nought (coordinator_rules.begin m (first_grant key)).puts
+  begin_writes : (key : Key) → length key.0 ≡ 16 → AreOctets key.0 → (m : Memory) → RingWrites Nought (coordinator_rules.begin m (first_grant key)).puts
   unfolding choose resting empty_draft with_ring
-  begin_writes key long m = by_ring (is_some m.station.ring)
+  begin_writes key long are m = by_ring (is_some m.station.ring)
     where
       readable : IsReadable (first_grant key)
-      readable = record { grant = record { index = omega arith; held = refl }; address = omega arith; key0 = omega (arith, long); key1 = refl }
+      readable = record { grant = record { index = omega arith; held = refl }; address = omega arith; key0 = held key long are; key1 = none_held }
 
       by_ring : (b : Bool) → RingWrites Nought (if b then resting m (Ok tt) (Err RingStore) else within (λ l. with_station l m) (λ r. r) (calls.install m.station (first_grant key))).puts
       by_ring true = tt
@@ -633,16 +634,16 @@ module _ (ciphers : Ciphers) (fits : KeepsRanges ciphers) (w : World) (ok : Worl
   some_nodes x [] e = absurd (cc)
   some_nodes x (y ∷ xs) e = absurd (cc)
 
-  coordinator_keyed : (eui : Eui) (key : Key) → IsEui eui → length key.0 ≡ 16 → Good (coordinator w eui key)
+  coordinator_keyed : (eui : Eui) (key : Key) → IsEui eui → length key.0 ≡ 16 → AreOctets key.0 → Good (coordinator w eui key)
   unfolding coordinator
-  coordinator_keyed eui key known long = branch (has_begun w) _ _ (λ _. Fails faults.Setup) (λ none.
+  coordinator_keyed eui key known long are = branch (has_begun w) _ _ (λ _. Fails faults.Setup) (λ none.
       let few : length w.nodes ≤ 0 = ltb-false _ _ none in
       let empty_is : w.nodes ≡ [] = no_node w.nodes few in
       let x = coordinator_node eui key in
       let plan : Memory → Plan Memory (Result (Unit {0}) _) = λ m. coordinator_rules.begin m (first_grant key) in
-      let did = acts_ok (blank_node Coordinator eui) (Ok tt) plan (blank_ok Coordinator eui) (λ m there kept sized. begin_ok ciphers fits w ok flown key long m sized) in
+      let did = acts_ok (blank_node Coordinator eui) (Ok tt) plan (blank_ok Coordinator eui tt) (λ m there kept sized. begin_ok ciphers fits w ok flown key long are m sized) in
       let b = left_book x.role x.store.records x.memory did.role did.node.kept in
-      let nought : RingIn Nought x.store.records = acts_ring Nought (blank_node Coordinator eui) (Ok tt) plan (λ m. begin_writes key long m) (no_records Nought tt) in
+      let nought : RingIn Nought x.store.records = acts_ring Nought (blank_node Coordinator eui) (Ok tt) plan (λ m. begin_writes key long are m) (no_records Nought tt) in
       let gone : (n : ℕ) (y : Node) → slice_get w.nodes n ≡ Some y → ⊥ = λ n y is. none_get n y (sym (ap (λ ns. slice_get ns n) empty_is) ∙ is) in
       let at_nought : (n : ℕ) → n ≡ length w.nodes → n ≡ 0 = λ n e. e ∙ ap length empty_is in
       taken_none _ refl (record {
@@ -702,7 +703,7 @@ module _ (ciphers : Ciphers) (fits : KeepsRanges ciphers) (w : World) (ok : Worl
       plan : Memory → Plan Memory (Result Granted CoordinatorRefusal)
       plan m = coordinator_rules.depot m x.eui psk
 
-      known : length x.eui.0 ≡ 8
+      known : HasEui x.eui
       known = (node_fits number x hx).eui
 
       good : NodeOk c
@@ -770,7 +771,7 @@ module _ (ciphers : Ciphers) (fits : KeepsRanges ciphers) (w : World) (ok : Worl
   -- # All kinds
 
   pub step_keyed : (event : Event) → IsEvent event → Good (step ciphers w event)
-  step_keyed (events.Coordinator eui key) e = coordinator_keyed eui key e.0 e.1.0
+  step_keyed (events.Coordinator eui key) e = coordinator_keyed eui key e.0 e.1.0 e.1.1
   step_keyed (events.Meter eui psk) e = meter_keyed eui psk e.0
   step_keyed (events.Depot node) e = depot_keyed node
   step_keyed (events.Near a b cost) e = near_keyed a b cost e.2.1
@@ -788,7 +789,7 @@ module _ (ciphers : Ciphers) (fits : KeepsRanges ciphers) (w : World) (ok : Worl
   step_keyed (events.Tick seconds) e = tick_keyed seconds
   step_keyed (events.Restart node) e = restart_keyed node
   step_keyed (events.Cut node nth keeps_new) e = cut_keyed node nth keeps_new
-  step_keyed (events.Rekey index key) e = rekey_keyed index key e.1.0
+  step_keyed (events.Rekey index key) e = rekey_keyed index key e.1.0 e.1.1
   step_keyed (events.Challenge node) e = challenge_keyed node
   step_keyed (events.Activate node index) e = activate_keyed node index e.1
   step_keyed (events.Kick node) e = kick_keyed node

@@ -36,10 +36,14 @@ use Rattle.line_laws.proofs.SizeFold.{session_number}
 use Rattle.line_laws.proofs.HearingForms.{Handed, MadeOf, hear_is}
 use Rattle.line_laws.proofs.IssueCoordinator.{keyed_in}
 
--- The keys are those of the ring, under the book's address of a meter that is allowed.
+-- The keys are those of the ring, under the book's address of a meter that is allowed, and whose session runs.
 pub record IsGrantedTo (m : Memory) (eui : Eui) (granted : Granted) : Type 0 where
   pub grant : grant_for m eui ≡ Some granted
   pub allowed : is_some (allowed_entry m eui) ≡ true
+  pub asked : Eui
+  pub session : CoordinatorSession
+  pub there : session_of m asked ≡ Some session
+  pub named : eui ≡ session.server.eui
 
 abbrev NoWord : RingWord → Type 0
 NoWord w = ⊥
@@ -73,19 +77,19 @@ module _ (own : CoordinatorIdentity) (m : Memory) (g : Given) where
   keys_is : (s : CoordinatorSession) (e : BookEntry) (rand_p : Rand) (granted : Granted) → IsGrantedTo m s.server.eui granted → Is (keys_for own m s e rand_p granted g.now)
   keys_is s e rand_p granted is = checked_planned (λ lacks. sealed_planned _ _ is)
 
-  second_is : (s : CoordinatorSession) (e : BookEntry) (packet : List ℕ) → is_some (allowed_entry m s.server.eui) ≡ true → Is (take_second own m s e packet g.now)
-  second_is s e packet allowed = checked_planned (λ right.
-      option_planned (λ granted. keys_for own m s e (rand_p_in packet) granted g.now) (grant_for m s.server.eui) (drop_it m drops.NotAllowed) (λ granted is. keys_is s e _ granted (record { grant = is; allowed = allowed })) (λ none. Refuses _))
+  second_is : (asked : Eui) (s : CoordinatorSession) (e : BookEntry) (packet : List ℕ) → session_of m asked ≡ Some s → is_some (allowed_entry m s.server.eui) ≡ true → Is (take_second own m s e packet g.now)
+  second_is asked s e packet there allowed = checked_planned (λ right.
+      option_planned (λ granted. keys_for own m s e (rand_p_in packet) granted g.now) (grant_for m s.server.eui) (drop_it m drops.NotAllowed) (λ granted is. keys_is s e _ granted (record { grant = is; allowed = allowed; asked = asked; session = s; there = there; named = refl })) (λ none. Refuses _))
 
   accepts_is : (s : CoordinatorSession) (rand_p : Rand) → Is (accepts m s rand_p g.now)
   accepts_is s rand_p = checked_planned (λ lacks. sealed_planned _ _ tt)
 
-  packet_is : (e : BookEntry) (packet : List ℕ) (s : CoordinatorSession) → is_some (allowed_entry m s.server.eui) ≡ true → Is (take_packet own m e packet g.now s)
-  packet_is e packet s allowed = option_planned (λ rand_p. take_fourth own m s e packet rand_p g.now) s.server.rand_p (take_second own m s e packet g.now) (λ rand_p here. checked_planned (λ right. accepts_is s rand_p)) (λ none. second_is s e packet allowed)
+  packet_is : (asked : Eui) (e : BookEntry) (packet : List ℕ) (s : CoordinatorSession) → session_of m asked ≡ Some s → is_some (allowed_entry m s.server.eui) ≡ true → Is (take_packet own m e packet g.now s)
+  packet_is asked e packet s there allowed = option_planned (λ rand_p. take_fourth own m s e packet rand_p g.now) s.server.rand_p (take_second own m s e packet g.now) (λ rand_p here. checked_planned (λ right. accepts_is s rand_p)) (λ none. second_is asked s e packet there allowed)
 
   answered_is : (eui : Eui) (packet : List ℕ) → Is (answered own m eui packet g.now)
   answered_is eui packet = option_planned (λ e. option_map_or (take_packet own m e packet g.now) (session_of m eui) (drop_it m drops.NoSession)) (allowed_entry m eui) (drop_it m drops.NotAllowed)
-      (λ e allowed. option_planned (take_packet own m e packet g.now) (session_of m eui) (drop_it m drops.NoSession) (λ s there. packet_is e packet s (allowed_same m s.server.eui eui (session_number m eui s there) (ap is_some allowed))) (λ none. Refuses _)) (λ none. Refuses _)
+      (λ e allowed. option_planned (take_packet own m e packet g.now) (session_of m eui) (drop_it m drops.NoSession) (λ s there. packet_is eui e packet s there (allowed_same m s.server.eui eui (session_number m eui s there) (ap is_some allowed))) (λ none. Refuses _)) (λ none. Refuses _)
 
   join_is : (way : Way) (eui : Eui) (b : JoinBody) → Is (hear_join own m way eui b g.now)
   join_is way eui (body.Join []) = asked_is way eui
@@ -103,7 +107,7 @@ module _ (own : CoordinatorIdentity) (m : Memory) (g : Given) where
   heard_by_is p None (Ended d answer done left) = Ended (whole m d) (heard.Station answer) tt left
   heard_by_is p (Some u) s = join_in_is u.way (join_in u.body)
 
-  hears_keyed : (got : Accepted) → g.got ≡ Some got → Is (hear_coordinator own m got g.cost g.note g.now)
+  pub hears_keyed : (got : Accepted) → g.got ≡ Some got → Is (hear_coordinator own m got g.cost g.note g.now)
   hears_keyed got is = let p = station_rules.hear m.station got g.cost g.note g.now in heard_by_is p (unread p.answer) (hear_is NoWord g m.station got is)
 
   answer_keyed : (p : Plan Memory (Result CoordinatorHeard Dropped)) (eui : Eui) (granted : Granted) → Is p → p.answer ≡ Ok (heard.Keyed eui granted) → IsGrantedTo m eui granted

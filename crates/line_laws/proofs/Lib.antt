@@ -95,3 +95,8 @@ pub mod AgreeRuns
 pub mod BookGrowth
 pub mod NonceRuns
 pub mod KeyedAnswers
+pub mod CipherOctets
+pub mod HeardOctets
+pub mod LastFlights
+pub mod NetworkOpens
+pub mod IssuedNamed

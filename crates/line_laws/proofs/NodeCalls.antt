@@ -38,7 +38,7 @@ use Rattle.node_rules.proofs.MemoryDraftShapes.{whole}
 use Rattle.node_rules.specs.Laws.{IsLoad}
 use Rattle.line_laws.specs.Stores.{IsHeld, IsReadable, IsStationKept, IsKept}
 use Rattle.line_laws.specs.Sizes.{IsMemorySized}
-use Rattle.line_laws.specs.Owed.{KeepsRanges}
+use Rattle.line_laws.specs.Owed.{AreOctets, KeepsRanges}
 use Rattle.line_laws.proofs.Readings.{join_ranges}
 use Rattle.line_laws.proofs.Keeping.{leads_beside}
 use Rattle.line_laws.proofs.Beside.{low_one}
@@ -52,15 +52,17 @@ use Rattle.line_laws.proofs.Made.{Made, RingWord, Carry, Install, Given, Offered
 use Rattle.line_laws.proofs.MadeIn.{MadeIn, Station, EntryChange, Allows, Issues, Kicks}
 use Rattle.line_laws.proofs.HearingForms.{Handed, HandsUp, HandsOn, Gathers, Completes}
 use Rattle.line_laws.proofs.MemoryDraftForms.{AnyAnswer, HandedIn, ByStation, MadeBy}
-use Rattle.line_laws.proofs.MeterForms.{HandsNothingUp, RingCause, ToCoordinator, ByPacket, ByOrder, meter_is, joins_is, leaves_is}
+use Rattle.line_laws.proofs.HeardOctets.{BodyOctets, unread_octets, join_octets}
+use Rattle.line_laws.proofs.MeterForms.{IsPacket, HandsNothingUp, RingCause, ToCoordinator, ByPacket, ByOrder, meter_is, joins_is, leaves_is}
 use Rattle.line_laws.proofs.CoordinatorForms.{IsGranted}
 use Rattle.line_laws.proofs.CallForms.{Few, Nothing, send_is, install_is, near_is, random_is}
 use Rattle.line_laws.proofs.Nodes.{PlanFits, PlanOk, plan_ok}
 
 -- # What is given
 
--- route messages in an accepted frame are in range
+-- An accepted frame is octets, and route messages in it are in range.
 pub record RoutesFit (got : Accepted) : Type 0 where
+  pub payload : AreOctets got.payload
   pub run : (from : ℕ) (all : Bool) (key : Key) (code : ℕ) (body : List ℕ) (message : Message) → got.path ≡ paths.Sealed from all key → unit_in got.payload ≡ Some (units.Local code body) → message_in body ≡ Some message → IsMessage message
 
 abbrev pub heard_given : Accepted → (cost note now : ℕ) → Given
@@ -240,21 +242,33 @@ module _ (role : Role) (m : Memory) (h : IsMemorySized m) where
   -- # A meter
 
   module _ (ciphers : Ciphers) (fits : KeepsRanges ciphers) (x : meters.Identity) (same : x.ciphers ≡ ciphers) where
-    meter_words : (g : Given) (w : RingWord) → RingCause g x m w → WordFits w
-    meter_words g w (ToCoordinator join said) = omega arith
-    meter_words g w (ByPacket granted taken) =
-        fits.granted x.psk taken.peer taken.packet granted (ap (λ (c : Ciphers). c.third_fault x.psk taken.peer taken.packet) (sym same) ∙ taken.right) (ap (λ (c : Ciphers). c.granted x.psk taken.peer taken.packet) (sym same) ∙ taken.is)
-    meter_words g w (ByOrder index told) = (join_ranges told.octets told.join told.read).1 index told.body
+    -- where something is heard, it and the pair key are octets
+    abbrev HeardWell : Given → Type 0
+    HeardWell g = (got : Accepted) → g.got ≡ Some got → AreOctets got.payload × AreOctets x.psk.0
+
+    packet_octets : (g : Given) (packet : List ℕ) (got : Accepted) → AreOctets got.payload → (p : IsPacket g m packet) → p.brought.got ≡ got → AreOctets packet
+    packet_octets g packet got are p same =
+        let b = p.brought in
+        let body : AreOctets p.octets = subst AreOctets b.body (unread_octets m.station b.got g.cost g.note g.now b.handed (subst (λ (a : Accepted). AreOctets a.payload) (sym same) are) b.on) in
+        subst BodyOctets p.challenge (join_octets p.octets p.join body p.read)
+
+    meter_words : (g : Given) → HeardWell g → (w : RingWord) → RingCause g x m w → WordFits w
+    meter_words g well w (ToCoordinator join said) = omega arith
+    meter_words g well w (ByPacket granted taken) =
+        let b = taken.came.brought in
+        let are = well b.got b.is in
+        fits.granted x.psk taken.peer taken.packet granted are.1 (packet_octets g taken.packet b.got are.0 taken.came refl) (ap (λ (c : Ciphers). c.third_fault x.psk taken.peer taken.packet) (sym same) ∙ taken.right) (ap (λ (c : Ciphers). c.granted x.psk taken.peer taken.packet) (sym same) ∙ taken.is)
+    meter_words g well w (ByOrder index told) = (join_ranges told.octets told.join told.read).1 index told.body
 
     pub join_ok : (agent now : ℕ) → PlanOk role m (meters.join x m agent now)
-    join_ok agent now = bookless_ok role (RingCause (call_given 0 0 now) x m) (meter_words (call_given 0 0 now)) (call_given 0 0 now) m (call_offers 0 0 now) meters.joining_ends Nothing (λ n answer k. absurd k) (λ n answer k. absurd k) (λ n answer k. absurd k) _
+    join_ok agent now = bookless_ok role (RingCause (call_given 0 0 now) x m) (meter_words (call_given 0 0 now) (λ got e. absurd (no_some got e))) (call_given 0 0 now) m (call_offers 0 0 now) meters.joining_ends Nothing (λ n answer k. absurd k) (λ n answer k. absurd k) (λ n answer k. absurd k) _
         (planned_weaker _ (λ n answer k. k) (few_of AnyAnswer m (RingCause (call_given 0 0 now) x m) NoGrant NoPair NoEui (call_given 0 0 now)) (joins_is NoGrant NoPair NoEui (call_given 0 0 now) x m agent)) h
 
     pub leave_ok : PlanOk role m (meters.leave m)
-    leave_ok = bookless_ok role (RingCause (call_given 0 0 0) x m) (meter_words (call_given 0 0 0)) (call_given 0 0 0) m (call_offers 0 0 0) meters.leaving_ends Nothing (λ n answer k. absurd k) (λ n answer k. absurd k) (λ n answer k. absurd k) _
+    leave_ok = bookless_ok role (RingCause (call_given 0 0 0) x m) (meter_words (call_given 0 0 0) (λ got e. absurd (no_some got e))) (call_given 0 0 0) m (call_offers 0 0 0) meters.leaving_ends Nothing (λ n answer k. absurd k) (λ n answer k. absurd k) (λ n answer k. absurd k) _
         (planned_weaker _ (λ n answer k. k) (few_of AnyAnswer m (RingCause (call_given 0 0 0) x m) NoGrant NoPair NoEui (call_given 0 0 0)) (leaves_is NoGrant NoPair NoEui (call_given 0 0 0) x m)) h
 
-    pub meter_hears_ok : (got : Accepted) (cost note now : ℕ) → RoutesFit got → PlanOk role m (meters.hear_meter x m got cost note now)
-    meter_hears_ok got cost note now routes = bookless_ok role (RingCause (heard_given got cost note now) x m) (meter_words (heard_given got cost note now)) (heard_given got cost note now) m (heard_offers got cost note now routes) dropped (HandedIn meter_heard.Station (heard_given got cost note now) m)
+    pub meter_hears_ok : (got : Accepted) (cost note now : ℕ) → AreOctets x.psk.0 → RoutesFit got → PlanOk role m (meters.hear_meter x m got cost note now)
+    meter_hears_ok got cost note now pair routes = bookless_ok role (RingCause (heard_given got cost note now) x m) (meter_words (heard_given got cost note now) (λ a e. (subst (λ (b : Accepted). AreOctets b.payload) (same_Some got a e) routes.payload, pair))) (heard_given got cost note now) m (heard_offers got cost note now routes) dropped (HandedIn meter_heard.Station (heard_given got cost note now) m)
         (handed_kept meter_heard.Station (heard_given got cost note now)) (handed_within meter_heard.Station (heard_given got cost note now)) (handed_counter m meter_heard.Station (heard_given got cost note now)) _
         (planned_weaker _ (λ n answer k. k) (few_of HandsNothingUp m (RingCause (heard_given got cost note now) x m) NoGrant NoPair NoEui (heard_given got cost note now)) (meter_is NoGrant NoPair NoEui (heard_given got cost note now) x m got refl)) h

@@ -12,7 +12,7 @@ use Rattle.group_keys.specs.KeyRing as ring
 use Rattle.group_keys.specs.KeyBook as book
 use Rattle.routing_set.specs.declared.rank.Rank.{Rank}
 use Rattle.routing_set.specs.RoutingSet as routing
-use Rattle.node_rules.specs.Memory.{Memory, Role, Coordinator, Node, address_of, node_address}
+use Rattle.node_rules.specs.Memory.{Memory, Role, Coordinator, Meter, Node, address_of, node_address}
 use Rattle.line_laws.proofs.Senders.{AreFrom, plan_from, acts_from}
 use Rattle.node_rules.specs.Plans.{Plan, Outcome, carry_out, resting}
 use Rattle.node_rules.specs.Drafts.{Ends, Outgoing, letters, sealed_by, sealing_key}
@@ -21,7 +21,8 @@ use Rattle.node_rules.specs.NodeSteps.{NodeStep, acts, stays, left_by}
 use Rattle.node_rules.specs.Laws.{IsWhole, IsCutOff}
 use Rattle.node_rules.proofs.Sizes.{pending, pending_bound}
 use Rattle.node_rules.proofs.Writing.{clean}
-use Rattle.line_laws.specs.Stores.{IsHeld, IsKept}
+use Rattle.line_laws.specs.Stores.{IsHeld, IsReadable, BookKept, IsKept, HasEui}
+use Rattle.line_laws.specs.Owed.{AreOctets}
 use Rattle.line_laws.specs.Sizes.{IsMemorySized}
 use Rattle.line_laws.proofs.Keeping.{Leads, Left, carried}
 use Rattle.line_laws.proofs.StoreRanks.{EntryFits}
@@ -111,6 +112,18 @@ acts_ok x halted plan ok f =
       from = acts_from x halted plan (λ m there. (f m there (subst (λ o. Left (IsKept x.role) x.store.records o) there ok.kept) (subst (λ o. IfSome o IsMemorySized) there ok.sized)).from);
     }
 
+-- what a node that is not halted keeps
+pub node_kept : (x : Node) (m : Memory) → NodeOk x → x.memory ≡ Some m → IsKept x.role m x.store.records
+node_kept x m ok there = subst (λ o. Left (IsKept x.role) x.store.records o) there ok.kept
+
+-- its ring is readable
+pub ring_readable : (x : Node) (m : Memory) → NodeOk x → x.memory ≡ Some m → IfSome m.station.ring IsReadable
+ring_readable x m ok there = (node_kept x m ok there).station.range.ring
+
+-- and a meter's pair key is octets
+pub pair_octets : (x : Node) (m : Memory) (psk : Key) → IsKept x.role m x.store.records → x.role ≡ Meter psk → AreOctets psk.0
+pair_octets x m psk k is = (subst (λ role. BookKept role m.book x.store.records) is k.book).1
+
 -- # Frames
 
 length-letters : (g : Granted) (key : Key) (first : ℕ) (units : List Outgoing) → length (letters g key first units) ≡ length units
@@ -133,7 +146,7 @@ waits_little m h = pending_bound m.station h.station.waiting
 module _ (role : Role) (W : RingWord → Type 0) (L : Granted → Type 0) (P : Eui → Key → Type 0) (E : Eui → Type 0) (g : Given) (m : Memory)
     (words : (w : RingWord) → W w → WordFits w)
     (offers : (address : Option ℕ) (by origin : ℕ) (rank : Rank) → Offered g address by origin rank → EntryFits (routing.offered_entry origin rank by g.now))
-    (known : (eui : Eui) → E eui → length eui.0 ≡ 8) (pairs : (eui : Eui) (psk : Key) → P eui psk → length psk.0 ≡ 16)
+    (known : (eui : Eui) → E eui → HasEui eui) (pairs : (eui : Eui) (psk : Key) → P eui psk → length psk.0 ≡ 16)
     (coordinator : (b : book.Book) (e : BookEntry) → EntryChange L P E m b e → role ≡ Coordinator)
     (grants : (r : Records) → IsKept role m r → (granted : Granted) → L granted → IsHeld granted.key0 × IsHeld granted.key1) where
   plan_few : {H F : Type 0} (ends : Ends F) (K : Memory → H → Type 0) (p : Plan Memory (Result H F)) → Planned in_memory ends m K (λ d a. MadeIn W L P E g m d × Few m.station d) p → pending m.station ≤ 21 → length p.frames ≤ 24

@@ -51,4 +51,4 @@ pub coordinator_hears_ranged : (own : coordinators.CoordinatorIdentity) (m : Mem
 coordinator_hears_ranged own m got cost note now known h =
     plan_ranged (SaysOnly own (heard_given got cost note now) m) (λ granted. IsGranted m granted) AnyKey HasEight (heard_given got cost note now) known m h dropped (HandedIn coordinator_heard.Station (heard_given got cost note now) m) _
     (λ k answer x. handed_ranged coordinator_heard.Station (heard_given got cost note now) m k answer x h) (λ d answer x. x.0) _
-    (coordinator_is (SaysOnly own (heard_given got cost note now) m) AnyKey HasEight any_eui (heard_given got cost note now) own m (λ to there join said. ToMeter to join there said) got refl)
+    (coordinator_is (SaysOnly own (heard_given got cost note now) m) AnyKey HasEight (heard_given got cost note now) own m (λ to there join said. ToMeter to join there said) got refl (λ u join e read. any_eui u.body join read))

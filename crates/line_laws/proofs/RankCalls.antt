@@ -215,7 +215,7 @@ module _ (At Own : ℕ → Type 0) (C : ℕ → ℕ → Rank → Type 0) (m : Me
     pub coordinator_hears_ranks : (own : coordinators.CoordinatorIdentity) → Ranked (coordinators.hear_coordinator own m got cost note now)
     unfolding NoInstall
     coordinator_hears_ranks own = planned_ranks At Own C NoInstall (IsGranted m) AnyPair Anyone (heard_given got cost note now) m (λ granted none. absurd none) offers dropped (HandedIn coordinator_heard.Station (heard_given got cost note now) m) _
-        (handed_same coordinator_heard.Station (heard_given got cost note now)) (λ d a k. k.0) _ (coordinator_is NoInstall AnyPair Anyone (λ octets join e. tt) (heard_given got cost note now) own m (λ to there join said. tt) got refl) here
+        (handed_same coordinator_heard.Station (heard_given got cost note now)) (λ d a k. k.0) _ (coordinator_is NoInstall AnyPair Anyone (heard_given got cost note now) own m (λ to there join said. tt) got refl (λ u join e read. tt)) here
 
   -- # Orders
 
@@ -224,36 +224,33 @@ module _ (At Own : ℕ → Type 0) (C : ℕ → ℕ → Rank → Type 0) (m : Me
     unfolding NoInstall
     order ends now p s = quiet ends 0 0 now NoInstall (IsGranted m) AnyPair Anyone _ (λ granted none. absurd none) (λ d a k. k.0) p s
 
-    heard_anyone : (octets : List ℕ) (join : JoinMessage) → join_in octets ≡ Some join → Anyone join.eui
-    heard_anyone octets join e = tt
-
     pub allow_ranks : (eui : Eui) (psk : Key) → Ranked (coordinators.allow m eui psk)
     unfolding NoInstall
-    allow_ranks eui psk = order coordinators.orders 0 _ (allow_is NoInstall AnyPair Anyone heard_anyone (call_given 0 0 0) own m (λ to there join said. tt) eui psk tt tt)
+    allow_ranks eui psk = order coordinators.orders 0 _ (allow_is NoInstall AnyPair Anyone (call_given 0 0 0) own m (λ to there join said. tt) eui psk tt tt)
 
     pub depot_ranks : (eui : Eui) (psk : Key) → Ranked (coordinators.depot m eui psk)
     unfolding NoInstall
-    depot_ranks eui psk = order coordinators.orders 0 _ (depot_is NoInstall AnyPair Anyone heard_anyone (call_given 0 0 0) own m (λ to there join said. tt) eui psk tt tt)
+    depot_ranks eui psk = order coordinators.orders 0 _ (depot_is NoInstall AnyPair Anyone (call_given 0 0 0) own m (λ to there join said. tt) eui psk tt tt)
 
     pub rekey_ranks : (index : ℕ) (key : Key) → Ranked (coordinators.rekey m index key)
     unfolding NoInstall
-    rekey_ranks index key = order coordinators.orders 0 _ (rekey_is NoInstall AnyPair Anyone heard_anyone (call_given 0 0 0) own m (λ to there join said. tt) index key tt)
+    rekey_ranks index key = order coordinators.orders 0 _ (rekey_is NoInstall AnyPair Anyone (call_given 0 0 0) own m (λ to there join said. tt) index key tt)
 
     pub activate_self_ranks : (index : ℕ) → Ranked (coordinators.activate_self m index)
     unfolding NoInstall
-    activate_self_ranks index = order coordinators.orders 0 _ (activate_self_is NoInstall AnyPair Anyone heard_anyone (call_given 0 0 0) own m (λ to there join said. tt) index tt)
+    activate_self_ranks index = order coordinators.orders 0 _ (activate_self_is NoInstall AnyPair Anyone (call_given 0 0 0) own m (λ to there join said. tt) index tt)
 
     pub challenge_ranks : (eui : Eui) (now : ℕ) → Ranked (coordinators.challenge own.eui m eui now)
     unfolding NoInstall
-    challenge_ranks eui now = order coordinators.orders now _ (challenge_is NoInstall AnyPair Anyone heard_anyone (call_given 0 0 now) own m (λ to there join said. tt) eui tt)
+    challenge_ranks eui now = order coordinators.orders now _ (challenge_is NoInstall AnyPair Anyone (call_given 0 0 now) own m (λ to there join said. tt) eui tt)
 
     pub activate_ranks : (eui : Eui) (index now : ℕ) → Ranked (coordinators.activate m eui index now)
     unfolding NoInstall
-    activate_ranks eui index now = order coordinators.orders now _ (activate_is NoInstall AnyPair Anyone heard_anyone (call_given 0 0 now) own m (λ to there join said. tt) eui index)
+    activate_ranks eui index now = order coordinators.orders now _ (activate_is NoInstall AnyPair Anyone (call_given 0 0 now) own m (λ to there join said. tt) eui index)
 
     pub kick_ranks : (eui : Eui) → Ranked (coordinators.kick m eui)
     unfolding NoInstall
-    kick_ranks eui = order coordinators.orders 0 _ (kick_is NoInstall AnyPair Anyone heard_anyone (call_given 0 0 0) own m (λ to there join said. tt) eui tt)
+    kick_ranks eui = order coordinators.orders 0 _ (kick_is NoInstall AnyPair Anyone (call_given 0 0 0) own m (λ to there join said. tt) eui tt)
 
   -- # Accepting a frame
 

@@ -3,6 +3,7 @@ use Rattle.std.proofs.Common.{◌≡◌, ◌≢◌, ℕ, zero, suc, ◌+◌, ◌
 use Rattle.std.specs.Prelude.{◌==◌, ◌&&◌, if◌then◌else◌, is_some, nat_lt, slice_index}
 use Rattle.std.proofs.lemmas.Bool.{eqb-true, eqb-false, ltb-true, ltb-false, and_parts, or_parts}
 use Rattle.std.proofs.lemmas.List.{length-take-le, length-drop}
+use Rattle.std.proofs.lemmas.List.Elements.{All-cons, All-replicate}
 use Rattle.plc_base.specs.Faults.{◌then◌, ◌when◌, fault_at, cut_off}
 use Rattle.plc_base.specs.Fields.{octet, two, part, after}
 use Rattle.joining_messages.specs.declared.message.JoinMessage.{JoinMessage}
@@ -18,7 +19,12 @@ use Rattle.plc_base.specs.declared.key.Key.{Key}
 use Rattle.plc_base.specs.Grant.{Granted}
 use Rattle.eap_psk.specs.declared.peer.Peer.{Peer}
 use Rattle.node_rules.specs.Ciphers.{network}
+use Rattle.aes_modes.specs.Cipher.{xor_bytes, encrypted}
+use Rattle.eap_psk.specs.Keys.{PairKeys, keys_of, derived, numbered_block, nonce_block, channel_text}
+use Rattle.eap_psk.specs.Sessions.{tek_of}
 use Rattle.line_laws.specs.Stores.{IsHeld, IsReadable}
+use Rattle.line_laws.specs.Owed.{AreOctets, KeepsRanges}
+use Rattle.line_laws.proofs.CipherOctets.{after_octets, part_octets, encrypted_octets, eax_octets, network_opens}
 
 then_none : {F : Type 0} (a b : Option F) → (a then b) ≡ None → (a ≡ None) × (b ≡ None)
 then_none None b e = (refl, e)
@@ -128,13 +134,18 @@ head_is octets e =
     let low : octet 6 octets < 2 = ltb-true _ _ (and_parts (nat_lt 6 (length octets)) (nat_lt (octet 6 octets) 2) f.1).1 in
     record { address = ltb-true _ _ (and_parts (nat_lt 3 (length octets)) (nat_lt (two 2 octets) 0xFFFE) c.0).1; index = omega arith }
 
-held : (k : Key) → length k.0 ≡ 16 → IsHeld (Some k)
-held k long = omega (arith, long)
+-- a key of 16 octets is held
+pub held : (k : Key) → length k.0 ≡ 16 → AreOctets k.0 → IsHeld (Some k)
+held k long are = (omega (arith, long), All-cons (λ x. x < 256) 1 k.0 (omega arith) are)
+
+-- no key is
+pub none_held : IsHeld None
+none_held = (refl, All-replicate (λ x. x < 256) 17 0 (omega arith))
 
 -- the grant of a parameter list is read back
-pub grant_readable : (octets : List ℕ) (g : Granted) → grant_in octets ≡ Some g → IsReadable g
+pub grant_readable : (octets : List ℕ) (g : Granted) → AreOctets octets → grant_in octets ≡ Some g → IsReadable g
 unfolding grant_in
-grant_readable octets g = by_list (is_parameter_list octets) refl
+grant_readable octets g are = by_list (is_parameter_list octets) refl
   where
     keys_of : (long short : Bool) → (length octets == 45) ≡ long → (length octets == 26) ≡ short → IsHead octets
         → (if short then key_stands 7 (octet 6 octets) octets else (if long then key_stands 7 0 octets && key_stands 26 1 octets else false)) ≡ true
@@ -145,8 +156,8 @@ grant_readable octets g = by_list (is_parameter_list octets) refl
         record {
           grant = record { index = h.index; held = either_held (octet 6 octets == 0) };
           address = h.address;
-          key0 = held _ (sixteen 10 octets (omega arith));
-          key1 = held _ (sixteen 29 octets (omega arith));
+          key0 = held _ (sixteen 10 octets (omega arith)) (part_octets 10 16 octets are);
+          key1 = held _ (sixteen 29 octets (omega arith)) (part_octets 29 16 octets are);
         }
       where
         either_held : (b : Bool) → is_some (if b then key_at 10 octets else key_at 29 octets) ≡ true
@@ -159,12 +170,12 @@ grant_readable octets g = by_list (is_parameter_list octets) refl
       where
         by_active : length octets ≡ 26 → (b : Bool) → (octet 6 octets == 0) ≡ b
             → IsReadable (if b then record { address = two 2 octets; active = 0; key0 = key_at 10 octets; key1 = None } else record { address = two 2 octets; active = octet 6 octets; key0 = None; key1 = key_at 10 octets })
-        by_active n true e = record { grant = record { index = omega arith; held = refl }; address = h.address; key0 = held _ (sixteen 10 octets (omega arith)); key1 = refl }
+        by_active n true e = record { grant = record { index = omega arith; held = refl }; address = h.address; key0 = held _ (sixteen 10 octets (omega arith)) (part_octets 10 16 octets are); key1 = none_held }
         by_active n false e = record {
           grant = record { index = h.index; held = rw e refl };
           address = h.address;
-          key0 = refl;
-          key1 = held _ (sixteen 10 octets (omega arith));
+          key0 = none_held;
+          key1 = held _ (sixteen 10 octets (omega arith)) (part_octets 10 16 octets are);
         }
 
     by_list : (b : Bool) → is_parameter_list octets ≡ b → (if b then Some (granted_in octets) else None) ≡ Some g → IsReadable g
@@ -174,6 +185,16 @@ grant_readable octets g = by_list (is_parameter_list octets) refl
         let same : granted_in octets ≡ g = same_Some _ _ e in
         subst IsReadable same (keys_of (length octets == 45) (length octets == 26) refl refl (head_is octets parts.0) parts.1)
 
--- so is what the network's third packet grants
-pub network_grants : (psk : Key) (peer : Peer) (packet : List ℕ) (g : Granted) → network.granted psk peer packet ≡ Some g → IsReadable g
-network_grants psk peer packet g e = grant_readable _ g e
+-- so is what the network's third packet grants, which is octets, under a pair key of octets
+pub network_grants : (psk : Key) (peer : Peer) (packet : List ℕ) (g : Granted) → AreOctets psk.0 → AreOctets packet → network.granted psk peer packet ≡ Some g → IsReadable g
+unfolding derived
+network_grants psk peer packet g fits are e =
+    let keys : PairKeys = keys_of psk.0 in
+    let kdk : AreOctets keys.kdk = encrypted_octets psk.0 (xor_bytes (encrypted psk.0 (numbered_block 0)) (numbered_block 2)) fits in
+    let tek : AreOctets (tek_of keys peer.rand_p) = encrypted_octets keys.kdk (xor_bytes (encrypted keys.kdk peer.rand_p.0) (numbered_block 1)) kdk in
+    let text : List ℕ = channel_text (tek_of keys peer.rand_p) 0 (after 58 packet) in
+    grant_readable (after 2 text) g (after_octets 2 text (eax_octets (tek_of keys peer.rand_p) (nonce_block 0) (after 58 packet) tek (after_octets 58 packet are))) e
+
+-- The network keeps the ranges.
+pub network_ranges : KeepsRanges network
+network_ranges = record { opened = network_opens; granted = λ psk peer packet granted fits are right is. network_grants psk peer packet granted fits are is }

@@ -94,7 +94,7 @@ pub again : (role : Role) (m : Memory) (r : Records) → IsKept role m r → Aga
 again (Meter psk) m r k = record {
   memory = remembering (rested m.station) [];
   is = rw (station_again m.station r k.station) refl;
-  kept = record { station = rested_kept m.station r k.station; book = refl; sessions = All-nil IsNamed };
+  kept = record { station = rested_kept m.station r k.station; book = (refl, k.book.1); sessions = All-nil IsNamed };
   sized = rested_sized m.station [] k.station.range.tag;
   next = next_again m.station r k.station;
 }

@@ -123,7 +123,7 @@ module _ (ciphers : Ciphers) (h : Homes) (w : World) (backed : All (FlightBacked
   pub accepted_said : (octets : List ℕ) (l : StationMemory) (p : Accepting) (got : Accepted) → Accepts l (arrived ciphers octets) p → p.answer ≡ Ok got → forged_by w octets got.path ≡ false → SaidRight h w got
   unfolding resting marking
   accepted_said octets l p got (Turned reason) e honest = absurd (cc)
-  accepted_said octets l p got (Plain x plain) e honest = let same : x ≡ got = cc in plain_said got (subst (λ (y : Accepted). IsPlain y.path) same plain)
+  accepted_said octets l p got (Plain x plain) e honest = let same : x ≡ got = cc in plain_said got (subst (λ (y : Accepted). IsPlain y.path) same plain.path)
   accepted_said octets l p got (Marked from counter x a) e honest = let same : x ≡ got = cc in admitted_said octets l from counter got (subst (IsAdmitted l (arrived ciphers octets) from counter) same a) honest
 
 -- # What it offers

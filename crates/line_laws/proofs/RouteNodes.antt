@@ -37,7 +37,7 @@ use Rattle.line_laws.specs.Stores.{IsKept}
 use Rattle.line_laws.specs.Sizes.{IsMemorySized}
 use Rattle.line_laws.proofs.Keeping.{Left}
 use Rattle.line_laws.proofs.Nodes.{NodeOk}
-use Rattle.line_laws.proofs.StepsOk.{blank_ok}
+use Rattle.line_laws.proofs.StepsOk.{blank_ok, blank_kept}
 use Rattle.line_laws.proofs.RankPlans.{rank_read, via, NodeCause, Stood, Came, NodeRanks, acts_ranks}
 use Rattle.line_laws.proofs.RankCalls.{begin_ranks}
 use Rattle.line_laws.proofs.RankSaid.{FrameBacked}
@@ -199,8 +199,7 @@ module _ (At Own : ℕ → Type 0) (C : ℕ → ℕ → Rank → Type 0) where
 pub blank_ranks : (role : Role) (eui : Eui) (dest : ℕ) → routing.rank_of (stored (blank_node role eui)) dest ≡ None
 unfolding routing.rank_of
 blank_ranks role eui dest =
-    let k = (blank_ok role eui).kept in
-    rank_read blank_routing empty k.station.range.routing k.station.routing dest
+    rank_read blank_routing empty blank_kept.range.routing blank_kept.routing dest
 
 pub blank_routes : (role : Role) (eui : Eui) (dest next : ℕ) → via (blank_node role eui) dest ≡ Some next → ⊥
 unfolding via routing.route_of
@@ -213,7 +212,7 @@ abbrev Nobody : ℕ → ℕ → Rank → Type 0
 Nobody by origin rank = ⊥
 
 begun_ranks : (eui : Eui) (key : Key) → NodeRanks Every Every Nobody (blank_node Coordinator eui) (coordinator_node eui key) (acts (blank_node Coordinator eui) (Ok tt) (λ m. coordinator_rules.begin m (first_grant key))).frames
-begun_ranks eui key = acts_ranks Every Every Nobody (blank_node Coordinator eui) (Ok tt) (λ m. coordinator_rules.begin m (first_grant key)) (blank_ok Coordinator eui)
+begun_ranks eui key = acts_ranks Every Every Nobody (blank_node Coordinator eui) (Ok tt) (λ m. coordinator_rules.begin m (first_grant key)) (blank_ok Coordinator eui tt)
     (λ m there kept. begin_ranks Every Every Nobody m (by_address (address_of m.station)) key tt)
   where
     by_address : (o : Option ℕ) → IfSome o Every

@@ -48,7 +48,7 @@ use Rattle.line_laws.specs.Stores.{IsReadable, IsKept}
 use Rattle.line_laws.specs.Sizes.{IsMemorySized}
 use Rattle.line_laws.specs.Owed.{AreOctets, KeepsRanges}
 use Rattle.line_laws.proofs.Keeping.{Left}
-use Rattle.line_laws.proofs.Nodes.{NodeOk, DidOk, acts_ok}
+use Rattle.line_laws.proofs.Nodes.{NodeOk, DidOk, acts_ok, ring_readable}
 use Rattle.line_laws.proofs.StoreMarks.{accept_is, Accepts, Turned, Plain, Marked}
 use Rattle.line_laws.proofs.NodeCalls.{RoutesFit}
 use Rattle.line_laws.proofs.CoordinatorCalls.{accept_ok, accept_failed, accepted_routes}
@@ -532,7 +532,7 @@ module _ (ciphers : Ciphers) (fits : KeepsRanges ciphers) (h : Homes) (w : World
       answered got e = acts_answered x frames.Halted frames.Store plan (λ m. accept_failed ciphers fits octets are m.station _ (accept_is m.station x.eui (arrived ciphers octets))) got e
 
       routes : (got : Accepted) → Answered x plan got → RoutesFit got
-      routes got a = accepted_routes ciphers fits octets are a.memory.station _ got (accept_is a.memory.station x.eui (arrived ciphers octets)) a.is
+      routes got a = accepted_routes ciphers fits octets are a.memory.station (ring_readable x a.memory (node_ok number x there) a.there) _ got (accept_is a.memory.station x.eui (arrived ciphers octets)) a.is
 
       right : (got : Accepted) → Answered x plan got → forged_by w octets got.path ≡ false → SaidRight h (ran w) got
       right got a honest = accepted_said ciphers h (ran w) ran_holds.holds.ranks.backed octets a.memory.station _ got (accept_is a.memory.station x.eui (arrived ciphers octets)) a.is honest

@@ -59,7 +59,7 @@ memory_sized role m r k h = record {
   where
     by_role : (role : Role) → IsKept role m r → length m.book ≤ 999
     by_role Coordinator k = k.book.table.short
-    by_role (Meter psk) k = rw k.book (omega arith)
+    by_role (Meter psk) k = rw k.book.0 (omega arith)
 
 node_sized : (x : Node) → NodeOk x → IfSome x.memory IsWithinSizes
 node_sized x ok = by_memory x.memory ok.kept ok.sized

@@ -59,15 +59,16 @@ use Rattle.line_rules.specs.Events.{IsEvent}
 use Rattle.line_rules.specs.Worlds.{World, Flight, Trace, node_at, flight_at, is_forged_tag}
 use Rattle.line_rules.specs.Steps.{Step, set_up, ran, told, flights_of, acted, once_begun, in_setup, has_begun, takes_setup, on_node, on_meter, made_node, blank_node, identity, hears, restarts, memory_by, ticked, rand, join, joins_by, leave, send, sends_by, sent_if, breaks, breaks_by, lose, tick, restart, cut, show, psk_of, trace_of, happened, coordinator, coordinator_node, meter, is_known, depot, depot_by, provisioned, near, near_by, keeps_rank, ranks_full, offered_near, preset, allow, allowed, deliver, inject, arrives, accepted_by, received, by_coordinator, forged_by, note_by, rekey, challenge, activate, kick, step}
 use Rattle.node_rules.specs.NodeSteps.{NodeStep, acts, stays, answering, of_station}
-use Rattle.line_laws.specs.Stores.{IsReadable, IsStationKept, BookKept, IsNamed, IsKept}
+use Rattle.line_laws.specs.Stores.{IsReadable, IsStationKept, BookKept, IsNamed, IsKept, HasEui}
 use Rattle.line_laws.specs.Sizes.{IsStationSized, IsMemorySized}
 use Rattle.line_laws.specs.Owed.{AreOctets, KeepsRanges}
 use Rattle.line_laws.proofs.Keeping.{Left, leads_beside}
 use Rattle.line_laws.proofs.StoreFold.{ended_kept, beside_kept}
 use Rattle.line_laws.proofs.SizeFold.{stays_sized}
+use Rattle.line_laws.proofs.Readings.{held, none_held}
 use Rattle.line_laws.proofs.Restarting.{Again, again}
 use Rattle.line_laws.proofs.Rising.{IsBelow, lost_pairs}
-use Rattle.line_laws.proofs.Nodes.{PlanFits, PlanOk, NodeOk, DidOk, acts_fits, acts_ok}
+use Rattle.line_laws.proofs.Nodes.{PlanFits, PlanOk, NodeOk, DidOk, acts_fits, acts_ok, ring_readable, pair_octets}
 use Rattle.line_laws.proofs.Frontiers.{next_of, frontier, same_low, numbered_lower, numbered_le}
 use Rattle.frame_counters.proofs.Limits.{stored_limit-kept}
 use Rattle.line_laws.proofs.NodeCalls.{RoutesFit, no_some, meter_hears_ok, random_ok, join_ok, leave_ok, send_ok, near_ok, counter_ok, number_ok, broke_ok, provision_ok}
@@ -174,7 +175,7 @@ zeros_low (suc n) (suc k) = zeros_low n k
 zero_floors : (class : ℕ) → get_or blank_routing.floors class 0 < 2 ^ 16
 zero_floors class = zeros_low 16 class
 
-blank_kept : IsStationKept blank_station empty
+pub blank_kept : IsStationKept blank_station empty
 unfolding routing.floors_in
 blank_kept = record {
   range = record {
@@ -195,9 +196,14 @@ blank_kept = record {
   marks = none_stored marks.peers;
 }
 
-pub blank_ok : (role : Role) (eui : Eui) → NodeOk (blank_node role eui)
-blank_ok role eui = record {
-  kept = record { station = blank_kept; book = by_role role; sessions = All-nil IsNamed };
+-- the pair key of a role is octets
+abbrev pub PairOctets : Role → Type 0
+PairOctets Coordinator = Unit {0}
+PairOctets (Meter psk) = AreOctets psk.0
+
+pub blank_ok : (role : Role) (eui : Eui) → PairOctets role → NodeOk (blank_node role eui)
+blank_ok role eui pair = record {
+  kept = record { station = blank_kept; book = by_role role pair; sessions = All-nil IsNamed };
   sized = record {
     station = record { reassemblies = (omega arith, omega arith); waiting = record { bodies = omega arith; blocks = omega arith; datagrams = All-nil (λ (b : Body). IsShort b.load) }; loads = All-nil (λ (b : Body). IsLoad b.load); tag = omega arith };
     sessions = omega arith;
@@ -205,9 +211,9 @@ blank_ok role eui = record {
   };
 }
   where
-    by_role : (role : Role) → BookKept role [] empty
-    by_role Coordinator = record { table = none_table book.entries; each = All-nil _; stored = none_stored book.entries }
-    by_role (Meter psk) = refl
+    by_role : (role : Role) → PairOctets role → BookKept role [] empty
+    by_role Coordinator pair = record { table = none_table book.entries; each = All-nil _; stored = none_stored book.entries }
+    by_role (Meter psk) pair = (refl, pair)
 
 ticked_frontier : (now : ℕ) (x : Node) → frontier (ticked now x) ≡ frontier x
 ticked_frontier now x = by_role x.role x.memory
@@ -447,7 +453,7 @@ module _ (ciphers : Ciphers) (fits : KeepsRanges ciphers) (w : World) (ok : Worl
 
       by_role : (role : Role) → x.role ≡ role → DidOk x (hears_as role)
       by_role Coordinator is = answering_ok x coordinator_reception _ (coordinator_acts x (Err drops.Store) _ is h (λ m sized. coordinator_hears_ok ciphers fits (record { eui = x.eui; ciphers = ciphers }) m sized got cost note now routes))
-      by_role (Meter psk) is = answering_ok x meter_reception _ (acts_ok x (Err drops.Store) _ h (λ m there kept sized. meter_hears_ok x.role m sized ciphers fits (identity ciphers x psk) refl got cost note now routes))
+      by_role (Meter psk) is = answering_ok x meter_reception _ (acts_ok x (Err drops.Store) _ h (λ m there kept sized. meter_hears_ok x.role m sized ciphers fits (identity ciphers x psk) refl got cost note now (pair_octets x m psk kept is) routes))
 
   received_good : (number : ℕ) (x : Node) (forged : Bool) (d : NodeStep Reception) → node_at w number ≡ Some x → DidOk x d → StepGood w (Ok (received ciphers w number forged d))
   received_good number x forged d there did = Taken _ (counts_ok (told ciphers (ran w) number d) _ (told_ok ciphers fits (ran w) number x d ran_ok there did (λ e. absurd (true_false e))) refl refl (λ e. e)) did.few (told_more ciphers (ran w) number d)
@@ -465,7 +471,7 @@ module _ (ciphers : Ciphers) (fits : KeepsRanges ciphers) (w : World) (ok : Worl
       routes : (got : Accepted) → (acts x (Err frames.Halted) plan).answer ≡ Ok got → RoutesFit got
       routes got e =
           let a = acts_answered x frames.Halted frames.Store plan (λ m. accept_failed ciphers fits octets are m.station _ (accept_is m.station x.eui (arrived ciphers octets))) got e in
-          accepted_routes ciphers fits octets are a.memory.station _ got (accept_is a.memory.station x.eui (arrived ciphers octets)) a.is
+          accepted_routes ciphers fits octets are a.memory.station (ring_readable x a.memory (node_ok number x there) a.there) _ got (accept_is a.memory.station x.eui (arrived ciphers octets)) a.is
 
       by_answer : (r : Result Accepted FrameRefusal) → (acts x (Err frames.Halted) plan).answer ≡ r → StepGood w (Ok (accepted_by ciphers w number octets cost (acts x (Err frames.Halted) plan)))
       by_answer (Err reason) e =
@@ -503,9 +509,9 @@ module _ (ciphers : Ciphers) (fits : KeepsRanges ciphers) (w : World) (ok : Worl
       → StepGood w (Ok (by_coordinator ciphers w c answer order))
   order_good c answer order there f = acted_good 0 c _ there (answering_ok c (ordered_word answer) _ (coordinator_acts c (Err orders.Halted) order (ok.first c there) (node_ok 0 c there) f))
 
-  rekey_good : (index : ℕ) (key : Key) → length key.0 ≡ 16 → StepGood w (rekey ciphers w index key)
+  rekey_good : (index : ℕ) (key : Key) → length key.0 ≡ 16 → AreOctets key.0 → StepGood w (rekey ciphers w index key)
   unfolding rekey
-  rekey_good index key long = once _ (at_node 0 _ (λ c there. order_good c said.Drawn _ there (λ m sized. rekey_ok ciphers fits (own_of c) m sized index key (omega (arith, long)))))
+  rekey_good index key long are = once _ (at_node 0 _ (λ c there. order_good c said.Drawn _ there (λ m sized. rekey_ok ciphers fits (own_of c) m sized index key (held key long are))))
 
   challenge_good : (number : ℕ) → StepGood w (challenge ciphers w number)
   unfolding challenge
@@ -540,23 +546,23 @@ module _ (ciphers : Ciphers) (fits : KeepsRanges ciphers) (w : World) (ok : Worl
 
   -- # Setup
 
-  pub begin_ok : (key : Key) → length key.0 ≡ 16 → (m : Memory) → IsMemorySized m → PlanOk Coordinator m (coordinator_rules.begin m (first_grant key))
+  pub begin_ok : (key : Key) → length key.0 ≡ 16 → AreOctets key.0 → (m : Memory) → IsMemorySized m → PlanOk Coordinator m (coordinator_rules.begin m (first_grant key))
   unfolding choose
-  begin_ok key long m sized = by_ring (is_some m.station.ring)
+  begin_ok key long are m sized = by_ring (is_some m.station.ring)
     where
       readable : IsReadable (first_grant key)
-      readable = record { grant = record { index = omega arith; held = refl }; address = omega arith; key0 = omega (arith, long); key1 = refl }
+      readable = record { grant = record { index = omega arith; held = refl }; address = omega arith; key0 = held key long are; key1 = none_held }
 
       by_ring : (b : Bool) → PlanOk Coordinator m (if b then resting m (Ok tt) (Err RingStore) else within (λ l. with_station l m) (λ r. r) (calls.install m.station (first_grant key)))
       by_ring true = resting_ok Coordinator m sized (Ok tt) (Err RingStore)
       by_ring false = provision_ok Coordinator m sized (first_grant key) readable
 
-  coordinator_good : (eui : Eui) (key : Key) → length eui.0 ≡ 8 → length key.0 ≡ 16 → StepGood w (coordinator w eui key)
+  coordinator_good : (eui : Eui) (key : Key) → HasEui eui → length key.0 ≡ 16 → AreOctets key.0 → StepGood w (coordinator w eui key)
   unfolding coordinator
-  coordinator_good eui key known long = branch (has_begun w) _ _ (λ _. Fails faults.Setup) (λ none.
-      let did = acts_ok (blank_node Coordinator eui) (Ok tt) (λ m. coordinator_rules.begin m (first_grant key)) (blank_ok Coordinator eui) (λ m there kept sized. begin_ok key long m sized) in
+  coordinator_good eui key known long are = branch (has_begun w) _ _ (λ _. Fails faults.Setup) (λ none.
+      let did = acts_ok (blank_node Coordinator eui) (Ok tt) (λ m. coordinator_rules.begin m (first_grant key)) (blank_ok Coordinator eui tt) (λ m there kept sized. begin_ok key long are m sized) in
       let few : length w.nodes ≤ 0 = ltb-false _ _ none in
-      Taken _ (made_ok (coordinator_node eui key) did.node (record { eui = ap (λ (e : Eui). length e.0) did.eui ∙ known; psk = λ psk e. absurd (not_meter psk (sym did.role ∙ e)) }) (omega arith)
+      Taken _ (made_ok (coordinator_node eui key) did.node (record { eui = subst HasEui (sym did.eui) known; psk = λ psk e. absurd (not_meter psk (sym did.role ∙ e)) }) (omega arith)
       (λ c is. first_made w.nodes few (coordinator_node eui key) did.role c is)) (omega arith) (none_more w (set_up w) refl))
     where
       not_meter : (psk : Key) → Coordinator ≡ Meter psk → ⊥
@@ -566,14 +572,14 @@ module _ (ciphers : Ciphers) (fits : KeepsRanges ciphers) (w : World) (ok : Worl
       first_made [] few x is c e = let this : x ≡ c = same_Some _ _ e in ap (λ (y : Node). y.role) (sym this) ∙ is
       first_made (y ∷ xs) few x is c e = absurd (omega arith)
 
-  meter_good : (eui : Eui) (psk : Key) → length eui.0 ≡ 8 → length psk.0 ≡ 16 → StepGood w (meter w eui psk)
+  meter_good : (eui : Eui) (psk : Key) → HasEui eui → length psk.0 ≡ 16 → AreOctets psk.0 → StepGood w (meter w eui psk)
   unfolding meter
-  meter_good eui psk known long = branch (not (takes_setup w) || (nat_lt 999 (length w.nodes) || is_known w eui)) _ _ (λ _. Fails faults.Setup) (λ may.
+  meter_good eui psk known long are = branch (not (takes_setup w) || (nat_lt 999 (length w.nodes) || is_known w eui)) _ _ (λ _. Fails faults.Setup) (λ may.
       let parts = or_parts _ _ may in
       let room = or_parts _ _ parts.1 in
       let few : length w.nodes ≤ 999 = ltb-false _ _ room.0 in
       let some : 0 < length w.nodes = begun_some (has_begun w) (not w.running) refl parts.0 in
-      Taken _ (made_ok (blank_node (Meter psk) eui) (blank_ok (Meter psk) eui) (record { eui = known; psk = λ k e. ap (λ (x : Key). length x.0) (sym (same_psk psk k e)) ∙ long }) few
+      Taken _ (made_ok (blank_node (Meter psk) eui) (blank_ok (Meter psk) eui are) (record { eui = known; psk = λ k e. ap (λ (x : Key). length x.0) (sym (same_psk psk k e)) ∙ long }) few
       (λ c is. ok.first c (sym (first_same w.nodes some (blank_node (Meter psk) eui)) ∙ is))) (omega arith) (none_more w (set_up w) refl))
     where
       same_psk : (a b : Key) → Meter a ≡ Meter b → a ≡ b
@@ -655,20 +661,20 @@ module _ (ciphers : Ciphers) (fits : KeepsRanges ciphers) (w : World) (ok : Worl
       kept_at : (c : Node) (m : Memory) → NodeOk c → c.memory ≡ Some m → IsKept c.role m c.store.records × IsMemorySized m
       kept_at c m h e = (subst (λ o. Left (IsKept c.role) c.store.records o) e h.kept, subst (λ o. IfSome o IsMemorySized) e h.sized)
 
-      granted : (c : Node) (eui : Eui) (psk : Key) (g : Granted) → c.role ≡ Coordinator → NodeOk c → length eui.0 ≡ 8 → length psk.0 ≡ 16 → (acts c (Err orders.Halted) (λ m. coordinator_rules.depot m eui psk)).answer ≡ Ok g → IsReadable g
+      granted : (c : Node) (eui : Eui) (psk : Key) (g : Granted) → c.role ≡ Coordinator → NodeOk c → HasEui eui → length psk.0 ≡ 16 → (acts c (Err orders.Halted) (λ m. coordinator_rules.depot m eui psk)).answer ≡ Ok g → IsReadable g
       granted c eui psk g is h known long e =
           let a = acts_answered c orders.Halted orders.Store (λ m. coordinator_rules.depot m eui psk) (λ m. coordinator_failed m eui psk known long) g e in
           let k = kept_at c a.memory h a.there in
           depot_grants a.memory eui psk g k.0.station.range.ring (of_role c.role a.memory c.store.records is k.0) a.is
         where
-          coordinator_failed : (m : Memory) (eui : Eui) (psk : Key) → length eui.0 ≡ 8 → length psk.0 ≡ 16 → (coordinator_rules.depot m eui psk).failed ≡ Err orders.Store
+          coordinator_failed : (m : Memory) (eui : Eui) (psk : Key) → HasEui eui → length psk.0 ≡ 16 → (coordinator_rules.depot m eui psk).failed ≡ Err orders.Store
           coordinator_failed m eui psk known long = depot_failed ciphers fits (own_of c) m eui psk known long
 
   -- # All kinds
 
   pub step_good : (event : Event) → IsEvent event → StepGood w (step ciphers w event)
-  step_good (events.Coordinator eui key) e = coordinator_good eui key e.0.0 e.1.0
-  step_good (events.Meter eui psk) e = meter_good eui psk e.0.0 e.1.0
+  step_good (events.Coordinator eui key) e = coordinator_good eui key e.0 e.1.0 e.1.1
+  step_good (events.Meter eui psk) e = meter_good eui psk e.0 e.1.0 e.1.1
   step_good (events.Depot node) e = depot_good node
   step_good (events.Near a b cost) e = near_good a b cost e.2.1
   step_good (events.Counter node value) e = preset_good node _ (λ role m sized. counter_ok role m sized value e.1) (λ l. counter_quiet l value)
@@ -685,7 +691,7 @@ module _ (ciphers : Ciphers) (fits : KeepsRanges ciphers) (w : World) (ok : Worl
   step_good (events.Tick seconds) e = tick_good seconds
   step_good (events.Restart node) e = restart_good node
   step_good (events.Cut node nth keeps_new) e = cut_good node nth keeps_new
-  step_good (events.Rekey index key) e = rekey_good index key e.1.0
+  step_good (events.Rekey index key) e = rekey_good index key e.1.0 e.1.1
   step_good (events.Challenge node) e = challenge_good node
   step_good (events.Activate node index) e = activate_good node index e.1
   step_good (events.Kick node) e = kick_good node

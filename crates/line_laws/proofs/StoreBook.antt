@@ -17,13 +17,14 @@ use Rattle.group_keys.specs.declared.key_book.BookEntry.{BookEntry}
 use Rattle.group_keys.specs.KeyBook as book
 use Rattle.group_keys.proofs.Books.{entry_in-entry_octets, entry_same}
 use Rattle.node_rules.specs.Memory.{StationMemory, Memory, Role, Coordinator, Meter}
-use Rattle.line_laws.specs.Stores.{IsHeld, IsStationKept, IsReadableEntry, IsBookKept, BookKept, IsNamed, IsKept}
+use Rattle.line_laws.specs.Stores.{IsHeld, IsStationKept, IsReadableEntry, IsBookKept, BookKept, IsNamed, IsKept, HasEui}
 use Rattle.routing_set.specs.declared.rank.Rank.{Rank}
 use Rattle.routing_set.specs.RoutingSet as routing
 use Rattle.node_rules.specs.Drafts.{Draft, empty_draft}
 use Rattle.node_rules.specs.MemoryDrafts.{with_station, on_station, station_part, with_memory_by, with_pair_tags, goes_up, goes_down}
 use Rattle.node_rules.specs.Coordinators as coordinators
 use Rattle.node_rules.specs.Coordinators.{with_book_entry}
+use Rattle.line_laws.proofs.Readings.{none_held}
 use Rattle.line_laws.proofs.Keeping.{Leads, leads_beside, leads_one, leads_map}
 use Rattle.line_laws.proofs.Beside.{Lasts, With}
 use Rattle.line_laws.proofs.StoreRanks.{EntryFits}
@@ -45,7 +46,7 @@ station_stays l r slot octets k high = record {
 }
 
 reads_entry : (place : ℕ) (e : BookEntry) → place < 999 → IsReadableEntry e → book.entries.read place (book.entries.octets place e) ≡ Some (book.entries.rest e)
-reads_entry place e within h = entry_in-entry_octets place e within h.eui h.psk h.key0 h.key1
+reads_entry place e within h = entry_in-entry_octets place e within h.eui h.psk h.key0.0 h.key1.0
 
 -- the book with an entry is what the records with its record give
 book_with : (b : book.Book) (e : BookEntry) (r : Records) → IsBookKept b r → IsReadableEntry e → book.has_room b e.eui ≡ true
@@ -101,7 +102,7 @@ module _ (role : Role) where
       by_role (Meter psk) c b f g = absurd (cc)
 
   pub same_book : (m : Memory) (b : book.Book) (r : Records) → IsKept role m r → b ≡ m.book → IsKept role (record m { book = b }) r
-  same_book m b r k e = record { station = k.station; book = rw e k.book; sessions = k.sessions }
+  same_book m b r k e = record { station = k.station; book = subst (λ c. BookKept role c r) (sym e) k.book; sessions = k.sessions }
 
   -- an entry is stored where it changes
   pub entry_leads : (m : Memory) (e : BookEntry) → ((r : Records) → IsBookKept m.book r → IsReadableEntry e) → book.has_room m.book e.eui ≡ true → role ≡ Coordinator
@@ -114,7 +115,7 @@ module _ (role : Role) where
 
 -- # What is looked up
 
-looked_up : {A : Type 0} (P : A → Type 0) (xs : List A) (o : Option ℕ) (x : A) → option_and_then (slice_get xs) o ≡ Some x → All P xs → P x
+pub looked_up : {A : Type 0} (P : A → Type 0) (xs : List A) (o : Option ℕ) (x : A) → option_and_then (slice_get xs) o ≡ Some x → All P xs → P x
 looked_up P xs None x e all = absurd (cc)
 looked_up {A = A} P xs (Some place) x e all = at_place xs place e all
   where
@@ -177,10 +178,10 @@ station_leads role n l k ps x = leads_map (With (Rest role n)) (IsKept role) (λ
 module _ (role : Role) (W : RingWord → Type 0) (L : Granted → Type 0) (P : Eui → Key → Type 0) (E : Eui → Type 0) (g : Given) (m : Memory)
     (words : (w : RingWord) → W w → WordFits w)
     (offers : (address : Option ℕ) (by origin : ℕ) (rank : Rank) → Offered g address by origin rank → EntryFits (routing.offered_entry origin rank by g.now))
-    (known : (eui : Eui) → E eui → length eui.0 ≡ 8) (pairs : (eui : Eui) (psk : Key) → P eui psk → length psk.0 ≡ 16)
+    (known : (eui : Eui) → E eui → HasEui eui) (pairs : (eui : Eui) (psk : Key) → P eui psk → length psk.0 ≡ 16)
     (coordinator : (b : book.Book) (e : BookEntry) → EntryChange L P E m b e → role ≡ Coordinator)
     (grants : (granted : Granted) → L granted → IsHeld granted.key0 × IsHeld granted.key1) (sessions : All IsNamed m.sessions) where
-  named : (eui : Eui) → EuiFrom E m eui → length eui.0 ≡ 8
+  named : (eui : Eui) → EuiFrom E m eui → HasEui eui
   named eui (Known x is) = known x is
   named eui (OfSession x s there) = looked_up IsNamed m.sessions (position (coordinators.is_of x) m.sessions) s there sessions
 
@@ -189,17 +190,17 @@ module _ (role : Role) (W : RingWord → Type 0) (L : Granted → Type 0) (P : E
   entry_fits b e (Allows eui psk is pair room) r k = by_entry (book.entry_for b eui) refl
     where
       by_entry : (o : Option BookEntry) → book.entry_for b eui ≡ o → IsReadableEntry (book.allowed_entry eui psk o)
-      by_entry None at = record { eui = known eui is; psk = pairs eui psk pair; key0 = refl; key1 = refl }
+      by_entry None at = record { eui = (known eui is).0; psk = pairs eui psk pair; key0 = none_held; key1 = none_held }
       by_entry (Some x) at =
           let h = looked_up IsReadableEntry b (book.place_of b eui) x at k.each in
-          record { eui = known eui is; psk = pairs eui psk pair; key0 = h.key0; key1 = h.key1 }
+          record { eui = (known eui is).0; psk = pairs eui psk pair; key0 = h.key0; key1 = h.key1 }
   entry_fits b e (Issues eui granted x from given allowed) r k =
       let h = looked_up IsReadableEntry b (book.place_of b eui) x (stands b eui x allowed) k.each in
       let keys = grants granted given in
-      record { eui = named eui from; psk = h.psk; key0 = keys.0; key1 = keys.1 }
+      record { eui = (named eui from).0; psk = h.psk; key0 = keys.0; key1 = keys.1 }
   entry_fits b e (Kicks eui x is allowed) r k =
       let h = looked_up IsReadableEntry b (book.place_of b eui) x (stands b eui x allowed) k.each in
-      record { eui = h.eui; psk = h.psk; key0 = refl; key1 = refl }
+      record { eui = h.eui; psk = h.psk; key0 = none_held; key1 = none_held }
 
   pub entry_room : (b : book.Book) (e : BookEntry) → EntryChange L P E m b e → book.has_room b e.eui ≡ true
   entry_room b e (Allows eui psk is pair room) = by_entry (book.entry_for b eui)
@@ -225,7 +226,7 @@ module _ (role : Role) (W : RingWord → Type 0) (L : Granted → Type 0) (P : E
   beside_named n k (Answers s t eui there same) all = by_place (position (coordinators.is_of s.server.eui) n.sessions)
     where
       name : IsNamed s
-      name = ap (λ (x : Eui). length x.0) same ∙ looked_up IsNamed n.sessions (position (coordinators.is_of eui) n.sessions) t there all
+      name = subst HasEui (sym same) (looked_up IsNamed n.sessions (position (coordinators.is_of eui) n.sessions) t there all)
 
       by_place : (o : Option ℕ) → All IsNamed (option_map_or (λ place. set n.sessions place s) o (n.sessions ++ s ∷ []))
       by_place None = All-push IsNamed n.sessions s all name

@@ -53,9 +53,16 @@ IsPlain (paths.Sealed from all key) = ⊥
 IsPlain (paths.Up from) = Unit {0}
 IsPlain (paths.Down from) = Unit {0}
 
+-- A plain frame is handed on with its body.
+pub record IsPlainCame (a : Option Arrived) (got : Accepted) : Type 0 where
+  pub path : IsPlain got.path
+  pub frame : Arrived
+  pub is : a ≡ Some frame
+  pub payload : got.payload ≡ frame.body
+
 pub data Accepts (l : StationMemory) (a : Option Arrived) : Accepting → Type 0 where
   Turned : (reason : FrameRefusal) → Accepts l a (resting l (Err reason) (Err Store))
-  Plain : (got : Accepted) → IsPlain got.path → Accepts l a (resting l (Ok got) (Err Store))
+  Plain : (got : Accepted) → IsPlainCame a got → Accepts l a (resting l (Ok got) (Err Store))
   Marked : (from counter : ℕ) (got : Accepted) → IsAdmitted l a from counter got → Accepts l a (marking l from counter got)
 
 module _ (l : StationMemory) (x : Arrived) where
@@ -77,8 +84,8 @@ module _ (l : StationMemory) (x : Arrived) where
 
   head_is : (head : MacHead) → x.head ≡ head → Is (accept_head l x head)
   head_is (heads.Sealed ack seq pan to from counter index) e = key_is ack seq pan to from counter index (ring.key_in_ring l.ring index) e refl
-  head_is (heads.Up ack version seq pan to from) e = Plain _ tt
-  head_is (heads.Down ack version seq pan to from) e = Plain _ tt
+  head_is (heads.Up ack version seq pan to from) e = Plain _ (record { path = tt; frame = x; is = refl; payload = refl })
+  head_is (heads.Down ack version seq pan to from) e = Plain _ (record { path = tt; frame = x; is = refl; payload = refl })
 
   for_me_is : (b : Bool) → Is (if b then accept_head l x x.head else refuse l NotForMe)
   for_me_is true = head_is x.head refl

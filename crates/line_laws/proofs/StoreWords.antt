@@ -28,7 +28,7 @@ use Rattle.line_laws.proofs.Slots.{ring_stays, counter_stays, number_stays, tag_
 
 ring_reads : (x : ring.Ring) → IfSome x IsReadable → ring.ring_in (ring.ring_octets x) ≡ Some x
 ring_reads None h = refl
-ring_reads (Some g) h = ring_in-ring_octets g h.grant h.address h.key0 h.key1
+ring_reads (Some g) h = ring_in-ring_octets g h.grant h.address h.key0.0 h.key1.0
 
 pub ring_kept : (l : StationMemory) (r : Records) (x : ring.Ring) → IsStationKept l r → IfSome x IsReadable → IsStationKept (record l { ring = x }) (insert r 1 (ring.ring_octets x))
 ring_kept l r x k h = record {

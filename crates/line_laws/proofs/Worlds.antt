@@ -6,7 +6,6 @@ use Rattle.std.proofs.lemmas.List.{length-set}
 use Rattle.std.proofs.lemmas.List.Elements.{All-nil, All-set, All-append, All-map}
 use Rattle.std.proofs.lemmas.Option.{same_Some}
 use Rattle.plc_base.proofs.SlotTables.{slice_get-set, slice_get-set_other}
-use Rattle.plc_base.specs.declared.address.Eui.{Eui}
 use Rattle.plc_base.specs.declared.key.Key.{Key}
 use Rattle.node_rules.specs.Ciphers.{Ciphers}
 use Rattle.node_rules.specs.Frames.{spelled}
@@ -18,14 +17,14 @@ use Rattle.line_rules.specs.Nonces.{CounterRises}
 use Rattle.frame_counters.proofs.Limits.{stored_limit-kept}
 use Rattle.line_laws.proofs.Frontiers.{next_of, frontier}
 use Rattle.line_laws.proofs.Rising.{IsBelow, Grown, grows}
-use Rattle.line_laws.specs.Stores.{IsKept}
+use Rattle.line_laws.specs.Stores.{IsKept, HasEui}
 use Rattle.line_laws.specs.Owed.{AreOctets, KeepsRanges}
 use Rattle.line_laws.proofs.Keeping.{Left}
 use Rattle.line_laws.proofs.Nodes.{NodeOk, DidFits, DidOk}
 
 -- What a line of the script gave of a node.
 pub record NodeFits (x : Node) : Type 0 where
-  pub eui : length x.eui.0 ≡ 8
+  pub eui : HasEui x.eui
   pub psk : (psk : Key) → x.role ≡ Meter psk → length psk.0 ≡ 16
 
 abbrev pub FlightFits : Flight → Type 0
@@ -76,7 +75,7 @@ told_with ciphers w number x d ok there did rising still = record {
     old = at_place NodeFits w.nodes number x there ok.fits
 
     same_fits : NodeFits d.node
-    same_fits = record { eui = ap (λ (e : Eui). length e.0) did.eui ∙ old.eui; psk = λ psk e. old.psk psk (sym did.role ∙ e) }
+    same_fits = record { eui = subst HasEui (sym did.eui) old.eui; psk = λ psk e. old.psk psk (sym did.role ∙ e) }
 
     by_number : (b : Bool) → (number == 0) ≡ b → (c : Node) → slice_get (set w.nodes number d.node) 0 ≡ Some c → c.role ≡ Coordinator
     by_number true e c is =

@@ -1,17 +1,11 @@
 -- A joined meter holds only keys that were issued to it.
-use Rattle.std.specs.Prelude.{◌≡◌, All, false, List, [], ◌∷◌, ◌++◌}
+use Rattle.std.specs.Prelude.{◌≡◌, false, List, [], ◌∷◌, ◌++◌}
 use Rattle.node_rules.specs.Ciphers.{Ciphers}
-use Rattle.line_rules.specs.Events.{IsEui}
-use Rattle.line_rules.specs.Worlds.{Issued}
 use Rattle.line_rules.specs.Runs.{Entry, issued}
 use Rattle.line_rules.specs.SafeRuns.{HasOnlyIssuedKeys}
 use Rattle.line_rules.specs.Agreement.{Agrees}
 use Rattle.line_laws.specs.Owed.{KeepsRanges}
 use Rattle.line_laws.specs.Laws.{IsLineRun, FlightsAreOctets}
-
--- every meter to which keys are issued is named by 8 octets
-abbrev pub IssuedAreNamed : List Entry → Type 0
-IssuedAreNamed entries = All (λ (x : Entry). All (λ (i : Issued). IsEui i.eui) x.trace.issued) entries
 
 -- after each event up to the first forged one, each meter holds only keys that were issued to it up to then
 abbrev pub IsIssuedAfter : List Entry → List Entry → Type 0
@@ -24,7 +18,7 @@ IsIssuedAfter before (x ∷ xs) =
 abbrev pub OnlyIssuedKeys : Type 0
 OnlyIssuedKeys =
     (ciphers : Ciphers) → KeepsRanges ciphers → (entries : List Entry) → IsLineRun ciphers entries
-    → FlightsAreOctets entries → IssuedAreNamed entries → IsIssuedAfter [] entries
+    → FlightsAreOctets entries → IsIssuedAfter [] entries
 
 -- a joining that is done in a run was taken before it, with the same random values
 abbrev pub EveryJoiningAgrees : Type 0

@@ -9,3 +9,4 @@ pub mod Places
 pub mod Laws
 pub mod Loops
 pub mod Issued
+pub mod Network

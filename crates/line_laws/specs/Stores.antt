@@ -1,7 +1,9 @@
 -- What a node holds in memory is what its records give, and each record has a reading.
 use Rattle.std.specs.Prelude.{◌≡◌, ℕ, ◌<◌, ◌≤◌, ◌^◌, [], length, get_or, All, Option, Ok, IfSome}
 use Rattle.std.specs.FinMap.{get}
+use Rattle.plc_base.specs.Fields.{AreOctets}
 use Rattle.plc_base.specs.Keeper.{Records}
+use Rattle.plc_base.specs.declared.address.Eui.{Eui}
 use Rattle.plc_base.specs.declared.key.Key.{Key}
 use Rattle.plc_base.specs.Grant.{Granted, IsGrant}
 use Rattle.plc_base.specs.SlotTables as slots
@@ -19,9 +21,9 @@ use Rattle.node_rules.specs.Memory.{StationMemory, Memory, Role, Coordinator, Me
 use Rattle.node_rules.specs.Drafts.{tag_slot}
 use Rattle.node_rules.specs.StoreReading.{tag_in}
 
--- a key that may be held takes 17 octets
+-- the record of a key that may be held is 17 octets
 abbrev pub IsHeld : Option Key → Type 0
-IsHeld key = length (held_octets key) ≡ 17
+IsHeld key = (length (held_octets key) ≡ 17) × AreOctets (held_octets key)
 
 -- A grant whose record is read back.
 pub record IsReadable (g : Granted) : Type 0 where
@@ -64,14 +66,18 @@ pub record IsBookKept (b : book.Book) (records : Records) : Type 0 where
   pub each : All IsReadableEntry b
   pub stored : book.IsKept b records
 
--- the coordinator's book belongs to what its records give, and a meter has none
+-- the coordinator's book belongs to what its records give; a meter has none, and its pair key is octets
 abbrev pub BookKept : Role → book.Book → Records → Type 0
 BookKept Coordinator b records = IsBookKept b records
-BookKept (Meter psk) b records = b ≡ []
+BookKept (Meter psk) b records = (b ≡ []) × AreOctets psk.0
 
--- the meter of a session has an EUI of 8 octets
+-- an EUI of 8 octets
+abbrev pub HasEui : Eui → Type 0
+HasEui eui = (length eui.0 ≡ 8) × AreOctets eui.0
+
+-- the meter of a session has one
 abbrev pub IsNamed : CoordinatorSession → Type 0
-IsNamed s = length s.server.eui.0 ≡ 8
+IsNamed s = HasEui s.server.eui
 
 -- What a node of this role holds is what the records give.
 pub record IsKept (role : Role) (m : Memory) (records : Records) : Type 0 where

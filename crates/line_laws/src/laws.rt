@@ -1,7 +1,24 @@
 //! Laws of the runs: each carried by a function that does nothing.
 ghost use Rattle.line_laws.specs.Issued.{EveryJoiningAgrees, OnlyIssuedKeys};
+ghost use Rattle.line_laws.specs.Network.{EveryNetworkRunIsRight, LastFlightsSayAll};
+ghost use Rattle.line_laws.specs.Owed.{KeepsRanges};
+ghost use Rattle.node_rules.specs.Ciphers.{OpensWhatItSeals, network};
 ghost use Rattle.line_laws.specs.Loops.{EveryRunIsLoopFree};
 ghost use Rattle.line_laws.specs.Laws.{EveryAddressDiffers, EveryCountIsRight, EveryCounterRises, EveryFlightIsSpelled, EveryForgeryIsTold, EveryNonceDiffers, EveryRestartIsAnswered, EveryRunIsSized, EverySenderIsRight, EveryTraceIsRight};
+
+/// What the network's ciphers open of octets, under keys of octets, is octets, and each grant that they open can be
+/// stored.
+#[tactic(auto)]
+pub fn network_keeps_ranges()
+    ensures { KeepsRanges network }
+{}
+
+/// What a key of the network seals, the same key opens, under the same head; a sealed body is four octets longer than
+/// its payload.
+#[tactic(auto)]
+pub fn network_opens_what_it_seals()
+    ensures { OpensWhatItSeals network }
+{}
 
 /// In every run, forged or not, no table passes its size, and no event sends more than 24 frames.
 #[tactic(auto)]
@@ -84,4 +101,16 @@ pub fn every_address_differs()
 #[tactic(auto)]
 pub fn every_nonce_differs()
     ensures { EveryNonceDiffers }
+{}
+
+/// In every run of the network whose flights are octets, these laws hold, with nothing asked of the ciphers.
+#[tactic(auto)]
+pub fn every_network_run_is_right()
+    ensures { EveryNetworkRunIsRight }
+{}
+
+/// In every run where the flights of the last world are octets, those of each world are.
+#[tactic(auto)]
+pub fn the_last_flights_say_all()
+    ensures { LastFlightsSayAll }
 {}

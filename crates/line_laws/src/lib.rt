@@ -5,7 +5,8 @@ mod laws;
 
 pub use laws::{
     every_address_differs, every_count_is_right, every_counter_rises, every_flight_is_spelled,
-    every_forgery_is_told, every_joining_agrees, every_nonce_differs, every_restart_is_answered,
-    every_run_is_loop_free, every_run_is_sized, every_sender_is_right, every_trace_is_right,
-    only_issued_keys,
+    every_forgery_is_told, every_joining_agrees, every_network_run_is_right, every_nonce_differs,
+    every_restart_is_answered, every_run_is_loop_free, every_run_is_sized, every_sender_is_right,
+    every_trace_is_right, network_keeps_ranges, network_opens_what_it_seals, only_issued_keys,
+    the_last_flights_say_all,
 };

@@ -46,7 +46,8 @@ abbrev pub memory_code : Coded Memory
 memory_code =
     code_by (StationMemory × (List Rand × (Option MeterSession × (List CoordinatorSession × Book))))
     (coded× station_code (coded× (coded_list meter_sessions.rand_code)
-    (coded× (coded_option meter_sessions.session_code) (coded× (coded_list coordinator_sessions.session_code) book_code))))
+    (coded× (coded_option meter_sessions.session_code)
+    (coded× (coded_list coordinator_sessions.session_code) book_code))))
     (λ m. (m.station, (m.randoms, (m.session, (m.sessions, m.book)))))
     (λ t. record { station = t.0; randoms = t.1.0; session = t.1.1.0; sessions = t.1.1.1.0; book = t.1.1.1.1 })
     (λ _. refl)

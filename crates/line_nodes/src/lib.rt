@@ -9,6 +9,8 @@ mod hearing;
 mod meter_steps;
 mod meters;
 mod reception;
+#[cfg(test)]
+mod tests;
 
 pub use meters::Meters;
 pub use reception::Reception;

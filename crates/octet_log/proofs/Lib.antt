@@ -1,3 +1,4 @@
 pub mod Ends
 pub mod Lasts
 pub mod Links
+mod Octets

@@ -1,0 +1,45 @@
+-- What holds of every run of the network whose flights are octets.
+use Rattle.std.specs.Prelude.{All, List, [], ◌∷◌}
+use Rattle.plc_base.specs.Fields.{AreOctets}
+use Rattle.node_rules.specs.Ciphers.{Ciphers, network}
+use Rattle.line_rules.specs.Agreement.{Agrees}
+use Rattle.line_rules.specs.Forgery.{IsForgedRight}
+use Rattle.line_rules.specs.Nonces.{CountersRise, NoncesDiffer, AreSpelled, AreAddressed, AreApart}
+use Rattle.line_rules.specs.Runs.{Entry, IsRun}
+use Rattle.line_rules.specs.SafeRuns.{IsAlwaysSized, RestartsAreAnswered}
+use Rattle.line_rules.specs.Traces.{CountsRight, AreTracedRight}
+use Rattle.line_rules.specs.Worlds.{World, Flight, start}
+use Rattle.line_laws.specs.Issued.{IsIssuedAfter}
+use Rattle.line_laws.specs.Laws.{IsLineRun, FlightsAreOctets}
+
+-- What the laws say of a run, one by one.
+pub record IsRight (entries : List Entry) : Type 0 where
+  pub sized : IsAlwaysSized entries
+  pub answered : RestartsAreAnswered entries
+  pub rises : CountersRise entries
+  pub spelled : AreSpelled network entries
+  pub senders : AreAddressed start entries
+  pub apart : AreApart entries
+  pub nonces : NoncesDiffer entries
+  pub agrees : Agrees entries
+  pub keys : IsIssuedAfter [] entries
+  pub counted : CountsRight start entries
+  pub traced : AreTracedRight start entries
+  pub forged : IsForgedRight network start entries
+
+-- so it is of every run of the network
+abbrev pub EveryNetworkRunIsRight : Type 0
+EveryNetworkRunIsRight = (entries : List Entry) → IsLineRun network entries → FlightsAreOctets entries → IsRight entries
+
+-- # Flights stay
+
+-- the world after all events of a run from a world on
+abbrev pub world_after : World → List Entry → World
+world_after w [] = w
+world_after w (x ∷ xs) = world_after x.after xs
+
+-- no flight is ever taken away, and each keeps its octets: where those of the last world are octets, all were
+abbrev pub LastFlightsSayAll : Type 0
+LastFlightsSayAll =
+    (ciphers : Ciphers) (entries : List Entry) → IsRun ciphers start entries
+    → All (λ (f : Flight). AreOctets f.octets) (world_after start entries).flights → FlightsAreOctets entries
