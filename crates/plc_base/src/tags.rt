@@ -1,5 +1,5 @@
 //! The tags that authenticate the messages of a joining, by what they were computed over.
-ghost use Rattle.std.specs.Prelude.{◌≡◌, ◌<◌, ◌++◌, ◌∷◌, [], length};
+ghost use Rattle.std.specs.Prelude.{◌≡◌, ◌<◌, ◌≤◌, ◌==◌, ◌++◌, ◌∷◌, [], length};
 ghost use Rattle.plc_base.specs.Tags.{IsTag, blank_tag, tag_octets};
 
 use crate::{Eui, Octets, Rand};
@@ -154,6 +154,21 @@ impl PairTags {
         ensures { result.now ≡ self.now }
     {
         self.items.as_slice()
+    }
+
+    /// How many tags there are.
+    pub fn len(&self) -> usize
+        ensures value { result ≡ length self.now }
+        ensures most { result ≤ 2 }
+    {
+        self.items.len()
+    }
+
+    /// Whether there is no tag.
+    pub fn is_empty(&self) -> bool
+        ensures { result ≡ (length self.now == 0) }
+    {
+        self.items.is_empty()
     }
 
     /// Appends a tag.
