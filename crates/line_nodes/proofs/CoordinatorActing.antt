@@ -37,9 +37,9 @@ use Rattle.node_rules.specs.StationSlots.{IsOfStation, WritesOfStation, SameMemb
 use Rattle.node_rules.specs.StoreReading.{memory_of}
 use Rattle.node_rules.specs.Tables.{HasShortTables, HasGaplessTables, IsInPlace, ArePlaced}
 use Rattle.node_rules.proofs.Composing.{carries_within}
-use Rattle.line_nodes.proofs.RingPuts.{writes_keep_ring}
+use Rattle.node_rules.proofs.RingPuts.{writes_keep_ring}
 use Rattle.node_rules.proofs.TablePlans.{meters_in_place}
-use Rattle.line_nodes.proofs.StationPuts.{writes_keep_membership}
+use Rattle.node_rules.proofs.StationPuts.{writes_keep_membership}
 use Rattle.coordinator.specs.CoordinatorAgreement.{HoldsWith, Holds, HasHome}
 use Rattle.coordinator.specs.CoordinatorReading.{if_read, read_answer}
 use Rattle.coordinator.specs.CoordinatorStates.{CoordinatorState, memory_in, node_of}

@@ -18,7 +18,7 @@ use Rattle.node_rules.specs.Memory.{StationMemory, Memory, Coordinator}
 use Rattle.node_rules.specs.NodeSteps.{acts}
 use Rattle.node_rules.specs.Plans.{Plan}
 use Rattle.node_rules.specs.States.{State}
-use Rattle.line_nodes.proofs.RingPuts.{coordinators_write_no_ring}
+use Rattle.node_rules.proofs.RingPuts.{coordinators_write_no_ring}
 use Rattle.node_rules.proofs.TablePlans.{coordinators_in_place}
 use Rattle.line_rules.specs.Answers as rules
 use Rattle.line_rules.specs.Steps.{hears}

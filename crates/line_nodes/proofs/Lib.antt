@@ -6,5 +6,3 @@ mod Making
 mod CoordinatorActing
 mod CoordinatorHearing
 mod CoordinatorOpening
-mod RingPuts
-mod StationPuts

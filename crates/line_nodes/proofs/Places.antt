@@ -1,8 +1,9 @@
 -- The nodes of a list, each at its place.
-use Rattle.std.proofs.Common.{◌≡◌, ℕ, zero, suc, ◌+◌, ◌<◌, ◌≤◌, Bool, not, cond, List, [], ◌∷◌, ◌++◌, length, map, take, drop, get_or, arith, Option, Some, None, Result, Ok, Err, refl, sym, ap, subst, ◌∙◌}
-use Rattle.std.specs.Prelude.{IfSome, IfOk, nat_lt, position, slice_get, slice_set}
+use Rattle.std.proofs.Common.{◌≡◌, ℕ, zero, suc, ◌+◌, ◌<◌, ◌≤◌, Bool, true, false, not, cond, List, [], ◌∷◌, ◌++◌, length, map, take, drop, get_or, arith, Option, Some, None, Result, Ok, Err, refl, sym, ap, subst, ◌∙◌}
+use Rattle.std.specs.Prelude.{IfSome, IfOk, ◌||◌, is_some, nat_lt, position, slice_get, slice_set}
 use Rattle.std.specs.Option.{option_map, option_and_then}
-use Rattle.std.specs.List.{position_or_len}
+use Rattle.std.specs.List.{list_any, position_or_len}
+use Rattle.std.proofs.lemmas.Bool.{le-ltb, lt-ltb, ltb-false, ltb-true}
 use Rattle.std.proofs.Math.Seq.{map-set_same}
 use Rattle.plc_base.proofs.SlotTables.{slice_get-set}
 use Rattle.routing_set.proofs.Endings.{map_length, map_step, map_whole}
@@ -117,3 +118,37 @@ first_map f p (x ∷ xs) = ap (λ (n : ℕ). cond (not (p (f x))) (1 + n) 0) (fi
 
 pub position_map : {A B : Type 0} (f : A → B) (p : B → Bool) (xs : List A) → position p (map f xs) ≡ position (λ x. p (f x)) xs
 position_map f p xs = λ i. cond (nat_lt (first_map f p xs i) (length-map xs f i)) (Some (first_map f p xs i)) None
+
+some_when : (b : Bool) (n : ℕ) → is_some (cond b (Some n) None) ≡ b
+some_when true n = refl
+some_when false n = refl
+
+one_more : (n m : ℕ) → nat_lt (1 + n) (suc m) ≡ nat_lt n m
+one_more n m = by (nat_lt n m) refl
+  where
+    by : (b : Bool) → nat_lt n m ≡ b → nat_lt (1 + n) (suc m) ≡ nat_lt n m
+    by true t = lt-ltb (1 + n) (suc m) (let below = ltb-true n m t in omega (arith, below)) ∙ sym t
+    by false t = le-ltb (1 + n) (suc m) (let above = ltb-false n m t in omega (arith, above)) ∙ sym t
+
+passes : {A : Type 0} (p : A → Bool) (xs : List A) → nat_lt (position_or_len p xs) (length xs) ≡ list_any p xs
+passes p [] = refl
+passes p (x ∷ xs) = by (p x) (passes p xs)
+  where
+    by : (b : Bool) → nat_lt (position_or_len p xs) (length xs) ≡ list_any p xs
+        → nat_lt (cond (not b) (1 + position_or_len p xs) 0) (suc (length xs)) ≡ (b || list_any p xs)
+    by true rest = lt-ltb 0 (suc (length xs)) (omega arith)
+    by false rest = one_more (position_or_len p xs) (length xs) ∙ rest
+
+-- there is a first that passes exactly where one passes
+pub has_first : {A : Type 0} (p : A → Bool) (xs : List A) → is_some (position p xs) ≡ list_any p xs
+has_first p xs = some_when (nat_lt (position_or_len p xs) (length xs)) (position_or_len p xs) ∙ passes p xs
+
+-- the step of a node that is seen as another says it is
+pub seen : {A : Type 0} (step : Node → NodeStep A) (x old : Node) (answer : A) (out : Out) (new : Node) → x ≡ old
+    → Took (step x) answer out new → Took (step old) answer out new
+seen step x old answer out new view t = subst (λ n. Took (step n) answer out new) view t
+
+-- the same where what it answers is the step's
+pub seen_answering : {A : Type 0} (step : Node → NodeStep A) (x old : Node) (out : Out) (new : Node) → x ≡ old
+    → Took (step x) (step x).answer out new → Took (step old) (step old).answer out new
+seen_answering step x old out new view t = subst (λ n. Took (step n) (step n).answer out new) view t

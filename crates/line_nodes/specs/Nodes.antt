@@ -33,9 +33,9 @@ abbrev pub of_meter : MeterState → Node
 of_meter m = node_in (Meter m.psk) (meters.node_of m)
 
 -- the nodes by their numbers: the coordinator is node 0, and without one there is no node
-abbrev pub nodes_of : Option CoordinatorState → List MeterState → List Node
-nodes_of None meters = []
-nodes_of (Some c) meters = of_coordinator c ∷ map of_meter meters
+abbrev pub nodes_in : Option Node → List Node → List Node
+nodes_in None meters = []
+nodes_in (Some c) meters = c ∷ meters
 
 -- whether a meter has this EUI
 abbrev pub has_eui : Eui → MeterState → Bool

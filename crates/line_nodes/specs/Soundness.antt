@@ -28,8 +28,3 @@ pub record IsSound (role : Role) (s : State Memory) : Type 0 where
 -- a meter that is sound
 abbrev pub IsSoundMeter : MeterState → Type 0
 IsSoundMeter m = IsSound (Meter m.psk) (meters.node_of m)
-
--- The coordinator is sound, and so is each meter; without a coordinator there is no meter.
-abbrev pub AreSound : Option CoordinatorState → List MeterState → Type 0
-AreSound None ms = ms ≡ []
-AreSound (Some c) ms = IsSound Coordinator (coordinators.node_of c) × All IsSoundMeter ms

@@ -1,16 +1,30 @@
-//! The meters of a line, each over a keeper of its own in memory.
+//! The nodes of a line by their numbers: the coordinator is node 0, and the meters follow, each over a keeper of its own in
+//! memory.
 //!
-//! Each call names a meter by its place, and takes the step that the rules of the nodes give for it, whichever
-//! writes of its keeper fail. The steps of the coordinator stand beside them, for the type that numbers both.
+//! Each call of [`Nodes`] names a node, and takes the step that the rules of the nodes give for it, whichever writes of its
+//! keeper fail.
 #![tactic(auto)]
 
 mod coordinator_steps;
+mod creation;
 mod hearing;
+mod joining;
+#[cfg(test)]
+mod joining_tests;
+mod lending;
+mod line_coordinator;
 mod meter_steps;
 mod meters;
+mod nodes;
+mod ordering;
+mod receiving;
 mod reception;
+mod setting;
 #[cfg(test)]
 mod tests;
+mod time;
 
+pub use line_coordinator::LineCoordinator;
 pub use meters::Meters;
+pub use nodes::Nodes;
 pub use reception::Reception;

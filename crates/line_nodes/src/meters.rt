@@ -1,5 +1,5 @@
 //! The meters of a line, and what they do.
-ghost use Rattle.std.specs.Prelude.{◌≡◌, ◌≤◌, ◌<◌, ◌++◌, ◌∷◌, [], length, map, position};
+ghost use Rattle.std.specs.Prelude.{◌≡◌, ◌≤◌, ◌<◌, ◌^◌, ◌++◌, ◌∷◌, [], length, map, position};
 ghost use Rattle.std.specs.Prelude.{Ok, Err, OnOk, OnErr, Some, IfSome, IfOk, slice_get, slice_set};
 ghost use Rattle.node_rules.specs.Accepting as accepting;
 ghost use Rattle.node_rules.specs.Calls as calls;
@@ -85,7 +85,8 @@ impl Meters {
 
     /// How many meters there are.
     pub fn len(&self) -> usize
-        ensures { result ≡ length self.now }
+        ensures value { result ≡ length self.now }
+        ensures bound { result < 2 ^ 63 }
     {
         self.meters.len()
     }

@@ -1,5 +1,6 @@
-//! Two meters by hand: a worked datagram that comes up once, and a loss of power at a store write.
-use crate::{Meters, Reception};
+//! Nodes by hand: a worked datagram that comes up once, a meter of the workshop that hears the coordinator, and a loss of
+//! power at a store write.
+use crate::{LineCoordinator, Meters, Reception};
 use line_rules::Answer;
 use plc_base::{DatagramBuf, Eui, Grant, Key, LinkCost, Out, Short};
 use std::test::Fail;
@@ -111,6 +112,36 @@ fn a_datagram_comes_up_once(rt: HostRuntime) -> Result<(), Fail> {
         &mut replies,
     );
     assert!(rt; again.is_none());
+    Ok(())
+}
+
+#[test]
+fn a_meter_of_the_workshop_hears_the_coordinator(rt: HostRuntime) -> Result<(), Fail> {
+    let psk = Key([16; 16]);
+    let mut coordinator = LineCoordinator::new(rt.alloc(), eui_of(0), &FIRST_KEY)?;
+    let mut meters = Meters::new(rt.alloc());
+    meters.make(rt.alloc(), eui_of(1), psk)?;
+    let Ok(grant) = coordinator.depot(eui_of(1), &psk) else {
+        return Err(Fail::new("no grant"));
+    };
+    if meters.len() == 0 {
+        return Err(Fail::new("no meter"));
+    }
+    assert!(rt; meters.provision(0, &grant).is_ok());
+    let cost = LinkCost::new(3).ok_or("no cost")?;
+    let to = grant.address;
+    let mut out = Out::new();
+    assert!(rt; coordinator.preset_near(to, cost, 0).is_ok());
+    assert!(rt; coordinator.send(to, b"read", 7, 0, &mut out).is_ok());
+    let Some(frame) = out.frames.frames().first() else {
+        return Err(Fail::new("no frame"));
+    };
+    let mut datagram = DatagramBuf::new();
+    let mut replies = Out::new();
+    let octets = frame.octets.octets();
+    let heard = hears(&mut meters, 0, octets, &mut datagram, &mut replies);
+    assert!(rt; heard.is_some());
+    assert_eq!(rt; datagram.octets(), b"read".as_slice());
     Ok(())
 }
 

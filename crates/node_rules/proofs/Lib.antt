@@ -19,5 +19,5 @@ pub mod HomePuts
 pub mod Outcomes
 pub mod Rooms
 pub mod Blank
-mod StationPuts
-mod RingPuts
+pub mod StationPuts
+pub mod RingPuts

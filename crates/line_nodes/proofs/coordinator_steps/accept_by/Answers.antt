@@ -1,6 +1,6 @@
 -- A station accepts.
 use Rattle.std.proofs.Common.{Err}
-use Rattle.line_nodes.proofs.StationPuts.{stations_write_their_own}
+use Rattle.node_rules.proofs.StationPuts.{stations_write_their_own}
 use Rattle.node_rules.proofs.TablePlans.{stations}
 use Rattle.node_rules.specs.Accepting as accepting
 use Rattle.node_rules.specs.Carrying.{nothing}

@@ -1,7 +1,7 @@
 -- A meter is allowed.
 use Rattle.std.proofs.Common.{Err}
 use Rattle.coordinator.specs.CoordinatorStates.{node_of, identity_of}
-use Rattle.line_nodes.proofs.RingPuts.{coordinators_write_no_ring}
+use Rattle.node_rules.proofs.RingPuts.{coordinators_write_no_ring}
 use Rattle.node_rules.proofs.TablePlans.{coordinators_in_place}
 use Rattle.node_rules.specs.Carrying.{nothing}
 use Rattle.node_rules.specs.Coordinators as rules

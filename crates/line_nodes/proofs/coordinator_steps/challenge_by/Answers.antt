@@ -1,7 +1,7 @@
 -- A meter is challenged.
 use Rattle.std.proofs.Common.{Err}
 use Rattle.coordinator.specs.CoordinatorStates.{identity_of}
-use Rattle.line_nodes.proofs.RingPuts.{coordinators_write_no_ring}
+use Rattle.node_rules.proofs.RingPuts.{coordinators_write_no_ring}
 use Rattle.node_rules.proofs.TablePlans.{coordinators_in_place}
 use Rattle.node_rules.specs.Coordinators as rules
 use Rattle.node_rules.specs.declared.refusal.CoordinatorRefusal.TheVariants as orders

@@ -1,6 +1,6 @@
 -- A counter is set.
 use Rattle.std.proofs.Common.{Ok}
-use Rattle.line_nodes.proofs.StationPuts.{stations_write_their_own}
+use Rattle.node_rules.proofs.StationPuts.{stations_write_their_own}
 use Rattle.node_rules.proofs.TablePlans.{stations}
 use Rattle.node_rules.specs.Calls as calls
 use Rattle.node_rules.specs.Carrying.{nothing}
