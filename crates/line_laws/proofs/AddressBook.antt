@@ -20,7 +20,7 @@ use Rattle.node_rules.specs.Drafts.{Draft, Ends, empty_draft, counters_left, cou
 use Rattle.node_rules.specs.MemoryDrafts.{in_memory, with_station, on_station, station_part, with_memory_by, with_pair_tags, goes_up, goes_down}
 use Rattle.node_rules.specs.Coordinators.{with_book_entry}
 use Rattle.node_rules.proofs.Sizes.{pending}
-use Rattle.line_laws.specs.Stores.{IsHeld, IsReadableEntry, IsBookKept, IsNamed, IsKept, HasEui}
+use Rattle.line_laws.specs.Stores.{IsHeld, IsReadableEntry, IsBookKept, IsNamed, IsKept, HasEui, IsPair}
 use Rattle.line_laws.proofs.Keeping.{Leads, leads_beside, leads_one, leads_append, leads_when, leads_map}
 use Rattle.line_laws.proofs.Beside.{With, low_when}
 use Rattle.line_laws.proofs.StoreWords.{counter_leads}
@@ -75,7 +75,7 @@ module _ (V : book.Book → Type 0) where
   module _ (W : RingWord → Type 0) (L : Granted → Type 0) (P : Eui → Key → Type 0) (E : Eui → Type 0) (g : Given) (m : Memory)
       (words : (w : RingWord) → W w → WordFits w)
       (offers : (address : Option ℕ) (by origin : ℕ) (rank : Rank) → Offered g address by origin rank → EntryFits (routing.offered_entry origin rank by g.now))
-      (known : (eui : Eui) → E eui → HasEui eui) (pairs : (eui : Eui) (psk : Key) → P eui psk → length psk.0 ≡ 16)
+      (known : (eui : Eui) → E eui → HasEui eui) (pairs : (eui : Eui) (psk : Key) → P eui psk → IsPair psk)
       (steps : (x : book.Book) (e : BookEntry) → EntryChange L P E m x e → V x → V (book.with_entry x e)) where
     abbrev coordinator : (x : book.Book) (e : BookEntry) → EntryChange L P E m x e → Coordinator ≡ Coordinator
     coordinator x e change = refl

@@ -141,7 +141,7 @@ module _ (S : ring.Ring → Type 0) (W : RingWord → Type 0) (g : Given)
   made_rung s d Starts h = h
   made_rung s d (Ranks by origin rank e made o fits) h = let x = made_rung s e made h in record { puts = writes_append S e.puts _ x.puts (offer_away S e.memory.routing origin rank by g.now); ring = x.ring; reads = x.reads }
   made_rung s d (Numbers e made left) h = let x = made_rung s e made h in record { puts = writes_append S e.puts _ x.puts (number_away S e.memory.own_number); ring = x.ring; reads = x.reads }
-  made_rung s d (Tags e made) h = let x = made_rung s e made h in record { puts = writes_append S e.puts _ x.puts (Away _ (omega arith), tt); ring = x.ring; reads = x.reads }
+  made_rung s d (Tags e made first) h = let x = made_rung s e made h in record { puts = writes_append S e.puts _ x.puts (Away _ (omega arith), tt); ring = x.ring; reads = x.reads }
   made_rung s d (Rings y e made change) h =
       let x = made_rung s e made h in
       let c = changes e.memory.ring y change x.reads x.ring in

@@ -22,7 +22,7 @@ use Rattle.line_laws.proofs.IssueWorlds.{Keyed}
 
 -- # The book
 
-abbrev no_entry : BookEntry
+abbrev pub no_entry : BookEntry
 no_entry = record { eui = record { 0 = [] }; psk = record { 0 = [] }; allowed = false; issued0 = None; issued1 = None }
 
 -- the place of an address

@@ -49,6 +49,18 @@ acts_answered {A = A} {E = E} x reason store plan failed g = by_memory x.memory 
     by_memory None there e = absurd (cc)
     by_memory (Some m) there e = by_outcome m there e
 
+-- # Addresses of the book
+
+pub booked_low : (b : book.Book) (eui : Eui) (a : ℕ) → length b ≤ 999 → book.address_of b eui ≡ Some a → a < 0xFFFE
+booked_low b eui a short = by_place (book.place_of b eui) refl
+  where
+    by_place : (o : Option ℕ) → book.place_of b eui ≡ o → option_map (λ p. p + 1) o ≡ Some a → a < 0xFFFE
+    by_place None is e = absurd (no_some _ e)
+    by_place (Some place) is e =
+        let same : place + 1 ≡ a = same_Some _ _ e in
+        let there : place < length b = (found book.entries b (book.eui_number eui) place (record { eui = eui; psk = record { 0 = [] }; allowed = false; issued0 = None; issued1 = None }) is).0 in
+        omega arith
+
 -- # The grant of the workshop
 
 with_short : (b : book.Book) (e : BookEntry) → length b ≤ 999 → book.has_room b e.eui ≡ true → length (book.with_entry b e) ≤ 999

@@ -56,7 +56,7 @@ use Rattle.line_laws.proofs.FlightFolds.{address_low, came_octets}
 use Rattle.line_laws.proofs.Tellings.{IsCall, Gives, Joins, Leaves, Sends, Breaks, Nears, Counts, Numbers, Accepts, Provisions, Depots, Allows, Rekeys, Turns, Challenges, Activates, Kicks, preset_call, IsStep, Fails, Makes, Rests, Shows, Acts, BreaksLink, SendsFrom, AllowsMeter, Sets, SetsTwo, Provides, TurnsDown, Hears, Loses, Ticks, Restarts, Cuts}
 
 -- the pair key of a meter
-psk_meter : (x : Node) (psk : Key) → psk_of x ≡ Some psk → x.role ≡ Meter psk
+pub psk_meter : (x : Node) (psk : Key) → psk_of x ≡ Some psk → x.role ≡ Meter psk
 psk_meter x psk = by_role x.role
   where
     by_role : (role : Role) → psk_of (record x { role = role }) ≡ Some psk → role ≡ Meter psk
@@ -249,14 +249,14 @@ module _ (ciphers : Ciphers) (fits : KeepsRanges ciphers) (w : World) (ok : Worl
   }
   goes event s (Rests e quiet) = λ some. same_goes w (ran w) refl self_goes
   goes event s (Shows number x) = λ some. same_goes w (ran w) refl self_goes
-  goes event s (Acts e number x A halted plan reads there call word) = λ some. called (ran w) _ number x A _ reads halted plan refl refl there call
+  goes event s (Acts e number x A halted plan reads there call word asked) = λ some. called (ran w) _ number x A _ reads halted plan refl refl there call
   goes event s (BreaksLink number next x a there call) = λ some. called (ran w) _ number x _ _ (λ (b : Answer). b) said.Halted _ refl refl there call
-  goes event s (SendsFrom from to datagram x a there call) = λ some.
+  goes event s (SendsFrom from to datagram x a there call target) = λ some.
       let plan : Memory → Plan Memory (Result SentHow SendRefusal) = λ m. of_station m (calls.send m.station a datagram (w.sends + 1) w.clock) in
       called (ran w) _ from x _ _ sent_word (Err sends.Halted) plan refl (sent_nodes from to datagram (tag_of x) (answering sent_word (acts x (Err sends.Halted) plan))) there call
   goes event s (AllowsMeter number y c psk there call meter) = λ some. called (ran w) _ 0 c _ _ (λ a. a) (Err orders.Halted) _ refl refl there call
   goes event s (Sets e quiet number x plan there open_is is) = λ some. called (set_up w) _ number x _ _ (λ a. a) (Ok tt) _ refl refl there (preset_call ciphers w number x plan open_is is)
-  goes event s (SetsTwo e quiet a b cost x y p q hx hy apart open_is first second fresh) = λ some.
+  goes event s (SetsTwo e quiet a b cost x y p q hx hy apart open_is first second fresh near) = λ some.
       let d = offered_near x q cost w.clock in
       let one = told_goes (set_up w) (told ciphers (set_up w) a d) a x d (same_goes w (set_up w) refl self_goes) (told_nodes (set_up w) a d) hx (acts_eui x (Ok tt) _) (call_grows a x _ (Ok tt) _ hx first) in
       told_goes (told ciphers (set_up w) a d) _ b y (offered_near y p cost w.clock) one (told_nodes (told ciphers (set_up w) a d) b (offered_near y p cost w.clock)) (ap (λ ns. slice_get ns b) (told_nodes (set_up w) a d) ∙ slice_get-set_other w.nodes a b d.node apart ∙ hy) (acts_eui y (Ok tt) _) (call_grows b y _ (Ok tt) _ hy second)

@@ -19,7 +19,7 @@ use Rattle.node_rules.specs.MemoryDrafts.{in_memory, with_memory_by, given_ends,
 use Rattle.node_rules.proofs.Sizes.{pending, load_bound}
 use Rattle.node_rules.proofs.Words.{IsDone, Fits, begun_fits, tagged_fits, sets_out_fits, remembered_fits, quiet_done}
 use Rattle.line_laws.proofs.Planned.{Planned, Refuses, checked_planned, choose_planned, sealed_planned, option_planned, sealing_planned}
-use Rattle.line_laws.proofs.Made.{RingWord, Carry, IsAlone, Alone, Install, Given, ByItself, RankFits, Made, Starts, Ranks, Tags, Rings, Installs}
+use Rattle.line_laws.proofs.Made.{RingWord, Carry, IsAlone, Alone, Install, Given, ByItself, RankFits, TakesTag, Made, Starts, Ranks, Tags, Rings, Installs}
 use Rattle.line_laws.proofs.MadeIn.{MadeIn, Begins, Remembers, Gives}
 use Rattle.line_laws.proofs.SetsOut.{LacksNothing, lacks_nothing, sets_out_made}
 use Rattle.line_laws.proofs.MemoryDraftForms.{AnyAnswer, MadeBy}
@@ -35,7 +35,7 @@ pub record SendPasses (l : StationMemory) (to : ℕ) (datagram : List ℕ) : Typ
   pub other : is_own l to ≡ false
   pub lacks : LacksNothing l to (length datagram)
 
-send_passes : (l : StationMemory) (to : ℕ) (datagram : List ℕ) → send_fault l to datagram ≡ None → SendPasses l to datagram
+pub send_passes : (l : StationMemory) (to : ℕ) (datagram : List ℕ) → send_fault l to datagram ≡ None → SendPasses l to datagram
 send_passes l to datagram = by_tests ((length datagram == 0) || nat_lt 1280 (length datagram)) (is_own l to) (lack l to (length datagram)) refl refl refl
   where
     some_of : (n : ℕ) → (n == 0) ≡ false → 0 < n
@@ -80,12 +80,16 @@ module _ (W : RingWord → Type 0) (g : Given) (l : StationMemory) where
       by_size true = begun_fits alone_station 2 l
       by_size false = tagged_fits alone_station (empty_draft l) (begun_fits alone_station 1 l)
 
-  tag_made : (octets : List ℕ) → Made W g (empty_draft l) (tag_taken octets (empty_draft l))
-  tag_made octets = by_size (nat_le (length octets) 375)
+  takes_tag : (to : ℕ) (octets : List ℕ) → W (Carry to g.note (Datagram octets l.next_tag)) → TakesTag W (empty_draft l) (empty_draft l)
+  unfolding empty_draft
+  takes_tag to octets carried = record { to = to; note = g.note; datagram = octets; carries = carried; same = refl }
+
+  tag_made : (to : ℕ) (octets : List ℕ) → W (Carry to g.note (Datagram octets l.next_tag)) → Made W g (empty_draft l) (tag_taken octets (empty_draft l))
+  tag_made to octets carried = by_size (nat_le (length octets) 375)
     where
       by_size : (b : Bool) → Made W g (empty_draft l) (if b then empty_draft l else with_next_tag (empty_draft l))
       by_size true = Starts
-      by_size false = Tags (empty_draft l) Starts
+      by_size false = Tags (empty_draft l) Starts (takes_tag to octets carried)
 
   -- the tag does not matter to what a body lacks, nor to the address
   tag_same : (octets : List ℕ) (to size : ℕ) → LacksNothing l to size → LacksNothing (tag_taken octets (empty_draft l)).memory to size × (address_of (tag_taken octets (empty_draft l)).memory ≡ address_of l)
@@ -110,7 +114,7 @@ module _ (W : RingWord → Type 0) (g : Given) (l : StationMemory) where
       let p = send_passes l to datagram e in
       let same = tag_same datagram to (length datagram) p.lacks in
       sealed_planned _ _ (
-        sets_out_made (empty_draft l) own to g.note (Datagram datagram l.next_tag) g.now (tag_taken datagram (empty_draft l)) (tag_made datagram) (same.1 ∙ here) same.0 p.short (carried p.some p.short) (tag_alone datagram g.note),
+        sets_out_made (empty_draft l) own to g.note (Datagram datagram l.next_tag) g.now (tag_taken datagram (empty_draft l)) (tag_made to datagram (carried p.some p.short)) (same.1 ∙ here) same.0 p.short (carried p.some p.short) (tag_alone datagram g.note),
         alone_few _ (sets_out_fits alone_station 4 own to g.note (Datagram datagram l.next_tag) g.now (tag_taken datagram (empty_draft l)) (omega arith) (load_bound (Datagram datagram l.next_tag) p.short).1 (tag_fits datagram)),
       ))
 

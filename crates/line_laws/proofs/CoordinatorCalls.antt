@@ -1,6 +1,6 @@
 -- Every call of the coordinator, and accepting a frame, keep memory and records, and stay within the sizes.
 use Rattle.line_laws.proofs.Planned.{planned_failed}
-use Rattle.std.proofs.Common.{◌≡◌, Bool, true, false, None, ℕ, ◌≤◌, ◌<◌, ◌^◌, List, length, Option, Some, Result, Ok, Err, refl, sym, ap, ◌∙◌, subst, arith}
+use Rattle.std.proofs.Common.{◌≡◌, Bool, true, false, None, ℕ, ◌≤◌, ◌<◌, ◌^◌, List, [], Option, Some, Result, Ok, Err, refl, sym, ap, ◌∙◌, subst, arith}
 use Rattle.std.specs.Prelude.{if◌then◌else◌, ◌==◌, IfSome}
 use Rattle.std.proofs.lemmas.List.Elements.{All-tail}
 use Rattle.std.proofs.lemmas.Option.{same_Some}
@@ -32,7 +32,7 @@ use Rattle.line_laws.proofs.HeardOctets.{eui_octets, unread_octets}
 use Rattle.node_rules.specs.MemoryDrafts.{in_memory}
 use Rattle.node_rules.specs.Coordinators as coordinators
 use Rattle.node_rules.specs.NodeSteps.{of_station}
-use Rattle.line_laws.specs.Stores.{IsHeld, IsReadable, IsKept, HasEui}
+use Rattle.line_laws.specs.Stores.{IsHeld, IsReadable, IsKept, HasEui, IsPair}
 use Rattle.line_laws.specs.Sizes.{IsMemorySized}
 use Rattle.line_laws.specs.Owed.{AreOctets, KeepsRanges}
 use Rattle.line_laws.proofs.HeadsSaid.{head_ranges}
@@ -49,8 +49,10 @@ use Rattle.line_laws.proofs.MemoryDraftForms.{AnyAnswer, HandedIn, MadeBy}
 use Rattle.line_laws.proofs.CoordinatorForms.{HandsNothingUp, IsGranted, coordinator_is, allow_is, depot_is, rekey_is, activate_self_is, challenge_is, activate_is, kick_is}
 use Rattle.line_laws.proofs.CallForms.{Nothing}
 use Rattle.line_laws.proofs.Nodes.{PlanOk, plan_ok}
+use Rattle.line_laws.proofs.MarkWrites.{away_leads}
+use Rattle.line_laws.proofs.MarkNodes.{accept_marks}
 use Rattle.line_laws.proofs.Frontiers.{marks_high}
-use Rattle.line_laws.proofs.NodeCalls.{handed_counter, RoutesFit, heard_given, call_given, heard_offers, call_offers, granted_keys, few_of, handed_kept, handed_within}
+use Rattle.line_laws.proofs.NodeCalls.{handed_same, RoutesFit, heard_given, call_given, heard_offers, call_offers, granted_keys, few_of, handed_kept, handed_within}
 
 -- # The coordinator
 
@@ -60,7 +62,7 @@ heard_euis m got cost note now routes u join e read = ((join_ranges u.body join 
 
 -- a pair key of a line
 abbrev HasPair : Eui → Key → Type 0
-HasPair eui psk = length psk.0 ≡ 16
+HasPair eui psk = IsPair psk
 
 -- what an order does to the coordinator's ring
 abbrev Ordered : RingWord → Type 0
@@ -71,7 +73,7 @@ module _ (ciphers : Ciphers) (fits : KeepsRanges ciphers) (own : coordinators.Co
   L granted = IsGranted m granted
 
   coordinator_ok : {H F : Type 0} (g : Given) → ((address : Option ℕ) (by origin : ℕ) (rank : Rank) → Offered g address by origin rank → EntryFits (routing.offered_entry origin rank by g.now))
-      → (ends : Ends F) (K : Memory → H → Type 0) (N : H → Type 0) → ((n : Memory) (answer : H) → K n answer → (r : Records) → IsKept Coordinator m r → IsKept Coordinator n r) → ((n : Memory) (answer : H) → K n answer → IsMemorySized m → IsMemorySized n) → ((n : Memory) (answer : H) → K n answer → n.station.counter ≡ m.station.counter)
+      → (ends : Ends F) (K : Memory → H → Type 0) (N : H → Type 0) → ((n : Memory) (answer : H) → K n answer → (r : Records) → IsKept Coordinator m r → IsKept Coordinator n r) → ((n : Memory) (answer : H) → K n answer → IsMemorySized m → IsMemorySized n) → ((n : Memory) (answer : H) → K n answer → (n.station.counter ≡ m.station.counter) × (n.station.marks ≡ m.station.marks))
       → (p : Plan Memory (Result H F)) → Planned in_memory ends m K (MadeBy Ordered (IsGranted m) HasPair HasEui g m N) p → PlanOk Coordinator m p
   coordinator_ok g offers ends K N kept sized same p s = plan_ok Coordinator Ordered (IsGranted m) HasPair HasEui g m (λ w k. k) offers (λ eui k. k) (λ eui psk k. k) (λ b e change. refl) (granted_keys Coordinator m) ends K kept sized same p
       (planned_weaker p (λ n answer k. k) (few_of N m Ordered (IsGranted m) HasPair HasEui g) s) h
@@ -81,7 +83,7 @@ module _ (ciphers : Ciphers) (fits : KeepsRanges ciphers) (own : coordinators.Co
 
   pub coordinator_hears_ok : (got : Accepted) (cost note now : ℕ) → RoutesFit got → PlanOk Coordinator m (coordinators.hear_coordinator own m got cost note now)
   coordinator_hears_ok got cost note now routes = coordinator_ok (heard_given got cost note now) (heard_offers got cost note now routes) dropped (HandedIn coordinator_heard.Station (heard_given got cost note now) m) HandsNothingUp
-      (handed_kept Coordinator m h coordinator_heard.Station (heard_given got cost note now)) (handed_within Coordinator m h coordinator_heard.Station (heard_given got cost note now)) (handed_counter m coordinator_heard.Station (heard_given got cost note now)) _
+      (handed_kept Coordinator m h coordinator_heard.Station (heard_given got cost note now)) (handed_within Coordinator m h coordinator_heard.Station (heard_given got cost note now)) (handed_same m coordinator_heard.Station (heard_given got cost note now)) _
       (coordinator_is Ordered HasPair HasEui (heard_given got cost note now) own m (λ to there join said. omega arith) got refl (heard_euis m got cost note now routes))
 
   pub allow_ok : (eui : Eui) (psk : Key) → HasEui eui → HasPair eui psk → PlanOk Coordinator m (coordinators.allow m eui psk)
@@ -147,8 +149,8 @@ module _ (ciphers : Ciphers) (fits : KeepsRanges ciphers) (octets : List ℕ) (a
 
   accepting_ok : (role : Role) (m : Memory) (p : Accepting) → Accepts m.station (arrived ciphers octets) p → IsMemorySized m → PlanOk role m (of_station m p)
   unfolding resting marking
-  accepting_ok role m p (Turned reason) h = record { leads = leads_beside (IsKept role) m m (λ r k. k); sized = h; few = omega arith; rises = λ fits. record { high = tt; with_own_number = omega arith }; from = tt }
-  accepting_ok role m p (Plain got plain) h = record { leads = leads_beside (IsKept role) m m (λ r k. k); sized = h; few = omega arith; rises = λ fits. record { high = tt; with_own_number = omega arith }; from = tt }
+  accepting_ok role m p (Turned reason) h = record { leads = leads_beside (IsKept role) m m (λ r k. k); sized = h; few = omega arith; rises = λ fits. record { high = tt; with_own_number = omega arith }; from = tt; marked = λ first. away_leads first m m [] tt refl }
+  accepting_ok role m p (Plain got plain) h = record { leads = leads_beside (IsKept role) m m (λ r k. k); sized = h; few = omega arith; rises = λ fits. record { high = tt; with_own_number = omega arith }; from = tt; marked = λ first. away_leads first m m [] tt refl }
   accepting_ok role m p (Marked from counter got a) h =
       let in_range = admitted_fits m.station from counter got a in
       record {
@@ -158,6 +160,7 @@ module _ (ciphers : Ciphers) (fits : KeepsRanges ciphers) (octets : List ℕ) (a
         few = omega arith;
         rises = λ fits. record { high = marks_high m.station.counter.limit m.station.marks from counter; with_own_number = omega arith };
         from = tt;
+        marked = λ first. accept_marks first m from counter in_range.0 in_range.1 a.room;
       }
 
   pub accept_ok : (role : Role) (m : Memory) (own : Eui) → IsMemorySized m → PlanOk role m (of_station m (accept m.station own (arrived ciphers octets)))

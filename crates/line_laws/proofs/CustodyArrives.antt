@@ -39,8 +39,9 @@ use Rattle.line_laws.proofs.RangeFrames.{IsSent}
 use Rattle.line_laws.proofs.CustodyPlans.{Agrees}
 use Rattle.line_laws.proofs.CustodyWhole.{OneSend}
 use Rattle.line_laws.proofs.CustodyWorld.{unit_back}
+use Rattle.line_laws.proofs.CustodyTaking.{TakesHome, taking_true}
 use Rattle.line_laws.proofs.CustodyDeliver.{WhatCame, PlainCame, LetterCame, opening}
-use Rattle.line_laws.proofs.CustodyTrue.{SentIsOf, StationIsTrue, PlanIsTrue, AnswerIsOf, MeterUpIsOf, CoordinatorUpIsOf, KeepsAddress, HearsTrue, letter_true, plain_true, meter_hears_true, coordinator_hears_true, DidTrue, acts_true}
+use Rattle.line_laws.proofs.CustodyTrue.{SentIsOf, StationIsTrue, PlanIsTrue, AnswerIsOf, MeterUpIsOf, CoordinatorUpIsOf, HearsTrue, letter_true, plain_true, coordinator_hears_true, DidTrue, acts_true}
 
 -- A flight with a note is of the send of that note.
 pub record FlightIsOf (ciphers : Ciphers) (S : ℕ → SentAs → Type 0) (f : Flight) : Type 0 where
@@ -89,7 +90,7 @@ record HeardTrue (S : ℕ → SentAs → Type 0) (own : ℕ) (d : NodeStep Recep
   up : ReceptionIsOf S own d.answer
 
 module _ (ciphers : Ciphers) (S : ℕ → SentAs → Type 0) (one : OneSend S) (own : ℕ) (got : Accepted) (cost note now : ℕ) (comes : HearsTrue S (heard_given got cost note now)) where
-  hears_true : (x : Node) → NodeTrue S own x → ((psk : Key) (m : Memory) → x.memory ≡ Some m → KeepsAddress own (heard_given got cost note now) (identity ciphers x psk) m) → ((m : Memory) → x.memory ≡ Some m → Agrees (heard_given got cost note now) m.station) → HeardTrue S own (hears ciphers x got cost note now)
+  hears_true : (x : Node) → NodeTrue S own x → ((psk : Key) (m : Memory) → x.role ≡ Meter psk → x.memory ≡ Some m → TakesHome own got cost note now (identity ciphers x psk) m) → ((m : Memory) → x.memory ≡ Some m → Agrees (heard_given got cost note now) m.station) → HeardTrue S own (hears ciphers x got cost note now)
   hears_true x ok stays_at agrees = by_role x.role refl
     where
       By : Role → Type 0
@@ -106,7 +107,7 @@ module _ (ciphers : Ciphers) (S : ℕ → SentAs → Type 0) (one : OneSend S) (
           subst By (sym e) (record { node = d.station; frames = d.frames; up = coordinator_told S own _ d.up })
       by_role (Meter psk) e =
           let d = acts_true S own (MeterUpIsOf S own) x drops.Store (λ m. meters.hear_meter (identity ciphers x psk) m got cost note now) ok
-          (λ m there h. meter_hears_true S one own got cost note now comes (identity ciphers x psk) m (stays_at psk m there) h (agrees m there)) in
+          (λ m there h. taking_true S one own got cost note now comes (identity ciphers x psk) m (stays_at psk m e there) h (agrees m there)) in
           subst By (sym e) (record { node = d.station; frames = d.frames; up = meter_told S own _ d.up })
 
 -- # Flights
@@ -122,7 +123,7 @@ module _ (ciphers : Ciphers) (opens : OpensWhatItSeals ciphers) (S : ℕ → Sen
   flies_true (UpFrame agent from message) fits h = record { unit = λ u e. absurd (none-some u e) }
   flies_true (Down from message) fits h = record { unit = λ u e. absurd (none-some u e) }
 
-  fly_true : (fs : List Sent) → All IsSent fs → All (SentIsOf S) fs → All (FlightIsOf ciphers S) (map (λ frame. flight_by number (spelled ciphers frame)) fs)
+  pub fly_true : (fs : List Sent) → All IsSent fs → All (SentIsOf S) fs → All (FlightIsOf ciphers S) (map (λ frame. flight_by number (spelled ciphers frame)) fs)
   fly_true [] fits all = All-nil (FlightIsOf ciphers S)
   fly_true (f ∷ fs) fits all = All-cons (FlightIsOf ciphers S) (flight_by number (spelled ciphers f)) _ (flies_true f (All-head IsSent f fs fits) (All-head (SentIsOf S) f fs all)) (fly_true fs (All-tail IsSent f fs fits) (All-tail (SentIsOf S) f fs all))
 
@@ -165,7 +166,7 @@ module _ (ciphers : Ciphers) (opens : OpensWhatItSeals ciphers) (S : ℕ → Sen
       subst (λ (k : Handed). HandedIsOf S own k.note k.octets) same (t u refl)
 
   pub arrives_true : NodeTrue S own x → All IsSent accepting.frames
-      → ((got : Accepted) → accepting.answer ≡ Ok got → ((psk : Key) (m : Memory) → accepting.node.memory ≡ Some m → KeepsAddress own (heard_given got cost (note_by w octets got.path) w.clock) (identity ciphers accepting.node psk) m) × ((m : Memory) → accepting.node.memory ≡ Some m → Agrees (heard_given got cost (note_by w octets got.path) w.clock) m.station)
+      → ((got : Accepted) → accepting.answer ≡ Ok got → ((psk : Key) (m : Memory) → accepting.node.role ≡ Meter psk → accepting.node.memory ≡ Some m → TakesHome own got cost (note_by w octets got.path) w.clock (identity ciphers accepting.node psk) m) × ((m : Memory) → accepting.node.memory ≡ Some m → Agrees (heard_given got cost (note_by w octets got.path) w.clock) m.station)
       × All IsSent (hears ciphers accepting.node got cost (note_by w octets got.path) w.clock).frames)
       → (arrives ciphers w number x octets cost).1.happened.forged ≡ false → LeavesTrue (arrives ciphers w number x octets cost).0 (arrives ciphers w number x octets cost).1
   unfolding arrives told

@@ -98,7 +98,7 @@ send_did n i weight x plan f = by_memory x.memory refl
     by_memory (Some m) e = carried m e
 
 -- the word of a refused send counts as none taken
-word_refused : (e : SendRefusal) → is_taken (send_word e) ≡ false
+pub word_refused : (e : SendRefusal) → is_taken (send_word e) ≡ false
 word_refused sends.Halted = refl
 word_refused sends.NotJoined = refl
 word_refused sends.BadSize = refl
@@ -108,7 +108,7 @@ word_refused sends.SeqSpent = refl
 word_refused sends.CounterSpent = refl
 word_refused sends.Store = refl
 
-word_taken : (h : SentHow) → is_taken (sent_word (Ok h)) ≡ true
+pub word_taken : (h : SentHow) → is_taken (sent_word (Ok h)) ≡ true
 word_taken how.Sent = refl
 word_taken how.Waiting = refl
 

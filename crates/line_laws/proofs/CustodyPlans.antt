@@ -44,7 +44,7 @@ module _ (W : RingWord → Type 0) (g : Given) (n i : ℕ) where
   made_holds s d Starts = omega arith
   made_holds s d (Ranks by origin rank e made o fits) = made_holds s e made
   made_holds s d (Numbers e made left) = made_holds s e made
-  made_holds s d (TagsOn e made) = made_holds s e made
+  made_holds s d (TagsOn e made first) = made_holds s e made
   made_holds s d (Rings x e made change) = made_holds s e made
   made_holds s d (Idles e made) = zero-le
   made_holds s d (Loses lost by e made) = made_holds s e made

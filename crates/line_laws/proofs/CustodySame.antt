@@ -122,7 +122,7 @@ module _ (S : ℕ → SentAs → Type 0) where
     made_true d Starts = first
     made_true d (Ranks by origin rank e made o fits) = let h = made_true e made in record { address = h.address; bodies = h.bodies; units = h.units }
     made_true d (Numbers e made left) = let h = made_true e made in record { address = h.address; bodies = h.bodies; units = h.units }
-    made_true d (Tags e made) = let h = made_true e made in record { address = h.address; bodies = h.bodies; units = h.units }
+    made_true d (Tags e made first) = let h = made_true e made in record { address = h.address; bodies = h.bodies; units = h.units }
     made_true d (Rings x e made change) = let h = made_true e made in record { address = ring_address W g own known e.memory.ring x change h.address; bodies = h.bodies; units = h.units }
     made_true d (Idles e made) = let h = made_true e made in record { address = h.address; bodies = All-nil (BodyIsOf S own); units = h.units }
     made_true d (Loses lost by e made) = let h = made_true e made in record { address = h.address; bodies = h.bodies; units = h.units }

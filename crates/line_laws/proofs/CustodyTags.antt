@@ -1,6 +1,7 @@
 -- Where tags name one send, a piece that comes has the note of what is gathered under its name; and an unforged arrival keeps all parts at once.
 use Rattle.std.proofs.Common.{◌≡◌, ◌≢◌, ⊎_elim, ℕ, ◌<◌, Bool, false, List, [], ◌∷◌, ◌++◌, length, Option, Some, Result, Ok, Err, sym, ap, ◌∙◌, subst, arith}
 use Rattle.std.specs.Prelude.{All, IfSome, slice_get, slice_set, ◌==◌, ◌&&◌, ⊤}
+use Rattle.std.specs.List.{list_any}
 use Rattle.std.specs.Option.{option_to_list}
 use Rattle.std.proofs.lemmas.Bool.{eqb-true, and_parts, or_parts, cases_eq}
 use Rattle.std.proofs.lemmas.Option.{same_Some}
@@ -18,11 +19,11 @@ use Rattle.node_rules.specs.declared.refusal.FrameRefusal.{FrameRefusal}
 use Rattle.node_rules.specs.declared.refusal.FrameRefusal.TheVariants as frames
 use Rattle.node_rules.specs.Ciphers.{Ciphers}
 use Rattle.node_rules.specs.Frames.{arrived}
-use Rattle.node_rules.specs.Memory.{StationMemory, Memory, Node}
+use Rattle.node_rules.specs.Memory.{StationMemory, Memory, Meter, Node}
 use Rattle.node_rules.specs.Accepting.{accept}
 use Rattle.node_rules.specs.NodeSteps.{NodeStep, acts, of_station}
 use Rattle.line_rules.specs.Steps.{identity, hears, note_by, forged_by, arrives, heard, told, ran, trace_of, happened}
-use Rattle.line_rules.specs.Worlds.{Flight, Trace, World}
+use Rattle.line_rules.specs.Worlds.{Flight, Trace, World, is_forged_tag}
 use Rattle.line_rules.specs.declared.happenings.Handed.{Handed}
 use Rattle.node_rules.specs.Ciphers.{OpensWhatItSeals}
 use Rattle.line_laws.specs.Letters.{AreFlights}
@@ -35,7 +36,8 @@ use Rattle.line_laws.proofs.RangeArrives.{NodeRanged, JoinsWell, accepts_ranged,
 use Rattle.line_laws.proofs.CustodyPieces.{NameHasNote}
 use Rattle.line_laws.proofs.CustodyPlans.{Agrees}
 use Rattle.line_laws.proofs.CustodyWhole.{OneSend}
-use Rattle.line_laws.proofs.CustodyTrue.{StationIsTrue, KeepsAddress, HearsTrue, DidTrue, acts_true}
+use Rattle.line_laws.proofs.CustodyTaking.{TakesHome}
+use Rattle.line_laws.proofs.CustodyTrue.{StationIsTrue, HearsTrue, DidTrue, acts_true}
 use Rattle.line_laws.proofs.CustodyDeliver.{opening, arrival_in_custody}
 use Rattle.line_laws.proofs.CustodyArrives.{FlightIsOf, NodeTrue, HandedIsOf, accepts_true, came_true, arrives_true}
 
@@ -96,15 +98,28 @@ module _ (ciphers : Ciphers) (opens : OpensWhatItSeals ciphers) (live : World �
       by_answer (Ok g) is h = let same : g ≡ got = cc in subst (λ (k : Accepted). forged_by w octets k.path ≡ false) same (or_parts _ _ h).0
       by_answer (Err reason) is h = absurd (cc)
 
+  -- and no tag that it opened is
+  pub untagged_by : (arrives ciphers w number x octets cost).1.happened.forged ≡ false → (got : Accepted) → accepting.answer ≡ Ok got → list_any (is_forged_tag w.made) (hears ciphers accepting.node got cost (note_by w octets got.path) w.clock).opened ≡ false
+  unfolding arrives
+  untagged_by unforged got e = by_answer accepting.answer e unforged
+    where
+      after : Result Accepted FrameRefusal → World × Trace
+      after (Ok a) = heard ciphers w number accepting.node octets a cost
+      after (Err reason) = (told ciphers (ran w) number accepting, trace_of (happened w (frame_word reason)))
+
+      by_answer : (a : Result Accepted FrameRefusal) → a ≡ Ok got → (after a).1.happened.forged ≡ false → list_any (is_forged_tag w.made) (hears ciphers accepting.node got cost (note_by w octets got.path) w.clock).opened ≡ false
+      by_answer (Ok g) is h = let same : g ≡ got = cc in subst (λ (k : Accepted). list_any (is_forged_tag w.made) (hears ciphers accepting.node k cost (note_by w octets k.path) w.clock).opened ≡ false) same (or_parts _ _ h).1
+      by_answer (Err reason) is h = absurd (cc)
+
   -- All parts at once: what is owed are marks and counters, addresses, and the words of a joining.
-  pub arrival_keeps : ((got : Accepted) → accepting.answer ≡ Ok got → ((psk : Key) (m : Memory) → accepting.node.memory ≡ Some m → KeepsAddress (home number) (heard_given got cost (note_by w octets got.path) w.clock) (identity ciphers accepting.node psk) m) × JoinsWell ciphers accepting.node got cost (note_by w octets got.path) w.clock)
+  pub arrival_keeps : ((got : Accepted) → accepting.answer ≡ Ok got → ((psk : Key) (m : Memory) → accepting.node.role ≡ Meter psk → accepting.node.memory ≡ Some m → TakesHome (home number) got cost (note_by w octets got.path) w.clock (identity ciphers accepting.node psk) m) × JoinsWell ciphers accepting.node got cost (note_by w octets got.path) w.clock)
       → (arrives ciphers w number x octets cost).1.happened.forged ≡ false → LiveFalls live w (arrives ciphers w number x octets cost).0 (opened_at w octets accepting.answer)
       → Custody ciphers live S home (arrives ciphers w number x octets cost).0 (before ++ option_to_list (arrives ciphers w number x octets cost).1.happened.up)
       × ((u : Handed) → (arrives ciphers w number x octets cost).1.happened.up ≡ Some u → HandedIsOf S (home number) u.note u.octets)
   arrival_keeps owed unforged falls =
       let ok : NodeRanged x = at_place NodeRanged w.nodes number x here c.ranged in
       let sent : All IsSent accepting.frames = (accepts_ranged ciphers opens w c.flights number x octets cost ok).frames in
-      let well : (got : Accepted) → accepting.answer ≡ Ok got → ((psk : Key) (m : Memory) → accepting.node.memory ≡ Some m → KeepsAddress (home number) (heard_given got cost (note_by w octets got.path) w.clock) (identity ciphers accepting.node psk) m)
+      let well : (got : Accepted) → accepting.answer ≡ Ok got → ((psk : Key) (m : Memory) → accepting.node.role ≡ Meter psk → accepting.node.memory ≡ Some m → TakesHome (home number) got cost (note_by w octets got.path) w.clock (identity ciphers accepting.node psk) m)
       × ((m : Memory) → accepting.node.memory ≡ Some m → Agrees (heard_given got cost (note_by w octets got.path) w.clock) m.station) × All IsSent (hears ciphers accepting.node got cost (note_by w octets got.path) w.clock).frames
       = λ got e. (
         (owed got e).0,

@@ -67,7 +67,7 @@ module _ (S : ℕ → SentAs → Type 0) (own : ℕ) where
   made_held W g s d Starts h = h
   made_held W g s d (Ranks by origin rank e made o fits) h = made_held W g s e made h
   made_held W g s d (Numbers e made left) h = made_held W g s e made h
-  made_held W g s d (TagsOn e made) h = made_held W g s e made h
+  made_held W g s d (TagsOn e made first) h = made_held W g s e made h
   made_held W g s d (Rings x e made change) h = made_held W g s e made h
   made_held W g s d (Idles e made) h = All-nil (HeldIsOf S own)
   made_held W g s d (Loses lost by e made) h = made_held W g s e made h

@@ -131,7 +131,7 @@ module _ (W : RingWord → Type 0) (g : Given) (n i brought : ℕ) (some : 0 < n
   made_moves d Starts = omega arith
   made_moves d (Ranks by origin rank e made o fits) = made_moves e made
   made_moves d (Numbers e made left) = made_moves e made
-  made_moves d (Tags e made) = made_moves e made
+  made_moves d (Tags e made first) = made_moves e made
   made_moves d (Rings x e made change) = made_moves e made
   made_moves d (Idles e made) = let h = made_moves e made in omega arith
   made_moves d (Loses lost by e made) = made_moves e made

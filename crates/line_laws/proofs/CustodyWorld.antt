@@ -59,7 +59,7 @@ module _ (ciphers : Ciphers) (opens : OpensWhatItSeals ciphers) where
 -- # Sums
 
 -- one of a list is another one
-set_sum : {X : Type 0} (f : X → ℕ) (xs : List X) (k : ℕ) (x y : X) → slice_get xs k ≡ Some x → sum_by f (slice_set xs k y) + f x ≡ sum_by f xs + f y
+pub set_sum : {X : Type 0} (f : X → ℕ) (xs : List X) (k : ℕ) (x y : X) → slice_get xs k ≡ Some x → sum_by f (slice_set xs k y) + f x ≡ sum_by f xs + f y
 set_sum f [] k x y e = absurd (none-some x e)
 set_sum f (z ∷ xs) zero x y e =
     let same : z ≡ x = same_Some z x e in
@@ -87,7 +87,7 @@ if_live : (b : Bool) (k : ℕ) → cond b k 0 ≤ k
 if_live true k = omega arith
 if_live false k = zero-le
 
-live_less : (a b : Bool) (k : ℕ) → (a ≡ true → b ≡ true) → cond a k 0 ≤ cond b k 0
+pub live_less : (a b : Bool) (k : ℕ) → (a ≡ true → b ≡ true) → cond a k 0 ≤ cond b k 0
 live_less false b k h = zero-le
 live_less true true k h = omega arith
 live_less true false k h = let x = h refl in absurd (cc)
@@ -141,7 +141,7 @@ module _ (ciphers : Ciphers) (live : World → Flight → Bool) (n i : ℕ) (w v
 issued_once : (n sends : ℕ) → issued n sends ≤ 1
 issued_once n sends = grind (arith, nat_tests)
 
-up_itself : (n note size : ℕ) → note ≡ n → 0 < size → weigh n note (below 0 size) ≡ 1
+pub up_itself : (n note size : ℕ) → note ≡ n → 0 < size → weigh n note (below 0 size) ≡ 1
 up_itself n note size e h = grind (arith, nat_tests)
 
 two_terms : {X : Type 0} (f : X → ℕ) (xs : List X) (i j : ℕ) (d : X) → i < j → j < length xs → f (get_or xs i d) + f (get_or xs j d) ≤ sum_by f xs

@@ -84,12 +84,12 @@ module _ (ciphers : Ciphers) (P : Flight → Type 0) (sent : (number : ℕ) (f :
   every_flight w event s (Makes e x is) all = all
   every_flight w event s (Rests e quiet) all = all
   every_flight w event s (Shows number x) all = all
-  every_flight w event s (Acts e number x A halted plan reads there call word) all = told_all (ran w) number _ all
+  every_flight w event s (Acts e number x A halted plan reads there call word asked) all = told_all (ran w) number _ all
   every_flight w event s (BreaksLink number next x a there call) all = told_all (ran w) number _ all
-  every_flight w event s (SendsFrom from to datagram x a there call) all = sending_all w from to datagram (tag_of x) _ all
+  every_flight w event s (SendsFrom from to datagram x a there call target) all = sending_all w from to datagram (tag_of x) _ all
   every_flight w event s (AllowsMeter number y c psk there call meter) all = told_all (ran w) 0 _ all
   every_flight w event s (Sets e quiet number x plan there open_is is) all = told_all (set_up w) number _ all
-  every_flight w event s (SetsTwo e quiet a b cost x y p q hx hy apart open_is first second fresh) all = told_all _ b _ (told_all (set_up w) a _ all)
+  every_flight w event s (SetsTwo e quiet a b cost x y p q hx hy apart open_is first second fresh near) all = told_all _ b _ (told_all (set_up w) a _ all)
   every_flight w event s (Provides number x c psk g d ne open_is hx hc pair same is) all = told_all _ number _ (told_all (set_up w) 0 _ all)
   every_flight w event s (TurnsDown e number x octets reason d there says comes same is) all = told_all (ran w) number _ all
   every_flight w event s (Hears e number x octets cost got there says comes low is) all = told_all (ran w) number _ all
@@ -255,11 +255,11 @@ module _ (ciphers : Ciphers) (fits : KeepsRanges ciphers) (w : World) (ok : Worl
   senders event s (Makes e x is) = none_new w (made_node w x).0 refl
   senders event s (Rests e quiet) = none_new w (ran w) refl
   senders event s (Shows number x) = none_new w (ran w) refl
-  senders event s (Acts e number x A halted plan reads there call word) = told_one (ran w) number x (answering reads (acts x halted plan)) refl refl there (answered reads (acts x halted plan) (call_sent number x A halted plan there call))
+  senders event s (Acts e number x A halted plan reads there call word asked) = told_one (ran w) number x (answering reads (acts x halted plan)) refl refl there (answered reads (acts x halted plan) (call_sent number x A halted plan there call))
   senders event s (BreaksLink number next x a there call) =
       let plan : Memory → Plan Memory Answer = λ m. changing said.Broken (with_station (calls.broke a m.station) m) in
       told_one (ran w) number x (acts x said.Halted plan) refl refl there (call_sent number x Answer said.Halted plan there call)
-  senders event s (SendsFrom from to datagram x a there call) =
+  senders event s (SendsFrom from to datagram x a there call target) =
       let plan : Memory → Plan Memory (Result SentHow SendRefusal) = λ m. of_station m (calls.send m.station a datagram (w.sends + 1) w.clock) in
       sending_senders from to datagram x (answering sent_word (acts x (Err sends.Halted) plan)) there (answered sent_word (acts x (Err sends.Halted) plan) (call_sent from x _ (Err sends.Halted) plan there call))
   senders event s (AllowsMeter number y c psk there call meter) =
@@ -267,7 +267,7 @@ module _ (ciphers : Ciphers) (fits : KeepsRanges ciphers) (w : World) (ok : Worl
       told_one (ran w) 0 c (acts c (Err orders.Halted) plan) refl refl there (call_sent 0 c _ (Err orders.Halted) plan there call)
   senders event s (Sets e quiet number x plan there open_is is) =
       told_one (set_up w) number x (acts x (Ok tt) (λ m. of_station m (plan m.station))) refl refl there (call_sent number x _ (Ok tt) (λ m. of_station m (plan m.station)) there (preset_call ciphers w number x plan open_is is))
-  senders event s (SetsTwo e quiet a b cost x y p q hx hy apart open_is first second fresh) =
+  senders event s (SetsTwo e quiet a b cost x y p q hx hy apart open_is first second fresh near) =
       let u = told ciphers (set_up w) a (offered_near x q cost w.clock) in
       none_new w (told ciphers u b (offered_near y p cost w.clock)) (ap length (told_silent ciphers u b (offered_near y p cost w.clock) (near_frames y p) ∙ told_silent ciphers (set_up w) a (offered_near x q cost w.clock) (near_frames x q)))
     where

@@ -134,7 +134,7 @@ unfolding with_rank with_own_number with_next_tag with_ring with_routing_by goes
 made_high floor W g s d Starts h = h
 made_high floor W g s d (Ranks by origin rank e made o fits) h = High-append floor e.puts _ (made_high floor W g s e made h) (offer_high floor e.memory.routing (routing.offered_entry origin rank by g.now) g.now)
 made_high floor W g s d (Numbers e made left) h = High-append floor e.puts _ (made_high floor W g s e made h) (number_high floor e.memory.own_number)
-made_high floor W g s d (Tags e made) h = High-append floor e.puts _ (made_high floor W g s e made h) (Elsewhere (omega arith), tt)
+made_high floor W g s d (Tags e made first) h = High-append floor e.puts _ (made_high floor W g s e made h) (Elsewhere (omega arith), tt)
 made_high floor W g s d (Rings x e made change) h = High-append floor e.puts _ (made_high floor W g s e made h) (Elsewhere (omega arith), tt)
 made_high floor W g s d (Idles e made) h = made_high floor W g s e made h
 made_high floor W g s d (Loses lost by e made) h = made_high floor W g s e made h
@@ -201,7 +201,7 @@ unfolding with_rank with_own_number with_next_tag with_ring with_routing_by goes
 made_plain W g s d Starts h = h
 made_plain W g s d (Ranks by origin rank e made o fits) h = made_plain W g s e made h
 made_plain W g s d (Numbers e made left) h = made_plain W g s e made h
-made_plain W g s d (Tags e made) h = made_plain W g s e made h
+made_plain W g s d (Tags e made first) h = made_plain W g s e made h
 made_plain W g s d (Rings x e made change) h = made_plain W g s e made h
 made_plain W g s d (Idles e made) h = made_plain W g s e made h
 made_plain W g s d (Loses lost by e made) h = made_plain W g s e made h

@@ -1,5 +1,5 @@
 -- What a node makes of octets that it accepted is octets: units, joining messages that are handed on, and packets in them.
-use Rattle.std.proofs.Common.{◌≡◌, ℕ, ◌+◌, Bool, true, false, List, length, Option, Some, None, Result, Ok, Err, refl, subst}
+use Rattle.std.proofs.Common.{◌≡◌, ℕ, ◌+◌, ◌<◌, Bool, true, false, List, length, Option, Some, None, Result, Ok, Err, refl, subst}
 use Rattle.std.specs.Prelude.{if◌then◌else◌, is_some, nat_lt, ◌==◌, IfSome}
 use Rattle.std.specs.Option.{option_map_or}
 use Rattle.std.proofs.lemmas.Option.{same_Some}
@@ -16,6 +16,8 @@ use Rattle.loadng_messages.specs.Reading.{message_in}
 use Rattle.mesh_header.specs.declared.unit.Mesh.{Mesh}
 use Rattle.mesh_header.specs.declared.unit.Unit.{Unit as MeshUnit}
 use Rattle.mesh_header.specs.declared.unit.Unit.TheVariants as units
+use Rattle.mesh_header.proofs.Readings.{unit_spelled}
+use Rattle.mesh_header.specs.Grammar.{IsUnit}
 use Rattle.mesh_header.specs.Faults.{origin_at, unit_fault}
 use Rattle.mesh_header.specs.Reading.{unit_in, fields_in, load_in, mesh_in, first_piece_at, later_piece_at}
 use Rattle.node_rules.specs.declared.heard.Accepted.{Accepted}
@@ -23,6 +25,8 @@ use Rattle.node_rules.specs.declared.heard.Heard.{Heard}
 use Rattle.node_rules.specs.declared.heard.Heard.TheVariants as heard
 use Rattle.node_rules.specs.declared.heard.Path.{Path}
 use Rattle.node_rules.specs.declared.heard.Path.TheVariants as paths
+use Rattle.node_rules.specs.declared.heard.Way.{Way}
+use Rattle.node_rules.specs.declared.heard.Way.TheVariants.{Mesh as OverMesh}
 use Rattle.node_rules.specs.declared.refusal.Dropped.{Dropped}
 use Rattle.node_rules.specs.declared.refusal.Dropped.TheVariants.{BadUnit}
 use Rattle.node_rules.specs.Memory.{StationMemory, address_of, next_hop}
@@ -65,8 +69,29 @@ unit_octets payload unit are = by_fault (is_some (unit_fault payload))
 
 -- # What is handed on unread
 
+-- over the mesh something comes from one node
+abbrev pub WayFits : Way → Type 0
+WayFits (OverMesh origin) = origin < 0xFFFE
+WayFits _ = Unit {0}
+
+-- the octets that a unit brings, and from one node where it is a command
+abbrev UnitBrings : MeshUnit → Type 0
+UnitBrings (units.Whole mesh octets) = AreOctets octets
+UnitBrings (units.Part mesh piece) = AreOctets piece.octets
+UnitBrings (units.Carried mesh body) = AreOctets body × (mesh.origin < 0xFFFE)
+UnitBrings (units.Local code body) = AreOctets body
+
+unit_brings : (payload : List ℕ) (unit : MeshUnit) → AreOctets payload → unit_in payload ≡ Some unit → UnitBrings unit
+unit_brings payload unit are e = by_unit unit (unit_octets payload unit are e) (unit_spelled unit payload are e).0
+  where
+    by_unit : (unit : MeshUnit) → UnitOctets unit → IsUnit unit → UnitBrings unit
+    by_unit (units.Whole mesh octets) o f = o
+    by_unit (units.Part mesh piece) o f = o
+    by_unit (units.Carried mesh body) o f = (o, f.origin)
+    by_unit (units.Local code body) o f = o
+
 abbrev Brings : Heard → Type 0
-Brings (heard.Joining way body) = AreOctets body
+Brings (heard.Joining way body) = AreOctets body × WayFits way
 Brings _ = Unit {0}
 
 abbrev Tells : Result Heard Dropped → Type 0
@@ -136,19 +161,19 @@ module _ (l : StationMemory) (cost note now : ℕ) where
       by_outcome pieces.Held = tt
       by_outcome (pieces.Whole n octets) = tt
 
-  mesh_is : (own : ℕ) (unit : MeshUnit) → UnitOctets unit → Is (hear_over_mesh l own unit note now)
+  mesh_is : (own : ℕ) (unit : MeshUnit) → UnitBrings unit → Is (hear_over_mesh l own unit note now)
   mesh_is own (units.Whole mesh octets) are = choose_is _ _ _ (rest_is _ _ tt) (forward_is own mesh _ (next_hop l mesh.to))
   mesh_is own (units.Part mesh piece) are = choose_is _ _ _ (gathered_is mesh.origin _) (forward_is own mesh _ (next_hop l mesh.to))
   mesh_is own (units.Carried mesh body) are = choose_is _ _ _ (rest_is _ _ are) (forward_is own mesh _ (next_hop l mesh.to))
   mesh_is own (units.Local code body) are = drop_is _
 
-  sealed_is : (own by : ℕ) (all : Bool) (unit : MeshUnit) → UnitOctets unit → Is (hear_sealed l own by all unit cost note now)
+  sealed_is : (own by : ℕ) (all : Bool) (unit : MeshUnit) → UnitBrings unit → Is (hear_sealed l own by all unit cost note now)
   sealed_is own by all (units.Local code body) are = choose_is _ _ _ (message_in_is own by all (message_in body)) (choose_is _ _ _ (drop_is _) (rest_is _ _ tt))
   sealed_is own by all (units.Whole mesh octets) are = choose_is _ _ _ (drop_is _) (mesh_is own (units.Whole mesh octets) are)
   sealed_is own by all (units.Part mesh piece) are = choose_is _ _ _ (drop_is _) (mesh_is own (units.Part mesh piece) are)
   sealed_is own by all (units.Carried mesh body) are = choose_is _ _ _ (drop_is _) (mesh_is own (units.Carried mesh body) are)
 
-  plain_is : (answer : List ℕ → Heard) → ((body : List ℕ) → AreOctets body → Brings (answer body)) → (unit : MeshUnit) → UnitOctets unit → Is (hear_plain l answer (is_joining unit))
+  plain_is : (answer : List ℕ → Heard) → ((body : List ℕ) → AreOctets body → Brings (answer body)) → (unit : MeshUnit) → UnitBrings unit → Is (hear_plain l answer (is_joining unit))
   plain_is answer f (units.Local code body) are = by_code (code == 2)
     where
       by_code : (b : Bool) → Is (hear_plain l answer (if b then Some body else None))
@@ -158,30 +183,33 @@ module _ (l : StationMemory) (cost note now : ℕ) where
   plain_is answer f (units.Part mesh piece) are = drop_is _
   plain_is answer f (units.Carried mesh body) are = drop_is _
 
-  unit_is : (path : Path) (unit : MeshUnit) → UnitOctets unit → Is (hear_unit l path unit cost note now)
+  unit_is : (path : Path) (unit : MeshUnit) → UnitBrings unit → Is (hear_unit l path unit cost note now)
   unit_is (paths.Sealed from all key) unit are = by_own (address_of l)
     where
       by_own : (own : Option ℕ) → Is (option_map_or (λ a. hear_sealed l a from all unit cost note now) own (drop_it l BadUnit))
       by_own None = drop_is _
       by_own (Some own) = sealed_is own from all unit are
-  unit_is (paths.Up from) unit are = plain_is _ (λ body h. h) unit are
-  unit_is (paths.Down from) unit are = plain_is _ (λ body h. h) unit are
+  unit_is (paths.Up from) unit are = plain_is _ (λ body h. (h, tt)) unit are
+  unit_is (paths.Down from) unit are = plain_is _ (λ body h. (h, tt)) unit are
 
   hear_tells : (got : Accepted) → AreOctets got.payload → Is (hear l got cost note now)
   hear_tells got are = by_unit (unit_in got.payload) refl
     where
       by_unit : (o : Option MeshUnit) → unit_in got.payload ≡ o → Is (hear_unit_in l got.path o cost note now)
       by_unit None e = drop_is _
-      by_unit (Some unit) e = unit_is got.path unit (unit_octets got.payload unit are e)
+      by_unit (Some unit) e = unit_is got.path unit (unit_brings got.payload unit are e)
 
--- what is handed on unread is octets
-pub unread_octets : (l : StationMemory) (got : Accepted) (cost note now : ℕ) (u : Unread) → AreOctets got.payload → unread (hear l got cost note now).answer ≡ Some u → AreOctets u.body
-unread_octets l got cost note now u are = by_answer (hear l got cost note now).answer (hear_tells l cost note now got are)
+-- what is handed on unread is octets, from one node where it came over the mesh
+pub unread_fits : (l : StationMemory) (got : Accepted) (cost note now : ℕ) (u : Unread) → AreOctets got.payload → unread (hear l got cost note now).answer ≡ Some u → AreOctets u.body × WayFits u.way
+unread_fits l got cost note now u are = by_answer (hear l got cost note now).answer (hear_tells l cost note now got are)
   where
-    by_answer : (r : Result Heard Dropped) → Tells r → unread r ≡ Some u → AreOctets u.body
+    by_answer : (r : Result Heard Dropped) → Tells r → unread r ≡ Some u → AreOctets u.body × WayFits u.way
     by_answer (Err reason) h e = absurd (cc)
-    by_answer (Ok (heard.Joining way body)) h e = subst (λ (x : Unread). AreOctets x.body) (same_Some _ _ e) h
+    by_answer (Ok (heard.Joining way body)) h e = subst (λ (x : Unread). AreOctets x.body × WayFits x.way) (same_Some _ _ e) h
     by_answer (Ok _) h e = absurd (cc)
+
+pub unread_octets : (l : StationMemory) (got : Accepted) (cost note now : ℕ) (u : Unread) → AreOctets got.payload → unread (hear l got cost note now).answer ≡ Some u → AreOctets u.body
+unread_octets l got cost note now u are e = (unread_fits l got cost note now u are e).0
 
 pub heard_octets : (l : StationMemory) (got : Accepted) (cost note now : ℕ) → AreOctets got.payload → IfSome (unread (hear l got cost note now).answer) (λ (u : Unread). AreOctets u.body)
 heard_octets l got cost note now are = by_unread (unread (hear l got cost note now).answer) refl
@@ -189,6 +217,13 @@ heard_octets l got cost note now are = by_unread (unread (hear l got cost note n
     by_unread : (o : Option Unread) → unread (hear l got cost note now).answer ≡ o → IfSome o (λ (u : Unread). AreOctets u.body)
     by_unread None e = tt
     by_unread (Some u) e = unread_octets l got cost note now u are e
+
+pub heard_fits : (l : StationMemory) (got : Accepted) (cost note now : ℕ) → AreOctets got.payload → IfSome (unread (hear l got cost note now).answer) (λ (u : Unread). AreOctets u.body × WayFits u.way)
+heard_fits l got cost note now are = by_unread (unread (hear l got cost note now).answer) refl
+  where
+    by_unread : (o : Option Unread) → unread (hear l got cost note now).answer ≡ o → IfSome o (λ (u : Unread). AreOctets u.body × WayFits u.way)
+    by_unread None e = tt
+    by_unread (Some u) e = unread_fits l got cost note now u are e
 
 -- # Packets
 

@@ -12,6 +12,7 @@ use Rattle.plc_base.specs.SlotTables as slots
 use Rattle.frame_counters.specs.SendCounter as counter
 use Rattle.frame_counters.specs.PeerMarks as marks
 use Rattle.group_keys.specs.KeyRing as ring
+use Rattle.group_keys.specs.declared.key_book.BookEntry.{BookEntry}
 use Rattle.group_keys.specs.KeyBook as book
 use Rattle.eap_psk.specs.declared.server.Agreed.{Agreed}
 use Rattle.routing_set.specs.declared.rank.Rank.{Rank}
@@ -36,7 +37,7 @@ use Rattle.node_rules.specs.MemoryDrafts.{in_memory, with_station, give_random, 
 use Rattle.node_rules.specs.Calls as calls
 use Rattle.node_rules.specs.Coordinators as coordinators
 use Rattle.node_rules.specs.NodeSteps.{of_station}
-use Rattle.line_laws.specs.Stores.{IsHeld, IsReadable, HasEui}
+use Rattle.line_laws.specs.Stores.{IsHeld, IsReadable, HasEui, IsPair}
 use Rattle.line_laws.specs.Sizes.{IsMemorySized}
 use Rattle.line_laws.specs.Owed.{AreOctets, KeepsRanges}
 use Rattle.line_laws.proofs.Keeping.{Leads, leads_beside}
@@ -49,6 +50,7 @@ use Rattle.line_laws.proofs.StoreBook.{Rest, rest_lasts}
 use Rattle.line_laws.proofs.StoreMarks.{Accepts, Turned, Plain, Marked, accept_is, marks_lead}
 use Rattle.line_laws.proofs.Planned.{Planned, Refuses, Keeps, Ended, planned_weaker}
 use Rattle.line_laws.proofs.Made.{RingWord, Carry, Drop, Install, Draw, Activate, RingChange, Drops, Installs, Draws, Activates, Given, Offered, Made}
+use Rattle.line_laws.proofs.MadeIn.{EntryChange, Allows as EntryAllows, Issues as EntryIssues, Kicks as EntryKicks}
 use Rattle.line_laws.proofs.MemoryDraftForms.{AnyAnswer, HandedIn, ByStation, MadeBy}
 use Rattle.line_laws.proofs.CoordinatorForms.{HandsNothingUp, IsGranted, coordinator_is, allow_is, depot_is, rekey_is, activate_self_is, challenge_is, activate_is, kick_is}
 use Rattle.line_laws.proofs.CallForms.{Few, Nothing, send_is, near_is, random_is}
@@ -87,11 +89,17 @@ NoPair eui psk = ⊥
 abbrev NoEui : Eui → Type 0
 NoEui eui = ⊥
 
+-- no entry of the book changes
+no_entry : (m : Memory) (V : book.Book → Type 0) (x : book.Book) (e : BookEntry) → EntryChange NoGrant NoPair NoEui m x e → V x → V (book.with_entry x e)
+no_entry m V x e (EntryAllows eui psk known pair room) h = absurd known
+no_entry m V x e (EntryIssues eui granted old from held allowed) h = absurd held
+no_entry m V x e (EntryKicks eui old known allowed) h = absurd known
+
 -- # Calls that leave the ring, the session and the book
 
 -- What such a plan does, at any node.
 pub record Quietly (m : Memory) {A : Type 0} (p : Plan Memory A) : Type 1 where
-  pub leads : (b : book.Book) → Leads (Grown (Grows b)) m p.puts p.memory
+  pub leads : (V : book.Book → Type 0) → Leads (Grown V) m p.puts p.memory
   pub ring : (S : ring.Ring → Type 0) → S None → S m.station.ring → IfSome m.station.ring IsReadable → RingWrites S p.puts
   pub session : p.memory.session ≡ m.session
   pub made : p.made ≡ []
@@ -108,7 +116,7 @@ quiet_meter eui took m p q session reads = record {
 }
 
 pub quiet_coordinator : {A : Type 0} (b : book.Book) (keyed : Option SentGrant) (m : Memory) (p : Plan Memory A) → Quietly m p → Nought m.station.ring → IfSome m.station.ring IsReadable → CoordinatorPlan b m keyed p
-quiet_coordinator b keyed m p q nought reads = record { leads = q.leads b; ring = q.ring Nought tt nought reads; made = subst (Each (CoordinatorTag m keyed)) (sym q.made) tt }
+quiet_coordinator b keyed m p q nought reads = record { leads = q.leads (Grows b); ring = q.ring Nought tt nought reads; made = subst (Each (CoordinatorTag m keyed)) (sym q.made) tt }
 
 no_changes : (S : ring.Ring → Type 0) → S None → (r y : ring.Ring) → RingChange NoWord r y → IfSome r IsReadable → S r → S y × IfSome y IsReadable
 no_changes S none r y Drops h k = (none, tt)
@@ -135,7 +143,7 @@ module _ (g : Given) (m : Memory) (h : IsMemorySized m)
 
   pub station_quietly : {H F : Type 0} (ends : Ends F) (p : Plan StationMemory (Result H F)) → Planned alone ends m.station Nothing (λ d (a : H). Made NoWord g (empty_draft m.station) d × Few m.station d) p → Quietly m (of_station m p)
   station_quietly ends p s = record {
-    leads = λ b. plan_grown (Grows b) NoWord NoGrant NoPair NoEui g m no_words offers (λ eui k. absurd k) (λ eui psk k. absurd k) (λ x e c q. grows_entry b x e q) (λ r k granted none. absurd none) ends Nothing (λ n answer k. absurd k) (of_station m p)
+    leads = λ V. plan_grown V NoWord NoGrant NoPair NoEui g m no_words offers (λ eui k. absurd k) (λ eui psk k. absurd k) (no_entry m V) (λ r k granted none. absurd none) ends Nothing (λ n answer k. absurd k) (of_station m p)
         (of_station_planned Coordinator NoWord no_words g m offers p s) (waits_little m h);
     ring = station_puts p s;
     session = (station_rest p s).0;
@@ -160,7 +168,7 @@ module _ (m : Memory) (h : IsMemorySized m) where
   pub counter_quietly : (value : ℕ) → value < 2 ^ 32 → Quietly m (of_station m (calls.preset_counter m.station value))
   unfolding resting
   counter_quietly value fits = record {
-    leads = λ b. station_grown (Grows b) m m.station (record m.station { counter = counter.counting_at value }) _
+    leads = λ V. station_grown V m m.station (record m.station { counter = counter.counting_at value }) _
         (low_one (Rest Coordinator m) (rest_lasts Coordinator m) m.station _ _ (omega arith) (λ r k. limit_kept m.station r (counter.counting_at value) k fits (omega arith)));
     ring = λ S none here reads. (Away _ (omega arith), tt);
     session = refl;
@@ -170,7 +178,7 @@ module _ (m : Memory) (h : IsMemorySized m) where
   pub number_quietly : (value : ℕ) → 1 ≤ value → value < 2 ^ 16 → Quietly m (of_station m (calls.preset_number m.station value))
   unfolding resting
   number_quietly value low fits = record {
-    leads = λ b. station_grown (Grows b) m m.station (record m.station { own_number = own_number.numbering_at value }) _
+    leads = λ V. station_grown V m m.station (record m.station { own_number = own_number.numbering_at value }) _
         (low_one (Rest Coordinator m) (rest_lasts Coordinator m) m.station _ _ (omega arith) (λ r k. number_kept m.station r (own_number.numbering_at value) k low fits (omega arith)));
     ring = λ S none here reads. (Away _ (omega arith), tt);
     session = refl;
@@ -180,7 +188,7 @@ module _ (m : Memory) (h : IsMemorySized m) where
   pub broke_quietly : {A : Type 0} (next : ℕ) (answer : A) → Quietly m (resting (with_station (calls.broke next m.station) m) answer answer)
   unfolding resting
   broke_quietly next answer = record {
-    leads = λ b. leads_beside (Grown (Grows b)) m _ (λ r k. record { kept = record { station = ended_kept m.station r (routing.goes_by next) k.kept.station; book = k.kept.book; sessions = k.kept.sessions }; grows = k.grows });
+    leads = λ V. leads_beside (Grown V) m _ (λ r k. record { kept = record { station = ended_kept m.station r (routing.goes_by next) k.kept.station; book = k.kept.book; sessions = k.kept.sessions }; grows = k.grows });
     ring = λ S none here reads. tt;
     session = refl;
     made = refl;
@@ -188,7 +196,7 @@ module _ (m : Memory) (h : IsMemorySized m) where
 
   pub random_quietly : (value : Rand) → Quietly m (give_random m value)
   random_quietly value = record {
-    leads = λ b. plan_grown (Grows b) NoWord NoGrant NoPair NoEui (call_given 0 0 0) m no_words (call_offers 0 0 0) (λ eui k. absurd k) (λ eui psk k. absurd k) (λ x e c q. grows_entry b x e q) (λ r k granted none. absurd none) given_ends Nothing (λ n answer k. absurd k) _
+    leads = λ V. plan_grown V NoWord NoGrant NoPair NoEui (call_given 0 0 0) m no_words (call_offers 0 0 0) (λ eui k. absurd k) (λ eui psk k. absurd k) (no_entry m V) (λ r k granted none. absurd none) given_ends Nothing (λ n answer k. absurd k) _
         (planned_weaker _ (λ n answer k. k) (few_of AnyAnswer m NoWord NoGrant NoPair NoEui (call_given 0 0 0)) (random_is NoWord NoGrant NoPair NoEui (call_given 0 0 0) m value)) (waits_little m h);
     ring = λ S none here reads. plan_rung S NoWord NoGrant NoPair NoEui (call_given 0 0 0) m (no_changes S none) here reads given_ends Nothing _ (λ d a x. x.0) _ (random_is NoWord NoGrant NoPair NoEui (call_given 0 0 0) m value);
     session = (given_rest m value).0;
@@ -212,12 +220,12 @@ mark_away S table from counter = by_place (marks.place_of table from)
 module _ (ciphers : Ciphers) (fits : KeepsRanges ciphers) (octets : List ℕ) (are : AreOctets octets) where
   accepting_quietly : (m : Memory) (p : Accepting) → Accepts m.station (arrived ciphers octets) p → Quietly m (of_station m p)
   unfolding resting marking
-  accepting_quietly m p (Turned reason) = record { leads = λ b. leads_beside (Grown (Grows b)) m m (λ r k. k); ring = λ S none here reads. tt; session = refl; made = refl }
-  accepting_quietly m p (Plain got plain) = record { leads = λ b. leads_beside (Grown (Grows b)) m m (λ r k. k); ring = λ S none here reads. tt; session = refl; made = refl }
+  accepting_quietly m p (Turned reason) = record { leads = λ V. leads_beside (Grown V) m m (λ r k. k); ring = λ S none here reads. tt; session = refl; made = refl }
+  accepting_quietly m p (Plain got plain) = record { leads = λ V. leads_beside (Grown V) m m (λ r k. k); ring = λ S none here reads. tt; session = refl; made = refl }
   accepting_quietly m p (Marked from counter got a) =
       let in_range = admitted_fits ciphers fits octets are m.station from counter got a in
       record {
-        leads = λ b. station_grown (Grows b) m m.station (record m.station { marks = marks.kept_after m.station.marks from counter }) _
+        leads = λ V. station_grown V m m.station (record m.station { marks = marks.kept_after m.station.marks from counter }) _
             (marks_lead (Rest Coordinator m) (rest_lasts Coordinator m) m.station from counter in_range.0 in_range.1 a.room);
         ring = λ S none here reads. mark_away S m.station.marks from counter;
         session = refl;
@@ -237,7 +245,7 @@ CoordinatorWord (Install granted) = ⊥
 CoordinatorWord (Draw index key) = IsHeld (Some key)
 CoordinatorWord (Activate index) = index ≤ 1
 
-coordinator_words : (w : RingWord) → CoordinatorWord w → WordFits w
+pub coordinator_words : (w : RingWord) → CoordinatorWord w → WordFits w
 coordinator_words (Carry to note load) w = w
 coordinator_words Drop w = absurd w
 coordinator_words (Install granted) w = absurd w
@@ -263,10 +271,10 @@ coordinator_changes r y change reads here = (nought r y change here, ring_fits C
     nought (Some g) y (Activates index w held) k = k
 
 abbrev HasPair : Eui → Key → Type 0
-HasPair eui psk = length psk.0 ≡ 16
+HasPair eui psk = IsPair psk
 
-handed_grown : (b : book.Book) (m : Memory) (h : IsMemorySized m) (g : Given) (n : Memory) (a : CoordinatorHeard) → HandedIn coordinator_heard.Station g m n a → (r : Records) → Grown (Grows b) m r → Grown (Grows b) n r
-handed_grown b m h g n a k r q = record { kept = handed_kept Coordinator m h coordinator_heard.Station g n a k r q.kept; grows = subst (Grows b) (sym (same_book k)) q.grows }
+pub handed_grown : (V : book.Book → Type 0) (m : Memory) (h : IsMemorySized m) (g : Given) (n : Memory) (a : CoordinatorHeard) → HandedIn coordinator_heard.Station g m n a → (r : Records) → Grown V m r → Grown V n r
+handed_grown V m h g n a k r q = record { kept = handed_kept Coordinator m h coordinator_heard.Station g n a k r q.kept; grows = subst V (sym (same_book k)) q.grows }
   where
     same_book : {H : Type 0} {n : Memory} {a : H} {word : _ → H} → HandedIn word g m n a → n.book ≡ m.book
     same_book (ByStation l x y) = refl
@@ -287,7 +295,7 @@ module _ (ciphers : Ciphers) (fits : KeepsRanges ciphers) (own : coordinators.Co
   hears_coordinator got cost note now routes keyed done same finished failed =
       let g = heard_given got cost note now in
       let p = coordinators.hear_coordinator own m got cost note now in
-      let l = coordinator_leads g (heard_offers got cost note now routes) dropped (HandedIn coordinator_heard.Station g m) HandsNothingUp (handed_grown b m h g) p (coordinator_is CoordinatorWord HasPair HasEui g own m (λ to there join said. omega arith) got refl (heard_euis m got cost note now routes)) in
+      let l = coordinator_leads g (heard_offers got cost note now routes) dropped (HandedIn coordinator_heard.Station g m) HandsNothingUp (handed_grown (Grows b) m h g) p (coordinator_is CoordinatorWord HasPair HasEui g own m (λ to there join said. omega arith) got refl (heard_euis m got cost note now routes)) in
       let t = says_tags m dropped (λ n a. done_in a ≡ None) keyed done same finished failed (λ a n k. k) p (coordinator_hears own m g got refl) in
       (record { leads = l.0; ring = l.1; made = t.made }, t)
 

@@ -143,7 +143,7 @@ all_made made opened e t among = by_not (list_any (same_tag t) made) (none_any (
     by_not false h = absurd (cc)
 
 module _ (b : book.Book) (given : List Issued) (eui : Eui) where
-  found_grant : (i : ℕ) (s p : Rand) (r : Granted) → IsReadable r → Found (TagOk b given) (same_tag (granting_tag eui i s p (granting_text r))) → GrantOk b given eui r
+  pub found_grant : (i : ℕ) (s p : Rand) (r : Granted) → IsReadable r → Found (TagOk b given) (same_tag (granting_tag eui i s p (granting_text r))) → GrantOk b given eui r
   found_grant i s p r readable f = by_tag f.one f.passes f.is
     where
       by_tag : (t : PairTag) → same_tag (granting_tag eui i s p (granting_text r)) t ≡ true → TagOk b given t → GrantOk b given eui r

@@ -64,7 +64,7 @@ use Rattle.plc_base.specs.declared.keeper.BadStore.{BadStore}
 use Rattle.node_rules.specs.StoreReading.{station_of, reading}
 use Rattle.node_rules.specs.Hearing.{dropped}
 use Rattle.node_rules.specs.Memory.{MeterSession}
-use Rattle.line_laws.specs.Stores.{IsReadable, IsKept, IsBookKept, HasEui}
+use Rattle.line_laws.specs.Stores.{IsReadable, IsKept, IsBookKept, HasEui, IsPair}
 use Rattle.line_laws.specs.Sizes.{IsMemorySized}
 use Rattle.line_laws.specs.Owed.{AreOctets, KeepsRanges}
 use Rattle.line_laws.proofs.Readings.{join_ranges}
@@ -696,7 +696,7 @@ module _ (ciphers : Ciphers) (fits : KeepsRanges ciphers) (w : World) (ok : Worl
 
   -- # depot
 
-  depot_by_keyed : (number : ℕ) (x c : Node) (psk : Key) → number ≢ 0 → node_at w number ≡ Some x → node_at w 0 ≡ Some c → length psk.0 ≡ 16
+  depot_by_keyed : (number : ℕ) (x c : Node) (psk : Key) → number ≢ 0 → node_at w number ≡ Some x → node_at w 0 ≡ Some c → IsPair psk
       → Good (depot_by ciphers w number x (acts c (Err orders.Halted) (λ m. coordinator_rules.depot m x.eui psk)))
   depot_by_keyed number x c psk ne hx hc long = by_answer (acts c (Err orders.Halted) plan).answer refl
     where

@@ -123,7 +123,7 @@ unfolding with_rank with_own_number with_next_tag with_ring with_routing_by goes
 made_tags W g s d Starts = (refl, refl)
 made_tags W g s d (Ranks by origin rank e made o fits) = made_tags W g s e made
 made_tags W g s d (Numbers e made left) = made_tags W g s e made
-made_tags W g s d (Tags e made) = made_tags W g s e made
+made_tags W g s d (Tags e made first) = made_tags W g s e made
 made_tags W g s d (Rings x e made change) = made_tags W g s e made
 made_tags W g s d (Idles e made) = made_tags W g s e made
 made_tags W g s d (Loses lost by e made) = made_tags W g s e made

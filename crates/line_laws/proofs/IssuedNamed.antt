@@ -119,14 +119,14 @@ module _ (ciphers : Ciphers) (fits : KeepsRanges ciphers) (w : World) (ok : Worl
   names event s (Makes e x is) = tt
   names event s (Rests e quiet) = tt
   names event s (Shows number x) = tt
-  names event s (Acts e number x A halted plan reads there call word) = tt
+  names event s (Acts e number x A halted plan reads there call word asked) = tt
   names event s (BreaksLink number next x a there call) = tt
-  names event s (SendsFrom from to datagram x a there call) =
+  names event s (SendsFrom from to datagram x a there call target) =
       let d = answering sent_word (acts x (Err sends.Halted) (λ m. of_station m (calls.send m.station a datagram (w.sends + 1) w.clock))) in
       sent_named from to datagram (tag_of x) (is_taken d.answer) (acted ciphers w from d) tt
   names event s (AllowsMeter number y c psk there call meter) = tt
   names event s (Sets e quiet number x plan there open_is is) = tt
-  names event s (SetsTwo e quiet a b cost x y p q hx hy apart open_is first second fresh) = tt
+  names event s (SetsTwo e quiet a b cost x y p q hx hy apart open_is first second fresh near) = tt
   names event s (Provides number x c psk g d ne open_is hx hc pair same is) = keys_named x.eui g (at_place NodeFits w.nodes number x hx ok.fits).eui
   names event s (TurnsDown e number x octets reason d there says comes same is) = tt
   names event s (Hears e number x octets cost got there says comes low is) =

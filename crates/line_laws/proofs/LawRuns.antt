@@ -18,7 +18,7 @@ use Rattle.line_laws.proofs.FlightFolds.{AllOf, lost_spelled, spelled_step}
 
 module _ (ciphers : Ciphers) where
   -- each event of a run is right
-  event_right : (w : World) (x : Entry) → IsEvent x.event → step ciphers w x.event ≡ Ok (x.after, x.trace) → Right ciphers w x
+  pub event_right : (w : World) (x : Entry) → IsEvent x.event → step ciphers w x.event ≡ Ok (x.after, x.trace) → Right ciphers w x
   event_right w x says e = subst (Good ciphers w x.number x.event) e (right ciphers w x.event (step ciphers w x.event) (step_is ciphers w x.event says) x.number)
 
   counts_from : (w : World) (entries : List Entry) → AreEvents (events_of entries) → IsRun ciphers w entries → CountsRight w entries

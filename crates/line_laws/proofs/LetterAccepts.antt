@@ -18,7 +18,7 @@ use Rattle.line_laws.proofs.StoreMarks.{IsAdmitted}
 use Rattle.line_laws.proofs.LetterSeals.{letter_arrives, letter_opens, letter_unit}
 
 -- the fields of a sealed head
-abbrev from_of : MacHead → ℕ
+abbrev pub from_of : MacHead → ℕ
 from_of (heads.Sealed ack seq pan to from counter index) = from
 from_of (heads.Up ack version seq pan to from) = 0
 from_of (heads.Down ack version seq pan to from) = 0

@@ -14,7 +14,8 @@ use Rattle.line_laws.proofs.RankOrder.{beats_trans, beats_not_itself}
 use Rattle.line_laws.proofs.RankSteps.{held_kept}
 use Rattle.line_laws.proofs.RankPlans.{via}
 use Rattle.line_laws.proofs.RouteParts.{RoutingHolds, Nearer}
-use Rattle.line_laws.specs.Loops.{stored, Homes, Addressed}
+use Rattle.line_laws.specs.Loops.{stored}
+use Rattle.line_laws.proofs.Homed.{Homes, Addressed}
 
 pub route_via : (x : Node) (dest next : ℕ) → node_route x dest ≡ Some next → via x dest ≡ Some next
 unfolding via next_hop

@@ -1,28 +1,50 @@
 -- No run has a loop before it is forged.
-use Rattle.std.proofs.Common.{◌≡◌, inl, inr, ℕ, false, List, [], ◌∷◌, Option, Some, None, Ok, Err, refl, sym, ◌∙◌, subst}
-use Rattle.std.specs.Prelude.{All}
-use Rattle.std.proofs.lemmas.Option.{none-some}
+use Rattle.std.proofs.Common.{◌≡◌, inl, inr, ℕ, ◌≤◌, ◌<◌, false, List, [], ◌∷◌, ◌++◌, length, Option, Some, None, Ok, Err, refl, sym, ap, ◌∙◌, subst, arith}
+use Rattle.std.proofs.lemmas.Option.{same_Some, none-some}
 use Rattle.std.proofs.lemmas.List.Elements.{All-nil, All-head, All-tail, All-weaker}
+use Rattle.plc_base.specs.declared.key.Key.{Key}
+use Rattle.plc_base.specs.Grant.{Granted}
+use Rattle.group_keys.specs.KeyBook as books
 use Rattle.mesh_header.specs.declared.unit.Unit.{Unit as MeshUnit}
 use Rattle.loadng_messages.specs.declared.message.Message.{Message}
 use Rattle.loadng_messages.specs.declared.message.Message.TheVariants.{Rreq, Rrep, Rerr}
 use Rattle.routing_set.specs.declared.rank.Rank.{Rank}
 use Rattle.routing_set.specs.RoutingSet as routing
-use Rattle.node_rules.specs.Ciphers.{Ciphers}
+use Rattle.node_rules.specs.declared.refusal.CoordinatorRefusal.TheVariants as orders
+use Rattle.node_rules.specs.Ciphers.{Ciphers, network}
+use Rattle.node_rules.specs.Coordinators as coordinator_rules
+use Rattle.node_rules.specs.Memory.{Node}
+use Rattle.node_rules.specs.NodeSteps.{acts}
+use Rattle.line_rules.specs.declared.event.Event.{Event}
+use Rattle.line_rules.specs.declared.event.Event.TheVariants as events
 use Rattle.line_rules.specs.Events.{IsEvent, AreEvents}
-use Rattle.line_rules.specs.Worlds.{World, Flight, start}
-use Rattle.line_rules.specs.Runs.{Entry, IsRun, events_of}
-use Rattle.line_rules.specs.Steps.{Step}
-use Rattle.line_laws.specs.Laws.{FlightsAreOctets}
+use Rattle.line_rules.specs.Laws.{GoesOn}
+use Rattle.line_rules.specs.Worlds.{World, Flight, Trace, Issued, node_at, start}
+use Rattle.line_rules.specs.Runs.{Entry, IsRun, events_of, issued}
+use Rattle.line_rules.specs.Steps.{Step, psk_of, step}
+use Rattle.line_rules.proofs.StepsOn.{steps}
 use Rattle.line_laws.specs.Owed.{KeepsRanges}
-use Rattle.line_laws.proofs.Worlds.{WorldOk, FlightFits}
+use Rattle.line_laws.proofs.Worlds.{WorldOk, within}
+use Rattle.line_laws.proofs.AddressBook as books_grow
+use Rattle.line_laws.proofs.BookGrowth.{Goes, GoesBy, goes}
+use Rattle.line_laws.proofs.HomeGrants.{WasLeft, LeftBy, takes_own, depot_left, depot_booked}
+use Rattle.line_laws.proofs.Homes.{homes_of, meter_home, at_length, addressed, homes_grow, addressed_before}
+use Rattle.line_laws.proofs.IssueRuns.{Kept, kept, all_of_one, start_keyed}
+use Rattle.line_laws.proofs.IssueSteps.{step_keyed}
+use Rattle.line_laws.proofs.IssueWorlds.{Keyed}
+use Rattle.line_laws.proofs.Tellings.{step_is}
 use Rattle.line_laws.proofs.Running.{start_ok, taken_good}
 use Rattle.line_laws.proofs.RankSaid.{MessageBacked, UnitBacked, Says, IsWhole, IsPart, IsCarried}
 use Rattle.line_laws.proofs.RouteParts as parts
 use Rattle.line_laws.proofs.RouteParts.{At, Own, Nearer, IsNearer, FlightBacked, IsLetter, GoodRoute, RanksHold, RoutesHold, RoutingHolds, Reached}
 use Rattle.line_laws.proofs.RouteSteps.{StepHolds, Fails, Taken, event_holds}
 use Rattle.line_laws.proofs.LoopFree.{no_loop}
-use Rattle.line_laws.specs.Loops.{stored, Homes, Grows, AreHomed, AreLoopFree, nowhere}
+use Rattle.line_laws.proofs.OctetRuns.{WorldSpeaks, SpeaksIn, event_speaks, start_speaks}
+use Rattle.line_laws.proofs.RangeRuns.{WorldRanged, RangedIn, calls_read, event_ranged, start_ranged}
+use Rattle.line_laws.proofs.Readings.{network_ranges}
+use Rattle.line_laws.proofs.Homed.{Homes, Grows, HomesFit, DepotFits}
+use Rattle.line_laws.specs.Laws.{IsLineRun}
+use Rattle.line_laws.specs.Loops.{stored, AreLoopFree}
 
 -- # Homes that are given
 
@@ -56,8 +78,8 @@ module _ (ciphers : Ciphers) (h k : Homes) (grows : Grows h k) (w : World) where
   nearer_grows next dest rank (inl same) = inl same
   nearer_grows next dest rank (inr n) = inr (record { number = n.number; node = n.node; home = grows n.number next n.home; there = n.there; beats = n.beats })
 
-  pub homes_grow : RoutingHolds ciphers h w → RoutingHolds ciphers k w
-  homes_grow good = record {
+  pub grow_homes : RoutingHolds ciphers h w → RoutingHolds ciphers k w
+  grow_homes good = record {
     ranks = record {
       backed = All-weaker (FlightBacked ciphers h w) (FlightBacked ciphers k w) flight_grows w.flights good.ranks.backed;
       not_own = λ i x there dest own. good.ranks.not_own i x there dest (own_before i dest own);
@@ -71,29 +93,88 @@ module _ (ciphers : Ciphers) (h k : Homes) (grows : Grows h k) (w : World) where
 
 -- # Runs
 
-module _ (ciphers : Ciphers) (fits : KeepsRanges ciphers) where
-  abbrev Kept : Homes → World → Step → Type 0
-  Kept h w (Ok r) = r.1.happened.forged ≡ false → Reached ciphers h w r.0
-  Kept h w (Err fault) = Unit {0}
+-- the grant of the workshop has the home of its meter, after the event
+module _ (ciphers : Ciphers) (fits : KeepsRanges ciphers) (w v : World) (ok : WorldOk w) (given more : List Issued) (k : Keyed w given) (kv : Keyed v more)
+    (longer : length w.nodes ≤ length v.nodes) (euis : (n : ℕ) (y : Node) → n < length w.nodes → node_at v n ≡ Some y → (x : Node) × (node_at w n ≡ Some x) × (x.eui ≡ y.eui)) where
+  depot_home : (number : ℕ) (x c : Node) (psk : Key) (g : Granted) (hx : node_at w number ≡ Some x) (hc : node_at w 0 ≡ Some c) (pair : psk_of x ≡ Some psk) → WasLeft ciphers w number x c psk hx hc pair v
+      → (acts c (Err orders.Halted) (λ m. coordinator_rules.depot m x.eui psk)).answer ≡ Ok g → homes_of kv.book v number ≡ Some g.address
+  depot_home number x c psk g hx hc pair left e =
+      let inside = within w.nodes number x hx in
+      let y = at_length v.nodes number (omega arith) in
+      let old = euis number y.one inside y.is in
+      let same : x ≡ old.0 = same_Some _ _ (sym hx ∙ old.1) in
+      meter_home kv.book v number y.one left.other y.is
+      ∙ ap (books.address_of kv.book) (sym (ap (λ (z : Node). z.eui) same ∙ old.2))
+      ∙ depot_booked ciphers fits w v ok given more k kv number x c psk g hx hc pair left e
 
-  kept : (h : Homes) (w : World) (s : Step) → StepHolds ciphers h w s → Kept h w s
-  kept h w s (Fails fault) = tt
-  kept h w s (Taken r holds) = holds
+  depot_fits : (event : Event) (t : Trace) → step ciphers w event ≡ Ok (v, t) → DepotFits ciphers (homes_of kv.book v) w event
+  depot_fits (events.Depot number) t e = λ x c psk g hx hc pair is.
+      depot_home number x c psk g hx hc pair (subst (LeftBy ciphers w number x c psk hx hc pair) e (depot_left ciphers w number x c psk hx hc pair)) is
+  depot_fits _ t e = tt
 
-  loop_free_from : (h : Homes) (w : World) → WorldOk w → All FlightFits w.flights → RoutingHolds ciphers h w → (entries : List Entry) → AreEvents (events_of entries) → FlightsAreOctets entries → IsRun ciphers w entries → AreHomed ciphers h w entries → AreLoopFree w entries
-  loop_free_from h w ok flown good [] says octets run homed = tt
-  loop_free_from h w ok flown good (x ∷ xs) says octets run homed = λ honest.
-      let event = All-head IsEvent x.event (events_of xs) says in
-      let e = homed honest in
-      let g = taken_good ciphers fits w ok flown x event run.2 in
-      let after = subst (Kept e.0.homes w) run.2 (kept e.0.homes w _ (event_holds ciphers fits e.0.homes w e.0.reads ok flown e.0.before (homes_grow ciphers h e.0.homes e.0.grows w good) x.event event e.0.depot)) honest in
-      (no_loop ciphers e.0.homes x.after e.0.after after.holds, after.later, loop_free_from e.0.homes x.after g.0 (All-head (λ (y : Entry). All FlightFits y.after.flights) x xs octets) after.holds xs (All-tail IsEvent x.event (events_of xs) says) (All-tail (λ (y : Entry). All FlightFits y.after.flights) x xs octets) run.3 e.1)
+abbrev HoldsBy : Homes → World → Step → Type 0
+HoldsBy h w (Ok r) = r.1.happened.forged ≡ false → Reached network h w r.0
+HoldsBy h w (Err fault) = Unit {0}
 
-  start_holds : RoutingHolds ciphers nowhere start
-  start_holds = record {
-    ranks = record { backed = All-nil (FlightBacked ciphers nowhere start); not_own = λ i x there dest own. absurd (none-some x there) };
+holds_by : (h : Homes) (w : World) (s : Step) → StepHolds network h w s → HoldsBy h w s
+holds_by h w s (Fails fault) = tt
+holds_by h w s (Taken r holds) = holds
+
+-- What holds of a world of the network that was reached with no event forged.
+record Sound (w : World) (before : List Entry) : Type 0 where
+  ok : WorldOk w
+  speaks : WorldSpeaks w
+  ranged : WorldRanged w
+  keyed : Keyed w (issued before)
+  routes : RoutingHolds network (homes_of keyed.book w) w
+
+loop_free_from : (w : World) (before : List Entry) → Sound w before → (entries : List Entry) → AreEvents (events_of entries) → IsRun network w entries → AreLoopFree w entries
+loop_free_from w before o [] says run = tt
+loop_free_from w before o (x ∷ xs) says run = λ honest.
+    let event = All-head IsEvent x.event (events_of xs) says in
+    let flown = o.speaks.flights in
+    let k = o.keyed in
+    let made = step_is network w x.event event in
+    let g = taken_good network network_ranges w o.ok flown x event run.2 in
+    let next : Keyed x.after (issued before ++ x.trace.issued) = subst (Kept (issued before)) run.2 (kept w (issued before) _ (step_keyed network network_ranges w o.ok flown (issued before) k x.event event)) honest in
+    let more : List Issued = issued (before ++ x ∷ []) in
+    let k2 : Keyed x.after more = subst (Keyed x.after) (sym (all_of_one (λ d. d.issued) before x)) next in
+    let on : GoesOn w x.after = steps network w x.after x.event x.trace run.2 in
+    let later : 0 < length w.nodes → Goes network network_ranges w o.ok flown (issued before) k x.after = subst (GoesBy network network_ranges w o.ok flown (issued before) k) run.2 (goes network network_ranges w o.ok flown (issued before) k x.event (step network w x.event) made) in
+    let longer : length w.nodes ≤ length x.after.nodes = on.nodes in
+    let book : 0 < length w.nodes → books_grow.Grows k.book k2.book = λ some.
+    let c = at_length x.after.nodes 0 (omega arith) in
+    (later some).grows c.one c.is k2.book (k2.coordinator c.one c.is).book_kept in
+    let h : Homes = homes_of k2.book x.after in
+    let grown : Grows (homes_of k.book w) h = homes_grow w x.after (issued before) more o.ok g.0 k k2 longer book (λ some. (later some).euis) in
+    let fit : HomesFit network h w = record {
+      addressed = addressed_before w x.after (issued before) more o.ok g.0 k k2 longer book (λ some. (later some).euis);
+      took = λ number y frame cost there are got e right psk role m here agreed took granted t tagged.
+          grown number granted.address (takes_own network network_ranges w o.ok flown (issued before) k number y frame cost there are got e right psk role m here agreed took granted t tagged);
+    } in
+    let euis : (n : ℕ) (y : Node) → n < length w.nodes → node_at x.after n ≡ Some y → (z : Node) × (node_at w n ≡ Some z) × (z.eui ≡ y.eui) = λ n y lt there. (later (omega arith)).euis n y lt there in
+    let depot : DepotFits network h w x.event = depot_fits network network_ranges w x.after o.ok (issued before) more k k2 longer euis x.event x.trace run.2 in
+    let after = subst (HoldsBy h w) run.2 (holds_by h w _ (event_holds network network_ranges h w (calls_read w o.ok o.speaks o.ranged) o.ok flown fit (grow_homes network (homes_of k.book w) h grown w o.routes) x.event event depot)) honest in
+    let sound : Sound x.after (before ++ x ∷ []) = record {
+      ok = g.0;
+      speaks = subst (SpeaksIn w o.ok o.speaks) run.2 (event_speaks w o.ok o.speaks x.event (step network w x.event) made);
+      ranged = subst (RangedIn w o.ok o.speaks o.ranged) run.2 (event_ranged w o.ok o.speaks o.ranged x.event (step network w x.event) made) honest;
+      keyed = k2;
+      routes = after.holds;
+    } in
+    (no_loop network h x.after (addressed x.after more g.0 k2) after.holds, after.later, loop_free_from x.after (before ++ x ∷ []) sound xs (All-tail IsEvent x.event (events_of xs) says) run.3)
+
+start_sound : Sound start []
+start_sound = record {
+  ok = start_ok;
+  speaks = start_speaks;
+  ranged = start_ranged;
+  keyed = start_keyed;
+  routes = record {
+    ranks = record { backed = All-nil (FlightBacked network (homes_of start_keyed.book start) start); not_own = λ i x there dest own. absurd (none-some x there) };
     routes = record { routes = λ i x there dest next e. absurd (none-some x there) };
-  }
+  };
+}
 
-  pub every_run : (entries : List Entry) → AreEvents (events_of entries) → FlightsAreOctets entries → IsRun ciphers start entries → AreHomed ciphers nowhere start entries → AreLoopFree start entries
-  every_run entries says octets run homed = loop_free_from nowhere start start_ok (All-nil FlightFits) start_holds entries says octets run homed
+pub every_run : (entries : List Entry) → IsLineRun network entries → AreLoopFree start entries
+every_run entries r = loop_free_from start [] start_sound entries r.events r.run

@@ -19,7 +19,7 @@ use Rattle.loadng_messages.specs.Reading.{message_in}
 use Rattle.node_rules.specs.declared.heard.Path.TheVariants as paths
 use Rattle.node_rules.specs.declared.heard.Accepted.{Accepted}
 use Rattle.node_rules.specs.Frames.{to_all}
-use Rattle.node_rules.specs.Memory.{StationMemory, Load, load_octets, address_of, next_hop}
+use Rattle.node_rules.specs.Memory.{StationMemory, Load, Datagram, load_octets, address_of, next_hop}
 use Rattle.node_rules.specs.Drafts.{Draft, Outgoing, with_rank, with_own_number, with_next_tag, with_ring, with_routing_by, goes, body_goes, waits, leave, no_room, numbers_spent}
 use Rattle.node_rules.specs.Hearing.{rank_over, hop_less}
 use Rattle.node_rules.specs.Calls.{near_rank, idled}
@@ -111,6 +111,14 @@ pub data IsAlone (s d : Draft StationMemory) : ℕ → Type 0 where
   Unnoted : IsAlone s d 0
   Alone : (note : ℕ) → d.memory.waiting ≡ s.memory.waiting → AreUnnoted d.units → IsAlone s d note
 
+-- A tag is taken once, for a datagram that is sent out.
+pub record TakesTag (W : RingWord → Type 0) (s d : Draft StationMemory) : Type 0 where
+  pub to : ℕ
+  pub note : ℕ
+  pub datagram : List ℕ
+  pub carries : W (Carry to note (Datagram datagram s.memory.next_tag))
+  pub same : d.memory.next_tag ≡ s.memory.next_tag
+
 -- a unit of a route message, or another node's unit with one hop less
 pub data IsSaid (W : RingWord → Type 0) (g : Given) (s d : Draft StationMemory) : ℕ → MeshUnit → ℕ → Type 0 where
   Seeks : (own dest number note : ℕ) (load : Load) → address_of d.memory ≡ Some own → d.memory.own_number.last ≡ number → 0 < number → W (Carry dest note load) → IsSaid W g s d to_all (units.Local 1 (messages.spelling (Rreq number 0 own dest))) 0
@@ -128,7 +136,7 @@ pub data Made (W : RingWord → Type 0) (g : Given) (s : Draft StationMemory) : 
   Ranks : (by origin : ℕ) (rank : Rank) (d : Draft StationMemory) → Made W g s d → Offered g (address_of d.memory) by origin rank → RankFits d.memory.routing origin rank g.now
       → Made W g s (with_rank origin rank by g.now d)
   Numbers : (d : Draft StationMemory) → Made W g s d → numbers_spent d.memory ≡ false → Made W g s (with_own_number d)
-  Tags : (d : Draft StationMemory) → Made W g s d → Made W g s (with_next_tag d)
+  Tags : (d : Draft StationMemory) → Made W g s d → TakesTag W s d → Made W g s (with_next_tag d)
   Rings : (r : ring.Ring) (d : Draft StationMemory) → Made W g s d → RingChange W d.memory.ring r → Made W g s (with_ring r d)
   Idles : (d : Draft StationMemory) → Made W g s d → Made W g s (record d { memory = idled d.memory })
   Loses : (lost by : ℕ) (d : Draft StationMemory) → Made W g s d → Made W g s (with_routing_by (λ r. routing.without_next_to r lost by) d)

@@ -85,7 +85,7 @@ pub data RingCause (g : Given) (x : Identity) (m : Memory) : RingWord → Type 0
   ByPacket : (granted : Granted) → IsTaken g x m granted → RingCause g x m (Install granted)
   ByOrder : (index : ℕ) → IsTold index → RingCause g x m (Activate index)
 
-no_fault : {A B : Type 0} (f : A → B) (o : Option A) → option_map f o ≡ None → o ≡ None
+pub no_fault : {A B : Type 0} (f : A → B) (o : Option A) → option_map f o ≡ None → o ≡ None
 no_fault f None e = refl
 no_fault f (Some a) e = absurd (cc)
 

@@ -1,5 +1,5 @@
 -- Every call of a node keeps its memory with its records, and within its sizes.
-use Rattle.std.proofs.Common.{◌≡◌, ℕ, ◌≤◌, ◌<◌, ◌^◌, Bool, true, false, List, Option, Some, None, Result, refl, sym, ap, ◌∙◌, subst, arith}
+use Rattle.std.proofs.Common.{◌≡◌, inl, ℕ, ◌≤◌, ◌<◌, ◌^◌, Bool, true, false, List, [], Option, Some, None, Result, refl, sym, ap, ◌∙◌, subst, arith}
 use Rattle.std.specs.Prelude.{IfSome}
 use Rattle.std.specs.Option.{option_map, option_and_then}
 use Rattle.std.proofs.lemmas.Option.{same_Some}
@@ -57,6 +57,7 @@ use Rattle.line_laws.proofs.MeterForms.{IsPacket, HandsNothingUp, RingCause, ToC
 use Rattle.line_laws.proofs.CoordinatorForms.{IsGranted}
 use Rattle.line_laws.proofs.CallForms.{Few, Nothing, send_is, install_is, near_is, random_is}
 use Rattle.line_laws.proofs.Nodes.{PlanFits, PlanOk, plan_ok}
+use Rattle.line_laws.proofs.MarkWrites.{away_leads}
 
 -- # What is given
 
@@ -145,7 +146,7 @@ module _ (role : Role) (W : RingWord → Type 0) (words : (w : RingWord) → W w
   of_station_planned p (Ended d answer done left) = Ended (whole m d) answer (Station d done.0, record { few = done.1.few }) left
 
   -- a plan that touches no book
-  pub bookless_ok : {H F : Type 0} (ends : Ends F) (K : Memory → H → Type 0) → ((n : Memory) (answer : H) → K n answer → (r : Records) → IsKept role m r → IsKept role n r) → ((n : Memory) (answer : H) → K n answer → IsMemorySized m → IsMemorySized n) → ((n : Memory) (answer : H) → K n answer → n.station.counter ≡ m.station.counter)
+  pub bookless_ok : {H F : Type 0} (ends : Ends F) (K : Memory → H → Type 0) → ((n : Memory) (answer : H) → K n answer → (r : Records) → IsKept role m r → IsKept role n r) → ((n : Memory) (answer : H) → K n answer → IsMemorySized m → IsMemorySized n) → ((n : Memory) (answer : H) → K n answer → (n.station.counter ≡ m.station.counter) × (n.station.marks ≡ m.station.marks))
       → (p : Plan Memory (Result H F)) → Planned in_memory ends m K (λ d a. MadeIn W NoGrant NoPair NoEui g m d × Few m.station d) p → IsMemorySized m → PlanOk role m p
   bookless_ok ends K kept sized same p s h = plan_ok role W NoGrant NoPair NoEui g m words offers (λ eui none. absurd none) (λ eui psk none. absurd none) (no_change role m) (λ r k granted none. absurd none) ends K kept sized same p s h
 
@@ -167,14 +168,15 @@ carried_fits w (Carries to note load fits) = fits
 abbrev pub NoWord : RingWord → Type 0
 NoWord w = ⊥
 
-station_counter : (g : Given) (l n : StationMemory) (a : Heard) → Handed g l n a → n.counter ≡ l.counter
-station_counter g l n a (HandsUp by own mesh octets came here mine) = refl
-station_counter g l n a (HandsOn x none) = refl
-station_counter g l n a (Gathers by own mesh piece came here mine e) = refl
-station_counter g l n a (Completes by own mesh piece note octets came here mine e) = refl
+station_same : (g : Given) (l n : StationMemory) (a : Heard) → Handed g l n a → (n.counter ≡ l.counter) × (n.marks ≡ l.marks)
+station_same g l n a (HandsUp by own mesh octets came here mine) = (refl, refl)
+station_same g l n a (HandsOn x none) = (refl, refl)
+station_same g l n a (Gathers by own mesh piece came here mine e) = (refl, refl)
+station_same g l n a (Completes by own mesh piece note octets came here mine e) = (refl, refl)
 
-pub handed_counter : (m : Memory) {H : Type 0} (word : Heard → H) (g : Given) (n : Memory) (answer : H) → HandedIn word g m n answer → n.station.counter ≡ m.station.counter
-handed_counter m word g n answer (ByStation l a k) = station_counter g m.station l a k
+-- what is handed on changes neither the counter nor the marks
+pub handed_same : (m : Memory) {H : Type 0} (word : Heard → H) (g : Given) (n : Memory) (answer : H) → HandedIn word g m n answer → (n.station.counter ≡ m.station.counter) × (n.station.marks ≡ m.station.marks)
+handed_same m word g n answer (ByStation l a k) = station_same g m.station l a k
 
 module _ (role : Role) (m : Memory) (h : IsMemorySized m) where
   pub send_ok : (to : ℕ) (datagram : List ℕ) (note now : ℕ) → PlanOk role m (of_station m (calls.send m.station to datagram note now))
@@ -191,6 +193,7 @@ module _ (role : Role) (m : Memory) (h : IsMemorySized m) where
         (low_one (Rest role m) (rest_lasts role m) m.station _ _ (omega arith) (λ r k. limit_kept m.station r (counter.counting_at value) k fits (omega arith)));
     sized = record { station = record { reassemblies = h.station.reassemblies; waiting = record { bodies = h.station.waiting.bodies; blocks = h.station.waiting.blocks; datagrams = h.station.waiting.datagrams }; loads = h.station.loads; tag = h.station.tag }; sessions = h.sessions; randoms = h.randoms };
     few = omega arith;
+    marked = λ first. away_leads first m _ _ (inl (omega arith), tt) refl;
   }
 
   pub number_ok : (value : ℕ) → 1 ≤ value → value < 2 ^ 16 → PlanFits role m (of_station m (calls.preset_number m.station value))
@@ -200,6 +203,7 @@ module _ (role : Role) (m : Memory) (h : IsMemorySized m) where
         (low_one (Rest role m) (rest_lasts role m) m.station _ _ (omega arith) (λ r k. number_kept m.station r (own_number.numbering_at value) k low fits (omega arith)));
     sized = record { station = record { reassemblies = h.station.reassemblies; waiting = record { bodies = h.station.waiting.bodies; blocks = h.station.waiting.blocks; datagrams = h.station.waiting.datagrams }; loads = h.station.loads; tag = h.station.tag }; sessions = h.sessions; randoms = h.randoms };
     few = omega arith;
+    marked = λ first. away_leads first m _ _ (inl (omega arith), tt) refl;
   }
 
   -- a change of routes beside the store
@@ -211,6 +215,7 @@ module _ (role : Role) (m : Memory) (h : IsMemorySized m) where
     few = omega arith;
     rises = λ fits. record { high = tt; with_own_number = omega arith };
     from = tt;
+    marked = λ first. away_leads first m _ [] tt refl;
   }
 
   -- a grant of the workshop
@@ -243,7 +248,7 @@ module _ (role : Role) (m : Memory) (h : IsMemorySized m) where
 
   module _ (ciphers : Ciphers) (fits : KeepsRanges ciphers) (x : meters.Identity) (same : x.ciphers ≡ ciphers) where
     -- where something is heard, it and the pair key are octets
-    abbrev HeardWell : Given → Type 0
+    abbrev pub HeardWell : Given → Type 0
     HeardWell g = (got : Accepted) → g.got ≡ Some got → AreOctets got.payload × AreOctets x.psk.0
 
     packet_octets : (g : Given) (packet : List ℕ) (got : Accepted) → AreOctets got.payload → (p : IsPacket g m packet) → p.brought.got ≡ got → AreOctets packet
@@ -252,7 +257,7 @@ module _ (role : Role) (m : Memory) (h : IsMemorySized m) where
         let body : AreOctets p.octets = subst AreOctets b.body (unread_octets m.station b.got g.cost g.note g.now b.handed (subst (λ (a : Accepted). AreOctets a.payload) (sym same) are) b.on) in
         subst BodyOctets p.challenge (join_octets p.octets p.join body p.read)
 
-    meter_words : (g : Given) → HeardWell g → (w : RingWord) → RingCause g x m w → WordFits w
+    pub meter_words : (g : Given) → HeardWell g → (w : RingWord) → RingCause g x m w → WordFits w
     meter_words g well w (ToCoordinator join said) = omega arith
     meter_words g well w (ByPacket granted taken) =
         let b = taken.came.brought in
@@ -270,5 +275,5 @@ module _ (role : Role) (m : Memory) (h : IsMemorySized m) where
 
     pub meter_hears_ok : (got : Accepted) (cost note now : ℕ) → AreOctets x.psk.0 → RoutesFit got → PlanOk role m (meters.hear_meter x m got cost note now)
     meter_hears_ok got cost note now pair routes = bookless_ok role (RingCause (heard_given got cost note now) x m) (meter_words (heard_given got cost note now) (λ a e. (subst (λ (b : Accepted). AreOctets b.payload) (same_Some got a e) routes.payload, pair))) (heard_given got cost note now) m (heard_offers got cost note now routes) dropped (HandedIn meter_heard.Station (heard_given got cost note now) m)
-        (handed_kept meter_heard.Station (heard_given got cost note now)) (handed_within meter_heard.Station (heard_given got cost note now)) (handed_counter m meter_heard.Station (heard_given got cost note now)) _
+        (handed_kept meter_heard.Station (heard_given got cost note now)) (handed_within meter_heard.Station (heard_given got cost note now)) (handed_same m meter_heard.Station (heard_given got cost note now)) _
         (planned_weaker _ (λ n answer k. k) (few_of HandsNothingUp m (RingCause (heard_given got cost note now) x m) NoGrant NoPair NoEui (heard_given got cost note now)) (meter_is NoGrant NoPair NoEui (heard_given got cost note now) x m got refl)) h

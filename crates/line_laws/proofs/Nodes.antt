@@ -1,5 +1,5 @@
 -- What holds of a node, and that carrying out a plan keeps it.
-use Rattle.std.proofs.Common.{◌≡◌, ℕ, suc, ◌+◌, ◌≤◌, ◌<◌, ◌^◌, List, [], ◌∷◌, length, ⊎_elim, Option, Some, None, Result, refl, ap, subst, arith}
+use Rattle.std.proofs.Common.{◌≡◌, ℕ, suc, ◌+◌, ◌≤◌, ◌<◌, ◌^◌, List, [], ◌∷◌, length, ⊎_elim, Option, Some, None, Result, refl, sym, ap, subst, arith}
 use Rattle.std.specs.Prelude.{IfSome}
 use Rattle.std.specs.Option.{option_map_or}
 use Rattle.std.proofs.lemmas.List.{length-append}
@@ -21,7 +21,7 @@ use Rattle.node_rules.specs.NodeSteps.{NodeStep, acts, stays, left_by}
 use Rattle.node_rules.specs.Laws.{IsWhole, IsCutOff}
 use Rattle.node_rules.proofs.Sizes.{pending, pending_bound}
 use Rattle.node_rules.proofs.Writing.{clean}
-use Rattle.line_laws.specs.Stores.{IsHeld, IsReadable, BookKept, IsKept, HasEui}
+use Rattle.line_laws.specs.Stores.{IsHeld, IsReadable, BookKept, IsKept, HasEui, IsPair}
 use Rattle.line_laws.specs.Owed.{AreOctets}
 use Rattle.line_laws.specs.Sizes.{IsMemorySized}
 use Rattle.line_laws.proofs.Keeping.{Leads, Left, carried}
@@ -33,6 +33,10 @@ use Rattle.line_laws.proofs.Planned.{Planned, Refuses, Keeps, Ended}
 use Rattle.line_laws.proofs.Made.{RingWord, Given, Offered}
 use Rattle.line_laws.proofs.MadeIn.{MadeIn, EntryChange}
 use Rattle.line_laws.proofs.CallForms.{Few}
+use Rattle.line_laws.specs.Live.{marks_of}
+use Rattle.line_laws.proofs.MarkOrder.{Raised, raised_same}
+use Rattle.line_laws.proofs.MarkWrites.{MarksFrom, PlanMarks, plan_marks}
+use Rattle.line_laws.proofs.MarkNodes.{AreCovered, marks_held, marks_from, left_raised, left_covered}
 use Rattle.line_laws.proofs.Frontiers.{Numbered, PlanRises, plan_rises, frontier, acts_rise}
 
 -- What a plan keeps.
@@ -40,6 +44,7 @@ pub record PlanFits (role : Role) (m : Memory) {A : Type 0} (p : Plan Memory A) 
   pub leads : Leads (IsKept role) m p.puts p.memory
   pub sized : IsMemorySized p.memory
   pub few : length p.frames ≤ 24
+  pub marked : PlanMarks m p
 
 -- The same with what it does to the counter.
 pub record PlanOk (role : Role) (m : Memory) {A : Type 0} (p : Plan Memory A) : Type 0 where
@@ -48,11 +53,14 @@ pub record PlanOk (role : Role) (m : Memory) {A : Type 0} (p : Plan Memory A) : 
   pub few : length p.frames ≤ 24
   pub rises : m.station.counter.limit < 2 ^ 32 → PlanRises m p
   pub from : AreFrom (address_of p.memory.station) p.frames
+  -- no mark falls
+  pub marked : PlanMarks m p
 
 -- What holds of a node.
 pub record NodeOk (x : Node) : Type 0 where
   pub kept : Left (IsKept x.role) x.store.records x.memory
   pub sized : IfSome x.memory IsMemorySized
+  pub covered : AreCovered x.memory
 
 -- What holds of what a node did.
 pub record DidFits (x : Node) {A : Type 0} (d : NodeStep A) : Type 0 where
@@ -60,6 +68,7 @@ pub record DidFits (x : Node) {A : Type 0} (d : NodeStep A) : Type 0 where
   pub role : d.node.role ≡ x.role
   pub eui : d.node.eui ≡ x.eui
   pub few : length d.frames ≤ 24
+  pub marked : Raised (marks_of x) (marks_of d.node)
 
 -- The same, and its frames are numbered from its frontier on.
 pub record DidOk (x : Node) {A : Type 0} (d : NodeStep A) : Type 0 where
@@ -70,6 +79,8 @@ pub record DidOk (x : Node) {A : Type 0} (d : NodeStep A) : Type 0 where
   pub rises : Numbered (frontier x) (frontier d.node) d.frames
   -- its letters have the address that it has now
   pub from : AreFrom (node_address d.node) d.frames
+  -- no mark falls
+  pub marked : Raised (marks_of x) (marks_of d.node)
 
 -- # A plan that is carried out
 
@@ -86,25 +97,35 @@ outcome_sized {A = A} x m p sized few = ⊎_elim whole cut_off (clean x.store.re
 pub acts_fits : {A : Type 0} (x : Node) (halted : A) (plan : Memory → Plan Memory A) → NodeOk x → ((m : Memory) → x.memory ≡ Some m → IsKept x.role m x.store.records → IsMemorySized m → PlanFits x.role m (plan m))
     → DidFits x (acts x halted plan)
 unfolding acts
-acts_fits {A = A} x halted plan ok f = by_memory x.memory refl ok.kept ok.sized
+acts_fits {A = A} x halted plan ok f = by_memory x.memory refl ok.kept ok.sized ok.covered
   where
-    by_memory : (o : Option Memory) → x.memory ≡ o → Left (IsKept x.role) x.store.records o → IfSome o IsMemorySized
+    by_memory : (o : Option Memory) → x.memory ≡ o → Left (IsKept x.role) x.store.records o → IfSome o IsMemorySized → AreCovered o
         → DidFits x (option_map_or (λ m. left_by x (carry_out x.store.records x.store.cut (plan m))) o (stays x halted))
-    by_memory None e kept sized = record { node = ok; role = refl; eui = refl; few = omega arith }
-    by_memory (Some m) e kept sized =
+    by_memory None e kept sized covered = record { node = ok; role = refl; eui = refl; few = omega arith; marked = raised_same (marks_of x) }
+    by_memory (Some m) e kept sized covered =
         let p = f m e kept sized in
         let o = outcome_sized x m (plan m) p.sized p.few in
-        record { node = record { kept = carried (IsKept x.role) x.store.records x.store.cut (plan m) m kept p.leads; sized = o.0 }; role = refl; eui = refl; few = o.1 }
+        let c : Outcome Memory A = carry_out x.store.records x.store.cut (plan m) in
+        let left = carried (IsKept x.role) x.store.records x.store.cut (plan m) m kept p.leads in
+        let marks = carried (MarksFrom m.station.marks) x.store.records x.store.cut (plan m) m (marks_from m x.role x.store.records kept covered) (p.marked m.station.marks) in
+        record {
+          node = record { kept = left; sized = o.0; covered = left_covered m.station.marks c.records c.memory marks };
+          role = refl;
+          eui = refl;
+          few = o.1;
+          marked = subst (λ (q : Option Memory). Raised (marks_held x.role x.store.records q) (marks_held x.role c.records c.memory)) (sym e) (left_raised m.station.marks x.role c.records c.memory left marks);
+        }
 
 pub acts_ok : {A : Type 0} (x : Node) (halted : A) (plan : Memory → Plan Memory A) → NodeOk x → ((m : Memory) → x.memory ≡ Some m → IsKept x.role m x.store.records → IsMemorySized m → PlanOk x.role m (plan m))
     → DidOk x (acts x halted plan)
 acts_ok x halted plan ok f =
-    let d = acts_fits x halted plan ok (λ m there kept sized. let p = f m there kept sized in record { leads = p.leads; sized = p.sized; few = p.few }) in
+    let d = acts_fits x halted plan ok (λ m there kept sized. let p = f m there kept sized in record { leads = p.leads; sized = p.sized; few = p.few; marked = p.marked }) in
     record {
       node = d.node;
       role = d.role;
       eui = d.eui;
       few = d.few;
+      marked = d.marked;
       rises = acts_rise x halted plan (λ m there.
           let kept : IsKept x.role m x.store.records = subst (λ o. Left (IsKept x.role) x.store.records o) there ok.kept in
           let sized : IsMemorySized m = subst (λ o. IfSome o IsMemorySized) there ok.sized in
@@ -146,7 +167,7 @@ waits_little m h = pending_bound m.station h.station.waiting
 module _ (role : Role) (W : RingWord → Type 0) (L : Granted → Type 0) (P : Eui → Key → Type 0) (E : Eui → Type 0) (g : Given) (m : Memory)
     (words : (w : RingWord) → W w → WordFits w)
     (offers : (address : Option ℕ) (by origin : ℕ) (rank : Rank) → Offered g address by origin rank → EntryFits (routing.offered_entry origin rank by g.now))
-    (known : (eui : Eui) → E eui → HasEui eui) (pairs : (eui : Eui) (psk : Key) → P eui psk → length psk.0 ≡ 16)
+    (known : (eui : Eui) → E eui → HasEui eui) (pairs : (eui : Eui) (psk : Key) → P eui psk → IsPair psk)
     (coordinator : (b : book.Book) (e : BookEntry) → EntryChange L P E m b e → role ≡ Coordinator)
     (grants : (r : Records) → IsKept role m r → (granted : Granted) → L granted → IsHeld granted.key0 × IsHeld granted.key1) where
   plan_few : {H F : Type 0} (ends : Ends F) (K : Memory → H → Type 0) (p : Plan Memory (Result H F)) → Planned in_memory ends m K (λ d a. MadeIn W L P E g m d × Few m.station d) p → pending m.station ≤ 21 → length p.frames ≤ 24
@@ -159,12 +180,13 @@ module _ (role : Role) (W : RingWord → Type 0) (L : Granted → Type 0) (P : E
       let both = length-append d.plain (sealed_by d.memory.station.ring d.memory.station.counter.next d.units) in
       omega arith
 
-  pub plan_ok : {H F : Type 0} (ends : Ends F) (K : Memory → H → Type 0) → ((n : Memory) (answer : H) → K n answer → (r : Records) → IsKept role m r → IsKept role n r) → ((n : Memory) (answer : H) → K n answer → IsMemorySized m → IsMemorySized n) → ((n : Memory) (answer : H) → K n answer → n.station.counter ≡ m.station.counter)
+  pub plan_ok : {H F : Type 0} (ends : Ends F) (K : Memory → H → Type 0) → ((n : Memory) (answer : H) → K n answer → (r : Records) → IsKept role m r → IsKept role n r) → ((n : Memory) (answer : H) → K n answer → IsMemorySized m → IsMemorySized n) → ((n : Memory) (answer : H) → K n answer → (n.station.counter ≡ m.station.counter) × (n.station.marks ≡ m.station.marks))
       → (p : Plan Memory (Result H F)) → Planned in_memory ends m K (λ d a. MadeIn W L P E g m d × Few m.station d) p → IsMemorySized m → PlanOk role m p
   plan_ok ends K kept sized same p s h = record {
     leads = plan_leads role W L P E g m words offers known pairs coordinator grants ends K kept p s (waits_little m h);
     sized = plan_sized W L P E g m words ends K (λ d a. MadeIn W L P E g m d × Few m.station d) sized (λ d answer x. x.0) p s h;
     few = plan_few ends K p s (waits_little m h);
-    rises = λ fits. plan_rises W L P E g m ends K (λ d a. MadeIn W L P E g m d × Few m.station d) same (λ d answer x. x.0) p s fits;
+    rises = λ fits. plan_rises W L P E g m ends K (λ d a. MadeIn W L P E g m d × Few m.station d) (λ n answer k. (same n answer k).0) (λ d answer x. x.0) p s fits;
     from = plan_from W L P E g m ends K (λ d a. MadeIn W L P E g m d × Few m.station d) (λ d answer x. x.0) p s;
+    marked = plan_marks W L P E g m ends K (λ d a. MadeIn W L P E g m d × Few m.station d) (λ n answer k. (same n answer k).1) (λ d answer x. x.0) p s;
   }

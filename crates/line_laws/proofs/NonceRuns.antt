@@ -1,5 +1,5 @@
 -- Whose address a sealed flight has, and that no two nodes have one address and no two flights under one key one nonce before an event is forged.
-use Rattle.std.proofs.Common.{◌≡◌, ◌≢◌, ⊎_elim, ℕ, zero, suc, ◌<◌, List, [], ◌∷◌, ◌++◌, length, drop, get_or, Option, Some, None, Ok, refl, sym, ap, ◌∙◌, subst, arith}
+use Rattle.std.proofs.Common.{◌≡◌, ◌≢◌, ⊎_elim, ℕ, ◌<◌, List, [], ◌∷◌, ◌++◌, length, drop, get_or, Option, Some, None, Ok, refl, sym, ap, ◌∙◌, subst, arith}
 use Rattle.std.specs.Prelude.{All, AllPairs, IfSome, slice_get}
 use Rattle.std.proofs.lemmas.Bool.{cases_eq}
 use Rattle.std.proofs.lemmas.List.Elements.{All-nil, All-cons, All-head, All-tail}
@@ -26,6 +26,7 @@ use Rattle.line_laws.proofs.IssueWorlds.{Keyed}
 use Rattle.line_laws.proofs.IssueSteps.{step_keyed}
 use Rattle.line_laws.proofs.IssueRuns.{Kept, kept, all_of_one, start_keyed, EntryFlies}
 use Rattle.line_laws.proofs.Tellings.{step_is}
+use Rattle.line_laws.proofs.Homes.{at_length}
 use Rattle.line_laws.proofs.FlightFolds.{NewSenders, SendersIn, senders}
 use Rattle.line_laws.proofs.BookGrowth.{Goes, GoesBy, goes}
 
@@ -42,15 +43,6 @@ AtHome b w f = IfSome (nonce_parts f) (λ (p : NonceParts). IsHome b w f.from p.
 if_parts : (o : Option NonceParts) (P Q : NonceParts → Type 0) → ((p : NonceParts) → P p → Q p) → IfSome o P → IfSome o Q
 if_parts None P Q f h = tt
 if_parts (Some p) P Q f h = f p h
-
-record At {A : Type 0} (xs : List A) (k : ℕ) : Type 0 where
-  one : A
-  is : slice_get xs k ≡ Some one
-
-at_length : {A : Type 0} (xs : List A) (k : ℕ) → k < length xs → At xs k
-at_length [] k lt = absurd (omega arith)
-at_length (x ∷ xs) zero lt = record { one = x; is = refl }
-at_length (x ∷ xs) (suc k) lt = let h = at_length xs k (omega arith) in record { one = h.one; is = h.is }
 
 record SomeNode (w : World) (n a : ℕ) : Type 0 where
   node : Node

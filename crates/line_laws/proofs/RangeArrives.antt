@@ -27,7 +27,7 @@ use Rattle.line_laws.proofs.StoreFold.{WordFits}
 use Rattle.line_laws.proofs.NodeCalls.{heard_given}
 use Rattle.line_laws.proofs.MeterForms.{RingCause}
 use Rattle.line_laws.proofs.RangeFold.{InRange}
-use Rattle.line_laws.proofs.RangePlans.{DidRanged, acts_ranged, did_flights}
+use Rattle.line_laws.proofs.RangePlans.{RangeOk, DidRanged, acts_ranged, did_flights}
 use Rattle.line_laws.proofs.RangeHeard.{heard_ranged, plain_ranged, SaysShort, meter_carries, meter_hears_ranged}
 use Rattle.line_laws.proofs.RangeCoordinator.{SpeaksWell, SaysOnly, coordinator_carries, coordinator_words, coordinator_hears_ranged}
 use Rattle.line_laws.proofs.RangeCalls.{accept_ranged}
@@ -39,8 +39,8 @@ NodeRanged x = IfSome x.memory (λ (m : Memory). IsStationRanged m.station)
 
 -- What is owed of the words of a joining: what a meter installs is read back, and what it says fits a command; to whom the coordinator speaks.
 pub record JoinsWell (ciphers : Ciphers) (x : Node) (got : Accepted) (cost note now : ℕ) : Type 0 where
-  pub words : (psk : Key) (m : Memory) → x.memory ≡ Some m → (w : RingWord) → RingCause (heard_given got cost note now) (identity ciphers x psk) m w → WordFits w
-  pub short : (psk : Key) (m : Memory) → x.memory ≡ Some m → SaysShort (identity ciphers x psk) m
+  pub words : (psk : Key) → x.role ≡ Meter psk → (m : Memory) → x.memory ≡ Some m → (w : RingWord) → RingCause (heard_given got cost note now) (identity ciphers x psk) m w → WordFits w
+  pub short : (psk : Key) → x.role ≡ Meter psk → (m : Memory) → x.memory ≡ Some m → SaysShort (identity ciphers x psk) m
   pub coordinator : (m : Memory) → x.memory ≡ Some m → SpeaksWell (record { eui = x.eui; ciphers = ciphers }) (heard_given got cost note now) m
 
 module _ (ciphers : Ciphers) (opens : OpensWhatItSeals ciphers) (w : World) (are : AreFlights ciphers w.flights) (number : ℕ) (x : Node) (octets : List ℕ) (cost : ℕ) where
@@ -49,6 +49,19 @@ module _ (ciphers : Ciphers) (opens : OpensWhatItSeals ciphers) (w : World) (are
       → InRange W (heard_given got cost note w.clock)
   came_ranged got note (PlainCame plain) W carries words = plain_ranged got cost note w.clock (λ from all key e. subst IsPlain e plain) W carries words
   came_ranged got note (LetterCame l fits from counter is origin) W carries words = heard_ranged l fits from counter got is cost note w.clock W carries words
+
+  -- what a meter makes of it, and what the coordinator does
+  pub meter_plan_ranged : (y : Node) (psk : Key) (m : Memory) (got : Accepted) (note : ℕ) → WhatCame ciphers opens w are number x octets cost 1 0 (omega arith) got → IsStationRanged m.station → SaysShort (identity ciphers y psk) m
+      → ((v : RingWord) → RingCause (heard_given got cost note w.clock) (identity ciphers y psk) m v → WordFits v) → RangeOk (meters.hear_meter (identity ciphers y psk) m got cost note w.clock)
+  meter_plan_ranged y psk m got note what h short words = meter_hears_ranged (identity ciphers y psk) m got cost note w.clock
+      (came_ranged got note what (RingCause (heard_given got cost note w.clock) (identity ciphers y psk) m) (meter_carries (heard_given got cost note w.clock) (identity ciphers y psk) m short) words) h
+
+  pub coordinator_plan_ranged : (y : Node) (m : Memory) (got : Accepted) (note : ℕ) → WhatCame ciphers opens w are number x octets cost 1 0 (omega arith) got → IsStationRanged m.station → SpeaksWell (record { eui = y.eui; ciphers = ciphers }) (heard_given got cost note w.clock) m
+      → RangeOk (coordinators.hear_coordinator (record { eui = y.eui; ciphers = ciphers }) m got cost note w.clock)
+  coordinator_plan_ranged y m got note what h speaks =
+      let own : coordinators.CoordinatorIdentity = record { eui = y.eui; ciphers = ciphers } in
+      coordinator_hears_ranged own m got cost note w.clock
+      (came_ranged got note what (SaysOnly own (heard_given got cost note w.clock) m) (coordinator_carries own (heard_given got cost note w.clock) m speaks) (coordinator_words own (heard_given got cost note w.clock) m)) h
 
   hears_ranged : (y : Node) (got : Accepted) (note : ℕ) → WhatCame ciphers opens w are number x octets cost 1 0 (omega arith) got → NodeRanged y → JoinsWell ciphers y got cost note w.clock → DidRanged (hears ciphers y got cost note w.clock)
   hears_ranged y got note what ok joins = by_role y.role refl
@@ -65,13 +78,9 @@ module _ (ciphers : Ciphers) (opens : OpensWhatItSeals ciphers) (w : World) (are
 
       by_role : (role : Role) → y.role ≡ role → DidRanged (hears ciphers y got cost note w.clock)
       by_role Coordinator e = subst By (sym e) (read_as coordinator_reception _ (acts_ranged y (Err drops.Store) (λ m. coordinators.hear_coordinator (record { eui = y.eui; ciphers = ciphers }) m got cost note w.clock) ok
-          (λ m there h.
-          let own : coordinators.CoordinatorIdentity = record { eui = y.eui; ciphers = ciphers } in
-          coordinator_hears_ranged own m got cost note w.clock
-          (came_ranged got note what (SaysOnly own (heard_given got cost note w.clock) m) (coordinator_carries own (heard_given got cost note w.clock) m (joins.coordinator m there)) (coordinator_words own (heard_given got cost note w.clock) m)) h)))
+          (λ m there h. coordinator_plan_ranged y m got note what h (joins.coordinator m there))))
       by_role (Meter psk) e = subst By (sym e) (read_as meter_reception _ (acts_ranged y (Err drops.Store) (λ m. meters.hear_meter (identity ciphers y psk) m got cost note w.clock) ok
-          (λ m there h. meter_hears_ranged (identity ciphers y psk) m got cost note w.clock
-          (came_ranged got note what (RingCause (heard_given got cost note w.clock) (identity ciphers y psk) m) (meter_carries (heard_given got cost note w.clock) (identity ciphers y psk) m (joins.short psk m there)) (joins.words psk m there)) h)))
+          (λ m there h. meter_plan_ranged y psk m got note what h (joins.short psk e m there) (joins.words psk e m there))))
 
   abbrev pub accepts : NodeStep (Result Accepted FrameRefusal)
   accepts = acts x (Err frames.Halted) (λ m. of_station m (accept m.station x.eui (arrived ciphers octets)))

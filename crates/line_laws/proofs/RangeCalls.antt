@@ -42,7 +42,7 @@ call_ranged W cost note now near h carries words = record {
     by_near (Some a) h by e = (subst (λ k. k < 0xFFFE) (same_Some a by e) h.0, h.1)
 
 module _ (m : Memory) (h : IsStationRanged m.station) where
-  station_ranged : {H F : Type 0} (W : RingWord → Type 0) (g : Given) → InRange W g → (ends : Ends F) (p : Plan StationMemory (Result H F)) → Planned alone ends m.station Nothing (λ d (a : H). Made W g (empty_draft m.station) d × Few m.station d) p → RangeOk (of_station m p)
+  pub station_ranged : {H F : Type 0} (W : RingWord → Type 0) (g : Given) → InRange W g → (ends : Ends F) (p : Plan StationMemory (Result H F)) → Planned alone ends m.station Nothing (λ d (a : H). Made W g (empty_draft m.station) d × Few m.station d) p → RangeOk (of_station m p)
   unfolding resting
   station_ranged {H = H} {F = F} W g known ends p s = plan_ranged W NoGrant NoPair NoEui g known m h ends Nothing (λ d a. MadeIn W NoGrant NoPair NoEui g m d × Few m.station d) (λ n answer k. absurd k) (λ d a x. x.0) (of_station m p) (over p s)
     where

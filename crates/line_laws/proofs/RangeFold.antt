@@ -190,7 +190,7 @@ module _ (W : RingWord → Type 0) (g : Given) (s : Draft StationMemory) (known 
   made_ranged d (Numbers e made left) us =
       let r = made_ranged e made us in
       record { station = record { ring = r.station.ring; tag = r.station.tag; hops = r.station.hops; bodies = r.station.bodies; number = number_ranged e.memory left r.station.number }; units = r.units }
-  made_ranged d (Tags e made) us = let r = made_ranged e made us in record { station = record { ring = r.station.ring; tag = tag_ranged e.memory.next_tag; hops = r.station.hops; bodies = r.station.bodies; number = r.station.number }; units = r.units }
+  made_ranged d (Tags e made first) us = let r = made_ranged e made us in record { station = record { ring = r.station.ring; tag = tag_ranged e.memory.next_tag; hops = r.station.hops; bodies = r.station.bodies; number = r.station.number }; units = r.units }
   made_ranged d (Rings x e made change) us = let r = made_ranged e made us in record { station = record { ring = ring_fits W known.words e.memory.ring x change r.station.ring; tag = r.station.tag; hops = r.station.hops; bodies = r.station.bodies; number = r.station.number }; units = r.units }
   made_ranged d (Idles e made) us = let r = made_ranged e made us in record { station = record { ring = r.station.ring; tag = r.station.tag; hops = rested_hops e.memory.routing r.station.hops; bodies = All-nil IsBody; number = r.station.number }; units = r.units }
   made_ranged d (Loses lost by e made) us = let r = made_ranged e made us in record { station = record { ring = r.station.ring; tag = r.station.tag; hops = ended_hops _ e.memory.routing r.station.hops; bodies = r.station.bodies; number = r.station.number }; units = r.units }

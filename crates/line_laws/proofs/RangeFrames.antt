@@ -74,7 +74,7 @@ module _ (W : RingWord → Type 0) (g : Given) where
   made_plain s d Starts = refl
   made_plain s d (Ranks by origin rank e made o fits) = made_plain s e made
   made_plain s d (Numbers e made left) = made_plain s e made
-  made_plain s d (TagsOn e made) = made_plain s e made
+  made_plain s d (TagsOn e made first) = made_plain s e made
   made_plain s d (Rings x e made change) = made_plain s e made
   made_plain s d (Idles e made) = made_plain s e made
   made_plain s d (Loses lost by e made) = made_plain s e made

@@ -14,8 +14,6 @@ use Rattle.plc_base.specs.Grant.{Granted}
 use Rattle.frame_counters.specs.PeerMarks as marks
 use Rattle.frame_counters.proofs.Tables.{room_new}
 use Rattle.group_keys.specs.declared.fault.RingFault.TheVariants.{Store as RingStore}
-use Rattle.joining_messages.specs.declared.message.JoinMessage.{JoinMessage}
-use Rattle.joining_messages.specs.Reading.{join_in}
 use Rattle.routing_set.specs.declared.rank.Rank.{Rank}
 use Rattle.routing_set.specs.RoutingSet as routing
 use Rattle.node_rules.specs.declared.heard.Accepted.{Accepted}

@@ -83,7 +83,7 @@ module _ (At : ℕ → Type 0) (W : RingWord → Type 0) (installs : (granted : 
   made_at g s d Starts h = h
   made_at g s d (Ranks by origin rank e made o fits) h = made_at g s e made h
   made_at g s d (Numbers e made left) h = made_at g s e made h
-  made_at g s d (Tags e made) h = made_at g s e made h
+  made_at g s d (Tags e made first) h = made_at g s e made h
   made_at g s d (Rings r e made change) h = ring_at e.memory.ring r change (made_at g s e made h)
   made_at g s d (Idles e made) h = made_at g s e made h
   made_at g s d (Loses lost by e made) h = made_at g s e made h
@@ -115,7 +115,7 @@ module _ (At Own : ℕ → Type 0) (C : ℕ → ℕ → Rank → Type 0) (W : Ri
       let f = offers (address_of e.memory) (made_at At W installs g s e made h) by origin rank o in
       account_trans s.memory.routing e.memory.routing _ a (offered_account e.memory.routing origin rank by g.now a.sound fits.better fits.room f.apart f.cause)
   made_account s d (Numbers e made left) h sound = made_account s e made h sound
-  made_account s d (Tags e made) h sound = made_account s e made h sound
+  made_account s d (Tags e made first) h sound = made_account s e made h sound
   made_account s d (Rings r e made change) h sound = made_account s e made h sound
   made_account s d (Idles e made) h sound = let a = made_account s e made h sound in account_trans s.memory.routing e.memory.routing _ a (ended_account e.memory.routing (λ _. true) a.sound)
   made_account s d (Loses lost by e made) h sound = let a = made_account s e made h sound in account_trans s.memory.routing e.memory.routing _ a (ended_account e.memory.routing _ a.sound)
@@ -171,7 +171,7 @@ module _ (At Own : ℕ → Type 0) (C : ℕ → ℕ → Rank → Type 0) (W : Ri
         let f = offers (address_of e.memory) (made_at At W installs g s e made h) by origin rank o in
         adds_then s.puts e.puts _ _ s.memory.routing e.memory.routing _ (made_adds s e made h) refl (offered_leads Own C first e.memory.routing origin rank by g.now f.fits fits.better fits.room f.apart f.cause)
     made_adds s d (Numbers e made left) h = away s e d _ (made_adds s e made h) refl (number_away e.memory.own_number)
-    made_adds s d (Tags e made) h = away s e d _ (made_adds s e made h) refl (low_away 4 _ (omega arith))
+    made_adds s d (Tags e made first) h = away s e d _ (made_adds s e made h) refl (low_away 4 _ (omega arith))
     made_adds s d (Rings r e made change) h = away s e d _ (made_adds s e made h) refl (low_away 1 _ (omega arith))
     made_adds s d (Idles e made) h = adds_then s.puts e.puts _ [] s.memory.routing e.memory.routing _ (made_adds s e made h) (sym (append-nil e.puts)) (ended_leads e.memory.routing (λ _. true))
     made_adds s d (Loses lost by e made) h = adds_then s.puts e.puts _ [] s.memory.routing e.memory.routing _ (made_adds s e made h) (sym (append-nil e.puts)) (ended_leads e.memory.routing _)

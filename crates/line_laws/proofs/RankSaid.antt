@@ -1,5 +1,5 @@
 -- The ranks that a node says are its own numbers at cost 0, or its kept ranks back them.
-use Rattle.std.proofs.Common.{◌≡◌, ◌⊎◌, inl, inr, ℕ, zero, suc, ◌+◌, ◌<◌, Bool, true, false, cond, List, [], ◌∷◌, ◌++◌, length, map, set, Option, Some, None, refl, sym, ap, ◌∙◌, subst, arith}
+use Rattle.std.proofs.Common.{◌≡◌, ◌⊎◌, inl, inr, ℕ, zero, suc, ◌+◌, ◌<◌, ◌^◌, Bool, true, false, cond, List, [], ◌∷◌, ◌++◌, length, map, set, Option, Some, None, refl, sym, ap, ◌∙◌, subst, arith}
 use Rattle.std.specs.Prelude.{All, if◌then◌else◌, is_some, nat_le, nat_lt, ◌==◌, slice_get}
 use Rattle.std.specs.List.{filter, flat_map, find, position_or_len}
 use Rattle.std.specs.Option.{option_map, option_map_or, option_and_then, option_or}
@@ -109,9 +109,13 @@ offered_held r dest rank by now =
 
 -- # What is said
 
+-- a rank of two octets each, of an address of two octets
+abbrev pub IsSmall : (number cost origin : ℕ) → Type 0
+IsSmall number cost origin = (number < 2 ^ 16) × (cost < 2 ^ 16) × (origin < 2 ^ 16)
+
 -- the rank is the node's own at cost 0, or what is held is that rank or beats it
 abbrev pub RankBacked : (ℕ → Type 0) → routing.Routing → (number cost origin : ℕ) → Type 0
-RankBacked At t number cost origin = (At origin × (cost ≡ 0)) ⊎ IsAtLeast (routing.held t origin) (record { number = number; cost = cost })
+RankBacked At t number cost origin = (At origin × (cost ≡ 0)) ⊎ (IsAtLeast (routing.held t origin) (record { number = number; cost = cost }) × IsSmall number cost origin)
 
 -- a request and a reply offer a rank, an error none
 abbrev pub MessageBacked : (ℕ → Type 0) → routing.Routing → Message → Type 0
@@ -134,9 +138,9 @@ FrameBacked At t (PlainDown from message) = Unit {0}
 
 pub message_rises : (At : ℕ → Type 0) (t s : routing.Routing) (m : Message) → ((dest : ℕ) → IsAtLeast (routing.held s dest) (routing.held t dest)) → MessageBacked At t m → MessageBacked At s m
 message_rises At t s (Rreq number cost origin dest) up (inl same) = inl same
-message_rises At t s (Rreq number cost origin dest) up (inr k) = inr (at_least_trans _ _ _ (up origin) k)
+message_rises At t s (Rreq number cost origin dest) up (inr k) = inr (at_least_trans _ _ _ (up origin) k.0, k.1)
 message_rises At t s (Rrep number cost origin to) up (inl same) = inl same
-message_rises At t s (Rrep number cost origin to) up (inr k) = inr (at_least_trans _ _ _ (up origin) k)
+message_rises At t s (Rrep number cost origin to) up (inr k) = inr (at_least_trans _ _ _ (up origin) k.0, k.1)
 message_rises At t s (Rerr lost to) up h = tt
 
 pub unit_rises : (At : ℕ → Type 0) (t s : routing.Routing) (u : MeshUnit) → ((dest : ℕ) → IsAtLeast (routing.held s dest) (routing.held t dest)) → UnitBacked At t u → UnitBacked At s u
@@ -186,11 +190,15 @@ module _ (At Own : ℕ → Type 0) (C : ℕ → ℕ → Rank → Type 0) (W : Ri
   unfolding with_rank leave
   just_held d by origin rank j = ap (λ (x : Draft StationMemory). routing.held x.memory.routing origin) j.is ∙ offered_held j.before.memory.routing origin rank by g.now
 
+  -- what is offered is small
+  small : (d : Draft StationMemory) (by origin : ℕ) (rank : Rank) → IsAt At (address_of d.memory) → Offered g (address_of d.memory) by origin rank → IsSmall rank.number rank.cost origin
+  small d by origin rank h o = let f = (offers (address_of d.memory) h by origin rank o).fits in let a = f.address in (f.number, f.cost, omega arith)
+
   said_backed : (s d : Draft StationMemory) (to : ℕ) (unit : MeshUnit) (note : ℕ) → IsSaid W g s d to unit note → IsAt At (address_of d.memory) → UnitBacked At d.memory.routing unit
   said_backed s d to unit note (Seeks x dest number n load here last some carried) h = Says (Rreq number 0 x dest) (inl (subst (IsAt At) here h, refl))
   said_backed s d to unit note (Answers x by origin number n c dest here last some told) h = Says (Rrep number 0 x origin) (inl (subst (IsAt At) here h, refl))
-  said_backed s d to unit note (Relays by origin dest n c rank o just told) h = Says (Rreq rank.number rank.cost origin dest) (inr (inl (just_held d by origin rank just)))
-  said_backed s d to unit note (Passes by origin target hop n c rank o just told there) h = Says (Rrep rank.number rank.cost origin target) (inr (inl (just_held d by origin rank just)))
+  said_backed s d to unit note (Relays by origin dest n c rank o just told) h = Says (Rreq rank.number rank.cost origin dest) (inr (inl (just_held d by origin rank just), small d by origin rank h o))
+  said_backed s d to unit note (Passes by origin target hop n c rank o just told there) h = Says (Rrep rank.number rank.cost origin target) (inr (inl (just_held d by origin rank just), small d by origin rank h o))
   said_backed s d to unit note (Tells hop lost target dest why there) h = Says (Rerr lost target) tt
   said_backed s d to unit note (Forwards by hop dest u less came is there) h = less_backed At d.memory.routing u less is
 
@@ -203,7 +211,7 @@ module _ (At Own : ℕ → Type 0) (C : ℕ → ℕ → Rank → Type 0) (W : Ri
       let b = offered_account {Own = Own} {C = C} e.memory.routing origin rank by g.now a.sound fits.better fits.room f.apart f.cause in
       All-weaker (Out At e.memory.routing) (Out At (routing.offered e.memory.routing origin rank by g.now)) (λ u k. unit_rises At e.memory.routing (routing.offered e.memory.routing origin rank by g.now) u.unit b.above k) e.units (made_backed s e made h sound all)
   made_backed s d (Numbers e made left) h sound all = made_backed s e made h sound all
-  made_backed s d (Tags e made) h sound all = made_backed s e made h sound all
+  made_backed s d (Tags e made first) h sound all = made_backed s e made h sound all
   made_backed s d (Rings r e made change) h sound all = made_backed s e made h sound all
   made_backed s d (Idles e made) h sound all =
       let b = ended_account {Own = Own} {C = C} e.memory.routing (λ _. true) (made_account At Own C W g installs offers s e made h sound).sound in
@@ -224,7 +232,7 @@ unfolding with_rank with_own_number with_next_tag with_ring with_routing_by goes
 made_plain W g s d Starts = refl
 made_plain W g s d (Ranks by origin rank e made o fits) = made_plain W g s e made
 made_plain W g s d (Numbers e made left) = made_plain W g s e made
-made_plain W g s d (Tags e made) = made_plain W g s e made
+made_plain W g s d (Tags e made first) = made_plain W g s e made
 made_plain W g s d (Rings r e made change) = made_plain W g s e made
 made_plain W g s d (Idles e made) = made_plain W g s e made
 made_plain W g s d (Loses lost by e made) = made_plain W g s e made

@@ -1,9 +1,14 @@
 -- What a meter makes of a frame, where the grant that it takes, if it takes one, has its own address.
-use Rattle.std.proofs.Common.{◌≡◌, ℕ, Bool, true, false, List, length, Option, Some, None, Ok, Err, refl, sym, subst}
+use Rattle.std.proofs.Common.{◌≡◌, ℕ, Bool, true, false, List, [], ◌∷◌, length, Option, Some, None, Ok, Err, refl, sym, subst}
 use Rattle.std.specs.Prelude.{if◌then◌else◌, nat_lt}
 use Rattle.std.specs.Option.{option_map, option_map_or}
 use Rattle.std.proofs.lemmas.Option.{same_Some, none-some}
 use Rattle.plc_base.specs.Grant.{Granted}
+use Rattle.plc_base.specs.declared.address.Eui.{Eui}
+use Rattle.plc_base.specs.declared.tags.PairTag.{PairTag}
+use Rattle.eap_psk.specs.Messages.{granting_text}
+use Rattle.eap_psk.specs.Sessions.{identifier_of}
+use Rattle.eap_psk.specs.Tags.{mac_s_tag, granting_tag, success_tag}
 use Rattle.eap_psk.specs.declared.peer.Peer.{Peer}
 use Rattle.eap_psk.specs.declared.server.Agreed.{Agreed}
 use Rattle.joining_messages.specs.declared.message.JoinMessage.{JoinMessage}
@@ -19,18 +24,19 @@ use Rattle.node_rules.specs.declared.refusal.Dropped.{Dropped}
 use Rattle.node_rules.specs.declared.refusal.Dropped.TheVariants.{CounterSpent, NoSession, Store}
 use Rattle.node_rules.specs.Memory.{Memory, MeterSession, Course, ByAgent, ByCommand, address_of}
 use Rattle.node_rules.specs.Plans.{resting}
-use Rattle.node_rules.specs.Drafts.{Draft, counters_left, refused, sealing, sealed, checked, choose}
+use Rattle.node_rules.specs.Drafts.{Draft, empty_draft, with_ring, counters_left, refused, sealing, sealed, checked, choose}
 use Rattle.node_rules.specs.Hearing.{dropped, hear}
-use Rattle.node_rules.specs.MemoryDrafts.{in_memory, unread, Unread, packet_fault}
-use Rattle.node_rules.specs.Joining.{is_first}
-use Rattle.node_rules.specs.Meters.{Identity, Hearing, ends, third_course_fault, take_with, take_by, take, challenged, hear_near, hear_order, hear_join, hear_join_in, heard_by, hear_meter}
-use Rattle.line_laws.proofs.Made.{Offered}
+use Rattle.node_rules.specs.MemoryDrafts.{in_memory, on_station, with_memory_by, with_pair_tags, goes_up, unread, Unread, packet_fault}
+use Rattle.node_rules.specs.Joining.{is_first, message}
+use Rattle.node_rules.specs.Meters.{Identity, Hearing, with_session, says, ends, third_course_fault, take_with, take_by, take, challenged, hear_near, hear_order, hear_join, hear_join_in, heard_by, hear_meter}
+use Rattle.line_laws.proofs.IssueWords.{Among, Here, Later, among_right, commanded_leaves}
+use Rattle.line_laws.proofs.Made.{Given, Offered}
 use Rattle.line_laws.proofs.NodeCalls.{heard_given}
 use Rattle.line_laws.proofs.MeterForms.{IsTaken}
 use Rattle.line_laws.proofs.RankFold.{IsAt, OfferFits}
 use Rattle.line_laws.proofs.RankPlans.{PlanRanks, resting_ranks}
 use Rattle.line_laws.proofs.RankCalls.{meter_hears_ranks}
-use Rattle.line_laws.specs.Loops.{TakenFrom}
+use Rattle.line_laws.proofs.Homed.{TakenFrom, IsTagged}
 
 -- the grant, if it passes
 abbrev only : (Granted → Bool) → Option Granted → Option Granted
@@ -38,21 +44,21 @@ only ok None = None
 only ok (Some g) = if ok g then Some g else None
 
 -- the same meter, which reads no other grants
-abbrev picky : (Granted → Bool) → Identity → Identity
+abbrev pub picky : (Granted → Bool) → Identity → Identity
 picky ok x = record x { ciphers = record x.ciphers { granted = λ psk peer packet. only ok (x.ciphers.granted psk peer packet) } }
 
 module _ (x : Identity) (m : Memory) (got : Accepted) (cost note now : ℕ) (ok : Granted → Bool) where
   -- A frame with a grant that does not pass.
-  record Wrong : Type 0 where
-    granted : Granted
-    from : TakenFrom x m got cost note now granted
-    wrong : ok granted ≡ false
+  pub record Wrong : Type 0 where
+    pub granted : Granted
+    pub from : TakenFrom x m got cost note now granted
+    pub wrong : ok granted ≡ false
 
-  -- the picky meter does the same, or the frame is refused, or a wrong grant is taken
-  data Walk (q p : Hearing) : Type 0 where
+  -- the picky meter does the same, or the frame is refused, or a wrong grant is taken under its tag
+  pub data Walk (q p : Hearing) : Type 0 where
     Same : q ≡ p → Walk q p
     Refused : (reason : Dropped) → p ≡ resting m (Err reason) (Err Store) → Walk q p
-    Takes : (agreed : Agreed) → p.answer ≡ Ok (heard.Took agreed) → Wrong → Walk q p
+    Takes : (agreed : Agreed) → p.answer ≡ Ok (heard.Took agreed) → (wrong : Wrong) → IsTagged wrong.from p.opened → Walk q p
 
   walk_checked : (fault : Option Dropped) (q p : Hearing) → (fault ≡ None → Walk q p) → Walk (checked dropped m fault q) (checked dropped m fault p)
   unfolding checked
@@ -66,18 +72,28 @@ module _ (x : Identity) (m : Memory) (got : Accepted) (cost note now : ℕ) (ok 
 
   -- # The third packet
 
-  walk_sealed : (q : Hearing) (d : Draft Memory) (agreed : Agreed) → Wrong → Walk q (ends m d (heard.Took agreed))
+  walk_sealed : (q : Hearing) (d : Draft Memory) (agreed : Agreed) (wrong : Wrong) → IsTagged wrong.from d.opened → Walk q (ends m d (heard.Took agreed))
   unfolding sealed
-  walk_sealed q d agreed wrong = by_left (nat_lt (counters_left m.station) (length d.units))
+  walk_sealed q d agreed wrong tagged = by_left (nat_lt (counters_left m.station) (length d.units))
     where
       by_left : (b : Bool) → Walk q (if b then refused dropped m CounterSpent else sealing in_memory dropped d (heard.Took agreed))
       by_left true = Refused CounterSpent refl
-      by_left false = Takes agreed refl wrong
+      by_left false = Takes agreed refl wrong tagged
 
-  walk_lack : (q : Hearing) (lack : Option Dropped) (d : Draft Memory) (agreed : Agreed) → Wrong → Walk q (checked dropped m lack (ends m d (heard.Took agreed)))
+  walk_lack : (q : Hearing) (lack : Option Dropped) (d : Draft Memory) (agreed : Agreed) (wrong : Wrong) → IsTagged wrong.from d.opened → Walk q (checked dropped m lack (ends m d (heard.Took agreed)))
   unfolding checked
-  walk_lack q None d agreed wrong = walk_sealed q d agreed wrong
-  walk_lack q (Some reason) d agreed wrong = Refused reason refl
+  walk_lack q None d agreed wrong tagged = walk_sealed q d agreed wrong tagged
+  walk_lack q (Some reason) d agreed wrong tagged = Refused reason refl
+
+  -- what is said opens no tag
+  said_opens : (way : Course) (own : Eui) (join : JoinMessage) (d : Draft Memory) → (says way own join now d).opened ≡ d.opened
+  unfolding goes_up
+  said_opens (ByAgent agent) own join d = refl
+  said_opens ByCommand own join d = (commanded_leaves (λ r. Unit {0}) 0 join now d).opened
+
+  tagged_draft : (made opened : List PairTag) (d : Draft Memory) (tag : PairTag) → Among tag opened → Among tag (with_pair_tags made opened d).opened
+  unfolding with_pair_tags
+  tagged_draft made opened d tag among = among_right tag d.opened opened among
 
   -- the challenge of the frame
   record Challenged (packet : List ℕ) : Type 0 where
@@ -95,11 +111,19 @@ module _ (x : Identity) (m : Memory) (got : Accepted) (cost note now : ℕ) (ok 
       where
         by_ok : (b : Bool) → ok g ≡ b → Walk (take_with (picky ok x) m course packet now peer (if b then Some g else None)) (take_with x m course packet now peer (Some g))
         by_ok true e = Same refl
-        by_ok false e = walk_lack _ _ _ _ (record {
-          granted = g;
-          from = record { unread_is = came.unread_is; frame = came.frame; join = came.join; read = came.read; packet = packet; challenge = came.challenge; session = s; open_is = there; peer = peer; has = has; right = right; is = is };
-          wrong = e;
-        })
+        by_ok false e =
+            let join = message x.eui (body.Join (x.ciphers.fourth x.psk (identifier_of packet) peer)) in
+            let made : List PairTag = success_tag peer.eui (identifier_of packet) peer.rand_s peer.rand_p ∷ [] in
+            let opened : List PairTag = mac_s_tag peer.eui peer.id_s peer.rand_p ∷ granting_tag peer.eui (identifier_of packet) peer.rand_s peer.rand_p (granting_text g) ∷ [] in
+            let before : Draft Memory = on_station (with_ring (Some g)) (with_memory_by (with_session None) (empty_draft m)) in
+            let d : Draft Memory = with_pair_tags made opened before in
+            walk_lack _ _ _ _ (record {
+              granted = g;
+              from = record { unread_is = came.unread_is; frame = came.frame; join = came.join; read = came.read; packet = packet; challenge = came.challenge; session = s; open_is = there; peer = peer; has = has; right = right; is = is };
+              wrong = e;
+            })
+            (subst (Among (granting_tag peer.eui (identifier_of packet) peer.rand_s peer.rand_p (granting_text g))) (sym (said_opens course peer.eui join d))
+            (tagged_draft made opened before _ (Later _ _ (Here []))))
 
     no_fault : {A B : Type 0} (f : A → B) (o : Option A) → option_map f o ≡ None → o ≡ None
     no_fault f None e = refl
@@ -144,29 +168,30 @@ module _ (x : Identity) (m : Memory) (got : Accepted) (cost note now : ℕ) (ok 
   walk_heard None frame = Same refl
   walk_heard (Some u) frame = walk_join_in u frame (join_in u.body) refl
 
-  walk_meter : Walk (hear_meter (picky ok x) m got cost note now) (hear_meter x m got cost note now)
+  pub walk_meter : Walk (hear_meter (picky ok x) m got cost note now) (hear_meter x m got cost note now)
   walk_meter = walk_heard (unread (hear m.station got cost note now).answer) refl
+
+-- what the picky meter takes passes
+pub picky_grants : (At : ℕ → Type 0) (g : Given) (m : Memory) (ok : Granted → Bool) → ((granted : Granted) → ok granted ≡ true → At granted.address) → (x : Identity) (granted : Granted) → IsTaken g (picky ok x) m granted → At granted.address
+picky_grants At g m ok passes x granted taken = by_read (x.ciphers.granted x.psk taken.peer taken.packet) taken.is
+  where
+    by_ok : (g : Granted) (b : Bool) → ok g ≡ b → (if b then Some g else None) ≡ Some granted → At granted.address
+    by_ok g true e is = subst (λ (y : Granted). At y.address) (same_Some _ _ is) (passes g e)
+    by_ok g false e is = absurd (none-some granted is)
+
+    by_read : (o : Option Granted) → only ok o ≡ Some granted → At granted.address
+    by_read None is = absurd (none-some granted is)
+    by_read (Some g) is = by_ok g (ok g) refl is
 
 module _ (At Own : ℕ → Type 0) (C : ℕ → ℕ → Rank → Type 0) (m : Memory) (here : IsAt At (address_of m.station)) (got : Accepted) (cost note now : ℕ)
     (offers : (address : Option ℕ) → IsAt At address → (by origin : ℕ) (rank : Rank) → Offered (heard_given got cost note now) address by origin rank → OfferFits Own C by origin rank now)
     (ok : Granted → Bool) (passes : (g : Granted) → ok g ≡ true → At g.address) (fails : (g : Granted) → ok g ≡ false → ¬ (At g.address)) where
-  picky_grants : (x : Identity) (granted : Granted) → IsTaken (heard_given got cost note now) (picky ok x) m granted → At granted.address
-  picky_grants x granted taken = by_read (x.ciphers.granted x.psk taken.peer taken.packet) taken.is
-    where
-      by_ok : (g : Granted) (b : Bool) → ok g ≡ b → (if b then Some g else None) ≡ Some granted → At granted.address
-      by_ok g true e is = subst (λ (y : Granted). At y.address) (same_Some _ _ is) (passes g e)
-      by_ok g false e is = absurd (none-some granted is)
-
-      by_read : (o : Option Granted) → only ok o ≡ Some granted → At granted.address
-      by_read None is = absurd (none-some granted is)
-      by_read (Some g) is = by_ok g (ok g) refl is
-
   -- where a meter that takes a grant takes one of its own address
-  pub taking_ranks : (x : Identity) → ((agreed : Agreed) → (hear_meter x m got cost note now).answer ≡ Ok (heard.Took agreed) → (granted : Granted) → TakenFrom x m got cost note now granted → At granted.address)
+  pub taking_ranks : (x : Identity) → ((agreed : Agreed) → (hear_meter x m got cost note now).answer ≡ Ok (heard.Took agreed) → (granted : Granted) → (t : TakenFrom x m got cost note now granted) → IsTagged t (hear_meter x m got cost note now).opened → At granted.address)
       → PlanRanks At Own C m (hear_meter x m got cost note now)
   taking_ranks x took = by_walk (walk_meter x m got cost note now ok)
     where
       by_walk : Walk x m got cost note now ok (hear_meter (picky ok x) m got cost note now) (hear_meter x m got cost note now) → PlanRanks At Own C m (hear_meter x m got cost note now)
-      by_walk (Same e) = subst (λ (p : Hearing). PlanRanks At Own C m p) e (meter_hears_ranks At Own C m here got cost note now offers (picky ok x) (picky_grants x))
+      by_walk (Same e) = subst (λ (p : Hearing). PlanRanks At Own C m p) e (meter_hears_ranks At Own C m here got cost note now offers (picky ok x) (picky_grants At (heard_given got cost note now) m ok passes x))
       by_walk (Refused reason e) = subst (λ (p : Hearing). PlanRanks At Own C m p) (sym e) (resting_ranks At Own C m m _ _ refl refl here)
-      by_walk (Takes agreed e w) = absurd (fails w.granted w.wrong (took agreed e w.granted w.from))
+      by_walk (Takes agreed e w tagged) = absurd (fails w.granted w.wrong (took agreed e w.granted w.from tagged))

@@ -7,12 +7,14 @@ use Rattle.std.proofs.lemmas.List.Elements.{All-cons, All-replicate}
 use Rattle.plc_base.specs.Faults.{◌then◌, ◌when◌, fault_at, cut_off}
 use Rattle.plc_base.specs.Fields.{octet, two, part, after}
 use Rattle.joining_messages.specs.declared.message.JoinMessage.{JoinMessage}
+use Rattle.joining_messages.specs.declared.message.JoinBody.{JoinBody}
 use Rattle.joining_messages.specs.declared.message.JoinBody.TheVariants as body
+use Rattle.joining_messages.specs.Messages.{rest_of}
 use Rattle.plc_base.specs.declared.fields.Fault.{Fault}
 use Rattle.joining_messages.specs.declared.fault.JoinFaultKind.{JoinFaultKind}
 use Rattle.std.proofs.lemmas.Option.{same_Some}
 use Rattle.joining_messages.specs.declared.fault.JoinFaultKind.TheVariants as kinds
-use Rattle.joining_messages.specs.Faults.{code_fault, eui_fault, rest_fault, join_fault, is_index, activate_rest_fault}
+use Rattle.joining_messages.specs.Faults.{code_fault, eui_fault, join_rest_fault, accept_rest_fault, challenge_rest_fault, no_rest_fault, rest_fault, join_fault, is_index, activate_rest_fault}
 use Rattle.joining_messages.specs.Reading.{join_in, body_in, key_at, granted_in, grant_in}
 use Rattle.joining_messages.specs.Grants.{stands, head_stands, address_stands, index_stands, key_stands, is_parameter_list}
 use Rattle.plc_base.specs.declared.key.Key.{Key}
@@ -108,6 +110,24 @@ join_ranges octets join e =
       ap length (sym r.eui) ∙ eight octets (long_enough octets b.0),
       λ index is. activates_low octets index (code_range octets a.0) b.1 (r.body ∙ is),
     )
+
+-- what stands behind the EUI is no longer than a packet may be
+rest_low : (octets : List ℕ) (a b c d e f : Bool)
+    → (if a then join_rest_fault octets else (if b then accept_rest_fault octets else (if c then challenge_rest_fault octets else (if f then activate_rest_fault octets else no_rest_fault octets)))) ≡ None
+    → length (rest_of (if a then body.Join (after 9 octets) else (if b then body.Accept (octet 10 octets) else (if c then body.Challenge (after 9 octets) else (if d then body.Decline else (if e then body.Kick else body.Activate (octet 9 octets))))))) ≤ 128
+unfolding join_rest_fault challenge_rest_fault after
+rest_low octets true b c d e f none = let few = ltb-false _ _ (when_none _ _ none) in let less = length-drop 9 octets in omega arith
+rest_low octets false true c d e f none = omega arith
+rest_low octets false false true d e f none = let few : length octets ≤ 137 = ltb-false 137 (length octets) (or_parts (nat_lt (length octets) 10) (nat_lt 137 (length octets)) (when_none _ _ none)).1 in let less = length-drop 9 octets in omega arith
+rest_low octets false false false true e f none = omega arith
+rest_low octets false false false false true f none = omega arith
+rest_low octets false false false false false f none = omega arith
+
+pub rest_ranges : (octets : List ℕ) (join : JoinMessage) → join_in octets ≡ Some join → length (rest_of join.body) ≤ 128
+rest_ranges octets join e =
+    let r = is_read octets join e in
+    let b = then_none _ _ (then_none _ _ r.none).1 in
+    subst (λ (x : JoinBody). length (rest_of x) ≤ 128) r.body (rest_low octets (octet 0 octets == 1) (octet 0 octets == 2) (octet 0 octets == 3) (octet 0 octets == 4) (octet 0 octets == 5) (octet 0 octets == 6) b.1)
 
 -- # Grants
 

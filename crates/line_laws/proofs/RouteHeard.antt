@@ -1,6 +1,6 @@
 -- What a node hears of ranks, where no event is forged, was said by the node of its neighbour's address, which backs it.
-use Rattle.std.proofs.Common.{◌≡◌, ◌⊎◌, inl, inr, ℕ, ◌≤◌, Bool, true, false, not, List, [], ◌∷◌, Option, Some, None, Ok, refl, sym, ap, ◌∙◌, subst}
-use Rattle.std.specs.Prelude.{All, ◌==◌, ◌||◌}
+use Rattle.std.proofs.Common.{◌≡◌, inl, inr, ℕ, ◌≤◌, ◌<◌, ◌^◌, ◌/◌, ◌%◌, Bool, true, false, not, List, [], ◌∷◌, Option, Some, None, Ok, refl, sym, ap, ◌∙◌, subst, arith}
+use Rattle.std.specs.Prelude.{All, ◌==◌, ◌||◌, slice_index}
 use Rattle.std.specs.List.{list_any}
 use Rattle.std.specs.Option.{option_map_or}
 use Rattle.std.proofs.lemmas.Bool.{eqb-false, and_parts}
@@ -14,7 +14,7 @@ use Rattle.mesh_header.specs.declared.unit.Unit.{Unit as MeshUnit}
 use Rattle.mesh_header.specs.declared.unit.Unit.TheVariants as units
 use Rattle.mesh_header.specs.Reading.{unit_in}
 use Rattle.loadng_messages.specs.declared.message.Message.{Message}
-use Rattle.loadng_messages.specs.declared.message.Message.TheVariants.{Rreq, Rrep}
+use Rattle.loadng_messages.specs.declared.message.Message.TheVariants.{Rreq, Rrep, Rerr}
 use Rattle.loadng_messages.specs.Grammar as messages
 use Rattle.loadng_messages.specs.Reading.{message_in}
 use Rattle.routing_set.specs.declared.rank.Rank.{Rank}
@@ -35,10 +35,12 @@ use Rattle.line_laws.proofs.Made.{Offered, ByRequest, ByReply, ByItself}
 use Rattle.line_laws.proofs.NodeCalls.{RoutesFit, heard_given, heard_offers, no_some}
 use Rattle.line_laws.proofs.RankOrder.{beats_at_least, beats_farther}
 use Rattle.line_laws.proofs.RankFold.{IsAt, OfferFits}
-use Rattle.line_laws.proofs.RankSaid.{MessageBacked, UnitBacked, Says, IsWhole, IsPart, IsCarried}
+use Rattle.line_laws.proofs.RankSaid.{RankBacked, MessageBacked, UnitBacked, Says, IsWhole, IsPart, IsCarried}
 use Rattle.line_laws.proofs.RouteParts as parts
 use Rattle.line_laws.proofs.RouteParts.{At, Own, Nearer, IsNearer, FlightBacked, IsLetter}
-use Rattle.line_laws.specs.Loops.{stored, Homes, LetterRead}
+use Rattle.line_laws.specs.Loops.{stored}
+use Rattle.line_laws.proofs.LettersRead.{LetterRead}
+use Rattle.line_laws.proofs.Homed.{Homes}
 
 -- The node of an address stands behind a message.
 pub record SaidBy (h : Homes) (w : World) (by : ℕ) (message : Message) : Type 0 where
@@ -53,7 +55,58 @@ pub record SaidRight (h : Homes) (w : World) (got : Accepted) : Type 0 where
   pub run : (by : ℕ) (all : Bool) (key : Key) (code : ℕ) (body : List ℕ) (message : Message) → got.path ≡ paths.Sealed by all key → unit_in got.payload ≡ Some (units.Local code body) → (code == 1) ≡ true → message_in body ≡ Some message
       → SaidBy h w by message
 
-module _ (ciphers : Ciphers) (h : Homes) (w : World) (backed : All (FlightBacked ciphers h w) w.flights) where
+-- a number of two octets is that of its spelling
+same_number : (a b : ℕ) → a < 65536 → b < 65536 → a / 256 % 256 ≡ b / 256 % 256 → a % 256 ≡ b % 256 → a ≡ b
+same_number a b la lb high low = omega arith
+
+no_cost : (a b : ℕ) → a ≡ 0 → b < 65536 → a / 256 % 256 ≡ b / 256 % 256 → a % 256 ≡ b % 256 → b ≡ 0
+no_cost a b zero_is lb high low = omega arith
+
+not_below : (a b : ℕ) → a ≡ b → a < b → ⊥
+not_below a b e lt = omega arith
+
+not_above : (a b : ℕ) → a ≡ b → b < a → ⊥
+not_above a b e lt = omega arith
+
+-- What stands in octets that are the same, at a place and behind it.
+record SameTwo (a b : ℕ) : Type 0 where
+  high : a / 256 % 256 ≡ b / 256 % 256
+  low : a % 256 ≡ b % 256
+
+-- the number, the cost and the address in the spellings of two messages that are the same
+module _ (At : ℕ → Type 0) (t : routing.Routing) (low : (a : ℕ) → At a → a < 0xFFFE) where
+  rank_same : (n c o m d p : ℕ) → messages.IsNumber m → d < 2 ^ 16 → p < 0xFFFE → SameTwo n m → SameTwo c d → SameTwo o p → RankBacked At t n c o → RankBacked At t m d p
+  rank_same n c o m d p fm fd fp sn sc so (inl own) =
+      let small = low o own.0 in
+      let there : o ≡ p = same_number o p (omega arith) (omega arith) so.high so.low in
+      let none : d ≡ 0 = no_cost c d own.1 fd sc.high sc.low in
+      inl (subst At there own.0, none)
+  rank_same n c o m d p fm fd fp sn sc so (inr k) =
+      let number : n ≡ m = same_number n m k.1.0 fm.1 sn.high sn.low in
+      let cost : c ≡ d = same_number c d k.1.1 fd sc.high sc.low in
+      let there : o ≡ p = same_number o p k.1.2 (omega arith) so.high so.low in
+      inr (
+        subst (λ (x : ℕ). IsAtLeast (routing.held t x) (record { number = m; cost = d })) there (subst (λ (x : ℕ). IsAtLeast (routing.held t o) (record { number = m; cost = x })) cost (subst (λ (x : ℕ). IsAtLeast (routing.held t o) (record { number = x; cost = c })) number k.0)),
+        (fm.1, fd, omega arith),
+      )
+
+  -- a message that is read of the spelling of one that is backed is backed
+  same_backed : (a b : Message) → messages.spelling a ≡ messages.spelling b → messages.IsMessage b → MessageBacked At t a → MessageBacked At t b
+  same_backed (Rreq n c o x) (Rreq m d p y) e fits k = rank_same n c o m d p fits.0 fits.1 fits.2
+      (record { high = ap (λ xs. slice_index xs 1) e; low = ap (λ xs. slice_index xs 2) e }) (record { high = ap (λ xs. slice_index xs 3) e; low = ap (λ xs. slice_index xs 4) e })
+      (record { high = ap (λ xs. slice_index xs 5) e; low = ap (λ xs. slice_index xs 6) e }) k
+  same_backed (Rrep n c o x) (Rrep m d p y) e fits k = rank_same n c o m d p fits.0 fits.1 fits.2
+      (record { high = ap (λ xs. slice_index xs 1) e; low = ap (λ xs. slice_index xs 2) e }) (record { high = ap (λ xs. slice_index xs 3) e; low = ap (λ xs. slice_index xs 4) e })
+      (record { high = ap (λ xs. slice_index xs 5) e; low = ap (λ xs. slice_index xs 6) e }) k
+  same_backed (Rreq n c o x) (Rrep m d p y) e fits k = absurd (not_below 1 2 (ap (λ (xs : List ℕ). slice_index xs 0) e) (omega arith))
+  same_backed (Rrep n c o x) (Rreq m d p y) e fits k = absurd (not_above 2 1 (ap (λ (xs : List ℕ). slice_index xs 0) e) (omega arith))
+  same_backed (Rerr lost to) (Rreq m d p y) e fits k = absurd (not_above 3 1 (ap (λ (xs : List ℕ). slice_index xs 0) e) (omega arith))
+  same_backed (Rerr lost to) (Rrep m d p y) e fits k = absurd (not_above 3 2 (ap (λ (xs : List ℕ). slice_index xs 0) e) (omega arith))
+  same_backed (Rreq n c o x) (Rerr lost to) e fits k = tt
+  same_backed (Rrep n c o x) (Rerr lost to) e fits k = tt
+  same_backed (Rerr a b) (Rerr lost to) e fits k = tt
+
+module _ (ciphers : Ciphers) (h : Homes) (w : World) (low : (i address : ℕ) → h i ≡ Some address → address < 0xFFFE) (backed : All (FlightBacked ciphers h w) w.flights) where
   -- A flight with these octets under this key.
   record Found (octets : List ℕ) (key : Key) : Type 0 where
     flight : Flight
@@ -87,8 +140,9 @@ module _ (ciphers : Ciphers) (h : Homes) (w : World) (backed : All (FlightBacked
           → UnitBacked (At h x.flight.from) (stored node) u → SaidBy h w from message
       by_unit letter node home there reads u is same (Says m b) =
           let body_is : messages.spelling m ≡ body = cc in
-          let this : m ≡ message = same_Some _ _ (sym (reads.messages m is) ∙ ap message_in body_is ∙ read) in
-          record { number = x.flight.from; node = node; home = home; there = there; backed = subst (MessageBacked (At h x.flight.from) (stored node)) this b }
+          let r = reads.messages m is in
+          let this : r.0 ≡ message = same_Some _ _ (sym r.1 ∙ ap message_in body_is ∙ read) in
+          record { number = x.flight.from; node = node; home = home; there = there; backed = subst (MessageBacked (At h x.flight.from) (stored node)) this (same_backed (At h x.flight.from) (stored node) (low x.flight.from) m r.0 r.2 r.3 b) }
       by_unit letter node home there reads u is same (IsWhole mesh os) = absurd (cc)
       by_unit letter node home there reads u is same (IsPart mesh piece) = absurd (cc)
       by_unit letter node home there reads u is same (IsCarried mesh bs) = absurd (cc)
@@ -130,10 +184,10 @@ module _ (ciphers : Ciphers) (h : Homes) (w : World) (backed : All (FlightBacked
 
 -- the sender is the end of the way, or it keeps a rank that beats the one with the link's cost
 said_nearer : (h : Homes) (w : World) (by origin number c cost : ℕ) (message : Message) (s : SaidBy h w by message) → 1 ≤ cost
-    → ((At h s.number origin) × (c ≡ 0)) ⊎ IsAtLeast (routing.held (stored s.node) origin) (record { number = number; cost = c }) → IsNearer h w by origin (rank_over number c cost)
+    → RankBacked (At h s.number) (stored s.node) number c origin → IsNearer h w by origin (rank_over number c cost)
 said_nearer h w by origin number c cost message s far (inl own) = inl (same_Some _ _ (sym s.home ∙ own.0))
 said_nearer h w by origin number c cost message s far (inr k) =
-    inr (record { number = s.number; node = s.node; home = s.home; there = s.there; beats = beats_at_least _ _ _ k (beats_farther number c cost far) })
+    inr (record { number = s.number; node = s.node; home = s.home; there = s.there; beats = beats_at_least _ _ _ k.0 (beats_farther number c cost far) })
 
 -- another address than the own one
 not_own : (h : Homes) (i own origin : ℕ) → h i ≡ Some own → (origin == own) ≡ false → ¬ (Own h i origin)

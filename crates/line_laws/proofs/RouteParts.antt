@@ -17,7 +17,9 @@ use Rattle.line_rules.specs.Steps.{told, flights_of, flight_by}
 use Rattle.line_laws.proofs.RankOrder.{at_least_trans, beats_at_least}
 use Rattle.line_laws.proofs.RankSaid.{UnitBacked, unit_rises, FrameBacked}
 use Rattle.line_laws.proofs.RankPlans.{via, NodeCause, Stood, Came, NodeRanks, same_ranks}
-use Rattle.line_laws.specs.Loops.{stored, Homes, LetterRead, FrameRead, Later}
+use Rattle.line_laws.specs.Loops.{stored, Later}
+use Rattle.line_laws.proofs.LettersRead.{LetterRead, FrameRead}
+use Rattle.line_laws.proofs.Homed.{Homes}
 
 -- # The parts
 

@@ -21,7 +21,7 @@ use Rattle.node_rules.specs.MemoryDrafts.{in_memory, on_station, with_memory_by,
 use Rattle.node_rules.specs.Meters as meters
 use Rattle.node_rules.specs.Coordinators as coordinators
 use Rattle.line_laws.proofs.Quiet.{quiet_sealing}
-use Rattle.line_laws.specs.Loops.{FrameRead}
+use Rattle.line_laws.proofs.LettersRead.{FrameRead}
 
 chosen : {A : Type 0} (P : Plan Memory A → Type 0) (b : Bool) (p q : Plan Memory A) → P p → P q → P (choose b p q)
 unfolding choose

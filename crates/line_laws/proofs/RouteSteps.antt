@@ -65,7 +65,9 @@ use Rattle.line_laws.proofs.RankCalls.{send_ranks, near_ranks, counter_ranks, nu
 use Rattle.line_laws.proofs.RouteParts.{At, Own, IsNearer, FlightBacked, IsPlain, IsLetter, RoutingHolds, ComesFrom, From, New, Reached, reach, flight_later, told_step}
 use Rattle.line_laws.proofs.RouteHeard.{SaidRight, accepted_said, said_offers}
 use Rattle.line_laws.proofs.RouteNodes.{acts_frames, acts_memory, same_store, ticked_ranks, restarted_ranks, blank_ranks, blank_routes, coordinator_ranks, coordinator_routes}
-use Rattle.line_laws.specs.Loops.{stored, Homes, FrameRead, Later, Addressed, TakenFrom, Reads, CallsRead, HomesFit, DepotFits}
+use Rattle.line_laws.specs.Loops.{stored, Later}
+use Rattle.line_laws.proofs.LettersRead.{FrameRead, Reads, CallsRead}
+use Rattle.line_laws.proofs.Homed.{Homes, Addressed, TakenFrom, IsTagged, HomesFit, DepotFits}
 
 -- # What other parts say
 
@@ -482,7 +484,7 @@ module _ (ciphers : Ciphers) (fits : KeepsRanges ciphers) (h : Homes) (w : World
   -- what a node makes of a frame, as it is behind accepting it
   hears_hold : (number : ℕ) (y : Node) (got : Accepted) (cost note : ℕ) → NodeOk y → RoutesFit got → SaidRight h (ran w) got → 1 ≤ cost
       → ((psk : Key) → y.role ≡ Meter psk → (m : Memory) → y.memory ≡ Some m → (agreed : Agreed) → (meters.hear_meter (identity ciphers y psk) m got cost note w.clock).answer ≡ Ok (meter_heard.Took agreed)
-      → (granted : Granted) → TakenFrom (identity ciphers y psk) m got cost note w.clock granted → h number ≡ Some granted.address)
+      → (granted : Granted) → (t : TakenFrom (identity ciphers y psk) m got cost note w.clock granted) → IsTagged t (meters.hear_meter (identity ciphers y psk) m got cost note w.clock).opened → h number ≡ Some granted.address)
       → ((m : Memory) → y.memory ≡ Some m → Reads ciphers (coordinator_rules.hear_coordinator (record { eui = y.eui; ciphers = ciphers }) m got cost note w.clock))
       → ((psk : Key) → y.role ≡ Meter psk → (m : Memory) → y.memory ≡ Some m → Reads ciphers (meters.hear_meter (identity ciphers y psk) m got cost note w.clock))
       → ((m : Memory) → y.memory ≡ Some m → IsAt (At h number) (address_of m.station)) → CallHolds ciphers h (ran w) number y (hears ciphers y got cost note w.clock)
@@ -535,7 +537,7 @@ module _ (ciphers : Ciphers) (fits : KeepsRanges ciphers) (h : Homes) (w : World
       routes got a = accepted_routes ciphers fits octets are a.memory.station (ring_readable x a.memory (node_ok number x there) a.there) _ got (accept_is a.memory.station x.eui (arrived ciphers octets)) a.is
 
       right : (got : Accepted) → Answered x plan got → forged_by w octets got.path ≡ false → SaidRight h (ran w) got
-      right got a honest = accepted_said ciphers h (ran w) ran_holds.holds.ranks.backed octets a.memory.station _ got (accept_is a.memory.station x.eui (arrived ciphers octets)) a.is honest
+      right got a honest = accepted_said ciphers h (ran w) homes.addressed.low ran_holds.holds.ranks.backed octets a.memory.station _ got (accept_is a.memory.station x.eui (arrived ciphers octets)) a.is honest
 
       here_after : (n : Memory) → (acts x (Err frames.Halted) plan).node.memory ≡ Some n → IsAt (At h number) (address_of n.station)
       here_after = acts_memory (λ n. IsAt (At h number) (address_of n.station)) x (Err frames.Halted) plan

@@ -167,7 +167,7 @@ unfolding with_rank with_own_number with_next_tag with_ring with_routing_by goes
 made_sized W words g s d Starts h = h
 made_sized W words g s d (Ranks by origin rank e made o fits) h = let k = made_sized W words g s e made h in record { reassemblies = k.reassemblies; waiting = same_waiting e.memory d.memory refl k.waiting; loads = k.loads; tag = k.tag }
 made_sized W words g s d (Numbers e made left) h = let k = made_sized W words g s e made h in record { reassemblies = k.reassemblies; waiting = same_waiting e.memory d.memory refl k.waiting; loads = k.loads; tag = k.tag }
-made_sized W words g s d (Tags e made) h = let k = made_sized W words g s e made h in record { reassemblies = k.reassemblies; waiting = same_waiting e.memory d.memory refl k.waiting; loads = k.loads; tag = tag_low (e.memory.next_tag + 1) }
+made_sized W words g s d (Tags e made first) h = let k = made_sized W words g s e made h in record { reassemblies = k.reassemblies; waiting = same_waiting e.memory d.memory refl k.waiting; loads = k.loads; tag = tag_low (e.memory.next_tag + 1) }
 made_sized W words g s d (Rings x e made change) h = let k = made_sized W words g s e made h in record { reassemblies = k.reassemblies; waiting = same_waiting e.memory d.memory refl k.waiting; loads = k.loads; tag = k.tag }
 made_sized W words g s d (Idles e made) h = record {
   reassemblies = (omega arith, omega arith);

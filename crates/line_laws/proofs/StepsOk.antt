@@ -59,7 +59,7 @@ use Rattle.line_rules.specs.Events.{IsEvent}
 use Rattle.line_rules.specs.Worlds.{World, Flight, Trace, node_at, flight_at, is_forged_tag}
 use Rattle.line_rules.specs.Steps.{Step, set_up, ran, told, flights_of, acted, once_begun, in_setup, has_begun, takes_setup, on_node, on_meter, made_node, blank_node, identity, hears, restarts, memory_by, ticked, rand, join, joins_by, leave, send, sends_by, sent_if, breaks, breaks_by, lose, tick, restart, cut, show, psk_of, trace_of, happened, coordinator, coordinator_node, meter, is_known, depot, depot_by, provisioned, near, near_by, keeps_rank, ranks_full, offered_near, preset, allow, allowed, deliver, inject, arrives, accepted_by, received, by_coordinator, forged_by, note_by, rekey, challenge, activate, kick, step}
 use Rattle.node_rules.specs.NodeSteps.{NodeStep, acts, stays, answering, of_station}
-use Rattle.line_laws.specs.Stores.{IsReadable, IsStationKept, BookKept, IsNamed, IsKept, HasEui}
+use Rattle.line_laws.specs.Stores.{IsReadable, IsStationKept, BookKept, IsNamed, IsKept, HasEui, IsPair}
 use Rattle.line_laws.specs.Sizes.{IsStationSized, IsMemorySized}
 use Rattle.line_laws.specs.Owed.{AreOctets, KeepsRanges}
 use Rattle.line_laws.proofs.Keeping.{Left, leads_beside}
@@ -69,6 +69,10 @@ use Rattle.line_laws.proofs.Readings.{held, none_held}
 use Rattle.line_laws.proofs.Restarting.{Again, again}
 use Rattle.line_laws.proofs.Rising.{IsBelow, lost_pairs}
 use Rattle.line_laws.proofs.Nodes.{PlanFits, PlanOk, NodeOk, DidOk, acts_fits, acts_ok, ring_readable, pair_octets}
+use Rattle.line_laws.specs.Live.{marks_of}
+use Rattle.line_laws.proofs.MarkOrder.{Raised, raised_same, raised_trans}
+use Rattle.line_laws.proofs.MarkWrites.{away_leads}
+use Rattle.line_laws.proofs.MarkNodes.{AreCovered, marks_held, restart_raised}
 use Rattle.line_laws.proofs.Frontiers.{next_of, frontier, same_low, numbered_lower, numbered_le}
 use Rattle.frame_counters.proofs.Limits.{stored_limit-kept}
 use Rattle.line_laws.proofs.NodeCalls.{RoutesFit, no_some, meter_hears_ok, random_ok, join_ok, leave_ok, send_ok, near_ok, counter_ok, number_ok, broke_ok, provision_ok}
@@ -81,10 +85,10 @@ use Rattle.line_laws.proofs.Worlds.{NodeFits, FlightFits, Rising, WorldOk, withi
 -- # What a node does by itself
 
 answering_ok : {A B : Type 0} (x : Node) (reads : A → B) (d : NodeStep A) → DidOk x d → DidOk x (answering reads d)
-answering_ok x reads d h = record { node = h.node; role = h.role; eui = h.eui; few = h.few; rises = h.rises; from = h.from }
+answering_ok x reads d h = record { node = h.node; role = h.role; eui = h.eui; few = h.few; rises = h.rises; from = h.from; marked = h.marked }
 
 stays_ok : {A : Type 0} (x : Node) (answer : A) → NodeOk x → DidOk x (stays x answer)
-stays_ok x answer ok = record { node = ok; role = refl; eui = refl; few = omega arith; rises = same_low (frontier x); from = tt }
+stays_ok x answer ok = record { node = ok; role = refl; eui = refl; few = omega arith; rises = same_low (frontier x); from = tt; marked = raised_same (marks_of x) }
 
 -- a plan of the coordinator, at node 0
 pub coordinator_acts : {A : Type 0} (x : Node) (halted : A) (plan : Memory → Plan Memory A) → x.role ≡ Coordinator → NodeOk x → ((m : Memory) → IsMemorySized m → PlanOk Coordinator m (plan m)) → DidOk x (acts x halted plan)
@@ -107,12 +111,13 @@ restarts_ok x ok =
     let next = a.next in
     let rises : next_of x.memory x.store.records ≤ a.memory.station.counter.next = omega arith in
     record {
-      node = record { kept = subst (λ o. Left (IsKept x.role) x.store.records (memory_by o)) (sym a.is) a.kept; sized = subst (λ o. IfSome (memory_by o) IsMemorySized) (sym a.is) a.sized };
+      node = record { kept = subst (λ o. Left (IsKept x.role) x.store.records (memory_by o)) (sym a.is) a.kept; sized = subst (λ o. IfSome (memory_by o) IsMemorySized) (sym a.is) a.sized; covered = subst (λ o. AreCovered (memory_by o)) (sym a.is) a.covered };
       role = refl;
       eui = refl;
       few = omega arith;
       rises = subst (λ o. next_of x.memory x.store.records ≤ next_of (memory_by o) x.store.records) (sym a.is) rises;
       from = tt;
+      marked = subst (λ o. Raised (marks_of x) (marks_held x.role x.store.records (memory_by o))) (sym a.is) (restart_raised x.role x.store.records x.memory a ok.kept ok.covered);
     }
 
 -- time
@@ -147,17 +152,17 @@ tick_coordinator now m r k h =
     )
 
 pub ticked_ok : (now : ℕ) (x : Node) → NodeOk x → NodeOk (ticked now x)
-ticked_ok now x ok = by_role x.role x.memory ok.kept ok.sized
+ticked_ok now x ok = by_role x.role x.memory ok.kept ok.sized ok.covered
   where
-    by_role : (role : Role) (o : Option Memory) → Left (IsKept role) x.store.records o → IfSome o IsMemorySized → NodeOk (ticked now (record { role = role; eui = x.eui; store = x.store; memory = o }))
-    by_role Coordinator None k h = record { kept = k; sized = tt }
-    by_role (Meter psk) None k h = record { kept = k; sized = tt }
-    by_role Coordinator (Some m) k h = let t = tick_coordinator now m x.store.records k h in record { kept = t.0; sized = t.1 }
-    by_role (Meter psk) (Some m) k h = let t = tick_meter now psk m x.store.records k h in record { kept = t.0; sized = t.1 }
+    by_role : (role : Role) (o : Option Memory) → Left (IsKept role) x.store.records o → IfSome o IsMemorySized → AreCovered o → NodeOk (ticked now (record { role = role; eui = x.eui; store = x.store; memory = o }))
+    by_role Coordinator None k h c = record { kept = k; sized = tt; covered = tt }
+    by_role (Meter psk) None k h c = record { kept = k; sized = tt; covered = tt }
+    by_role Coordinator (Some m) k h c = let t = tick_coordinator now m x.store.records k h in record { kept = t.0; sized = t.1; covered = c }
+    by_role (Meter psk) (Some m) k h c = let t = tick_meter now psk m x.store.records k h in record { kept = t.0; sized = t.1; covered = c }
 
 pub resting_ok : {A : Type 0} (role : Role) (m : Memory) → IsMemorySized m → (answer failed : A) → PlanOk role m (resting m answer failed)
 unfolding resting
-resting_ok role m h answer failed = record { leads = leads_beside (IsKept role) m m (λ r k. k); sized = h; few = omega arith; rises = λ fits. record { high = tt; with_own_number = omega arith }; from = tt }
+resting_ok role m h answer failed = record { leads = leads_beside (IsKept role) m m (λ r k. k); sized = h; few = omega arith; rises = λ fits. record { high = tt; with_own_number = omega arith }; from = tt; marked = λ first. away_leads first m m [] tt refl }
 
 -- # A new node
 
@@ -209,6 +214,7 @@ blank_ok role eui pair = record {
     sessions = omega arith;
     randoms = omega arith;
   };
+  covered = All-nil _;
 }
   where
     by_role : (role : Role) → PairOctets role → BookKept role [] empty
@@ -431,7 +437,7 @@ module _ (ciphers : Ciphers) (fits : KeepsRanges ciphers) (w : World) (ok : Worl
   cut_good : (number nth : ℕ) (keeps_new : Bool) → StepGood w (cut ciphers w number nth keeps_new)
   unfolding cut
   cut_good number nth keeps_new = once _ (at_node number _ (λ x there.
-      let h = node_ok number x there in acted_good number x _ there (record { node = record { kept = h.kept; sized = h.sized }; role = refl; eui = refl; few = omega arith; rises = same_low (frontier x); from = tt })))
+      let h = node_ok number x there in acted_good number x _ there (record { node = record { kept = h.kept; sized = h.sized; covered = h.covered }; role = refl; eui = refl; few = omega arith; rises = same_low (frontier x); from = tt; marked = raised_same (marks_of x) })))
 
   show_good : (number : ℕ) → StepGood w (show w number)
   unfolding show
@@ -476,13 +482,13 @@ module _ (ciphers : Ciphers) (fits : KeepsRanges ciphers) (w : World) (ok : Worl
       by_answer : (r : Result Accepted FrameRefusal) → (acts x (Err frames.Halted) plan).answer ≡ r → StepGood w (Ok (accepted_by ciphers w number octets cost (acts x (Err frames.Halted) plan)))
       by_answer (Err reason) e =
           let k : NodeStep (Result Accepted FrameRefusal) = record (acts x (Err frames.Halted) plan) { answer = Err reason } in
-          rw e (Taken (told ciphers (ran w) number k, trace_of (happened w (frame_word reason))) (told_ok ciphers fits (ran w) number x k ran_ok there (record { node = did.node; role = did.role; eui = did.eui; few = did.few; rises = did.rises; from = did.from }) (λ e. absurd (true_false e))) (omega arith)
+          rw e (Taken (told ciphers (ran w) number k, trace_of (happened w (frame_word reason))) (told_ok ciphers fits (ran w) number x k ran_ok there (record { node = did.node; role = did.role; eui = did.eui; few = did.few; rises = did.rises; from = did.from; marked = did.marked }) (λ e. absurd (true_false e))) (omega arith)
           (told_none ciphers (ran w) number k (acts_quiet x (Err frames.Halted) plan (λ m. accept_quiet m.station _ _ (accept_is m.station x.eui (arrived ciphers octets))))))
       by_answer (Ok got) e =
           let y = (acts x (Err frames.Halted) plan).node in
           let d = hears ciphers y got cost (note_by w octets got.path) w.clock in
           let heard = hears_ok y got cost (note_by w octets got.path) w.clock did.node (routes got e) in
-          rw e (received_good number x (forged_by w octets got.path || list_any (is_forged_tag w.made) d.opened) d there (record { node = heard.node; role = heard.role ∙ did.role; eui = heard.eui ∙ did.eui; few = heard.few; rises = numbered_lower (frontier x) (frontier y) (frontier d.node) d.frames (numbered_le (frontier x) (frontier y) (acts x (Err frames.Halted) plan).frames did.rises) heard.rises; from = heard.from }))
+          rw e (received_good number x (forged_by w octets got.path || list_any (is_forged_tag w.made) d.opened) d there (record { node = heard.node; role = heard.role ∙ did.role; eui = heard.eui ∙ did.eui; few = heard.few; rises = numbered_lower (frontier x) (frontier y) (frontier d.node) d.frames (numbered_le (frontier x) (frontier y) (acts x (Err frames.Halted) plan).frames did.rises) heard.rises; from = heard.from; marked = raised_trans (marks_of x) (marks_of y) (marks_of d.node) did.marked heard.marked }))
 
   deliver_good : (flight number cost : ℕ) → StepGood w (deliver ciphers w flight number cost)
   unfolding deliver
@@ -579,7 +585,7 @@ module _ (ciphers : Ciphers) (fits : KeepsRanges ciphers) (w : World) (ok : Worl
       let room = or_parts _ _ parts.1 in
       let few : length w.nodes ≤ 999 = ltb-false _ _ room.0 in
       let some : 0 < length w.nodes = begun_some (has_begun w) (not w.running) refl parts.0 in
-      Taken _ (made_ok (blank_node (Meter psk) eui) (blank_ok (Meter psk) eui are) (record { eui = known; psk = λ k e. ap (λ (x : Key). length x.0) (sym (same_psk psk k e)) ∙ long }) few
+      Taken _ (made_ok (blank_node (Meter psk) eui) (blank_ok (Meter psk) eui are) (record { eui = known; psk = λ k e. subst IsPair (same_psk psk k e) (long, are) }) few
       (λ c is. ok.first c (sym (first_same w.nodes some (blank_node (Meter psk) eui)) ∙ is))) (omega arith) (none_more w (set_up w) refl))
     where
       same_psk : (a b : Key) → Meter a ≡ Meter b → a ≡ b
@@ -638,7 +644,7 @@ module _ (ciphers : Ciphers) (fits : KeepsRanges ciphers) (w : World) (ok : Worl
       by_answer (Err reason) e = rw e (Fails faults.Setup)
       by_answer (Ok g) e =
           let k : NodeStep (Result Granted CoordinatorRefusal) = record d { answer = Ok g } in
-          let first = told_ok ciphers fits (set_up w) 0 c k set_up_ok hc (record { node = did.node; role = did.role; eui = did.eui; few = did.few; rises = did.rises; from = did.from }) (λ e. quiet) in
+          let first = told_ok ciphers fits (set_up w) 0 c k set_up_ok hc (record { node = did.node; role = did.role; eui = did.eui; few = did.few; rises = did.rises; from = did.from; marked = did.marked }) (λ e. quiet) in
           let second = acts_ok x (Ok tt) (λ m. meters.provision m g) (node_ok number x hx) (λ m here kept sized. provision_ok x.role m sized g (readable g e)) in
           rw e (Taken (provisioned ciphers (told ciphers (set_up w) 0 k) number x g) (told_ok ciphers fits (told ciphers (set_up w) 0 k) number x _ first (other_there 0 number k x (λ same. apart (sym same)) hx) second (λ e. acts_quiet x (Ok tt) (λ m. meters.provision m g) (λ m. install_quiet m.station g))) (omega arith)
           (let one = told_none ciphers (set_up w) 0 k quiet in let two = told_none ciphers (told ciphers (set_up w) 0 k) number (acts x (Ok tt) (λ m. meters.provision m g)) (acts_quiet x (Ok tt) (λ m. meters.provision m g) (λ m. install_quiet m.station g)) in omega arith))
@@ -661,13 +667,13 @@ module _ (ciphers : Ciphers) (fits : KeepsRanges ciphers) (w : World) (ok : Worl
       kept_at : (c : Node) (m : Memory) → NodeOk c → c.memory ≡ Some m → IsKept c.role m c.store.records × IsMemorySized m
       kept_at c m h e = (subst (λ o. Left (IsKept c.role) c.store.records o) e h.kept, subst (λ o. IfSome o IsMemorySized) e h.sized)
 
-      granted : (c : Node) (eui : Eui) (psk : Key) (g : Granted) → c.role ≡ Coordinator → NodeOk c → HasEui eui → length psk.0 ≡ 16 → (acts c (Err orders.Halted) (λ m. coordinator_rules.depot m eui psk)).answer ≡ Ok g → IsReadable g
+      granted : (c : Node) (eui : Eui) (psk : Key) (g : Granted) → c.role ≡ Coordinator → NodeOk c → HasEui eui → IsPair psk → (acts c (Err orders.Halted) (λ m. coordinator_rules.depot m eui psk)).answer ≡ Ok g → IsReadable g
       granted c eui psk g is h known long e =
           let a = acts_answered c orders.Halted orders.Store (λ m. coordinator_rules.depot m eui psk) (λ m. coordinator_failed m eui psk known long) g e in
           let k = kept_at c a.memory h a.there in
           depot_grants a.memory eui psk g k.0.station.range.ring (of_role c.role a.memory c.store.records is k.0) a.is
         where
-          coordinator_failed : (m : Memory) (eui : Eui) (psk : Key) → HasEui eui → length psk.0 ≡ 16 → (coordinator_rules.depot m eui psk).failed ≡ Err orders.Store
+          coordinator_failed : (m : Memory) (eui : Eui) (psk : Key) → HasEui eui → IsPair psk → (coordinator_rules.depot m eui psk).failed ≡ Err orders.Store
           coordinator_failed m eui psk known long = depot_failed ciphers fits (own_of c) m eui psk known long
 
   -- # All kinds

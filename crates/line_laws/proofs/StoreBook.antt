@@ -17,7 +17,7 @@ use Rattle.group_keys.specs.declared.key_book.BookEntry.{BookEntry}
 use Rattle.group_keys.specs.KeyBook as book
 use Rattle.group_keys.proofs.Books.{entry_in-entry_octets, entry_same}
 use Rattle.node_rules.specs.Memory.{StationMemory, Memory, Role, Coordinator, Meter}
-use Rattle.line_laws.specs.Stores.{IsHeld, IsStationKept, IsReadableEntry, IsBookKept, BookKept, IsNamed, IsKept, HasEui}
+use Rattle.line_laws.specs.Stores.{IsHeld, IsStationKept, IsReadableEntry, IsBookKept, BookKept, IsNamed, IsKept, HasEui, IsPair}
 use Rattle.routing_set.specs.declared.rank.Rank.{Rank}
 use Rattle.routing_set.specs.RoutingSet as routing
 use Rattle.node_rules.specs.Drafts.{Draft, empty_draft}
@@ -46,7 +46,7 @@ station_stays l r slot octets k high = record {
 }
 
 reads_entry : (place : ℕ) (e : BookEntry) → place < 999 → IsReadableEntry e → book.entries.read place (book.entries.octets place e) ≡ Some (book.entries.rest e)
-reads_entry place e within h = entry_in-entry_octets place e within h.eui h.psk h.key0.0 h.key1.0
+reads_entry place e within h = entry_in-entry_octets place e within h.eui.0 h.psk.0 h.key0.0 h.key1.0
 
 -- the book with an entry is what the records with its record give
 book_with : (b : book.Book) (e : BookEntry) (r : Records) → IsBookKept b r → IsReadableEntry e → book.has_room b e.eui ≡ true
@@ -178,7 +178,7 @@ station_leads role n l k ps x = leads_map (With (Rest role n)) (IsKept role) (λ
 module _ (role : Role) (W : RingWord → Type 0) (L : Granted → Type 0) (P : Eui → Key → Type 0) (E : Eui → Type 0) (g : Given) (m : Memory)
     (words : (w : RingWord) → W w → WordFits w)
     (offers : (address : Option ℕ) (by origin : ℕ) (rank : Rank) → Offered g address by origin rank → EntryFits (routing.offered_entry origin rank by g.now))
-    (known : (eui : Eui) → E eui → HasEui eui) (pairs : (eui : Eui) (psk : Key) → P eui psk → length psk.0 ≡ 16)
+    (known : (eui : Eui) → E eui → HasEui eui) (pairs : (eui : Eui) (psk : Key) → P eui psk → IsPair psk)
     (coordinator : (b : book.Book) (e : BookEntry) → EntryChange L P E m b e → role ≡ Coordinator)
     (grants : (granted : Granted) → L granted → IsHeld granted.key0 × IsHeld granted.key1) (sessions : All IsNamed m.sessions) where
   named : (eui : Eui) → EuiFrom E m eui → HasEui eui
@@ -190,14 +190,14 @@ module _ (role : Role) (W : RingWord → Type 0) (L : Granted → Type 0) (P : E
   entry_fits b e (Allows eui psk is pair room) r k = by_entry (book.entry_for b eui) refl
     where
       by_entry : (o : Option BookEntry) → book.entry_for b eui ≡ o → IsReadableEntry (book.allowed_entry eui psk o)
-      by_entry None at = record { eui = (known eui is).0; psk = pairs eui psk pair; key0 = none_held; key1 = none_held }
+      by_entry None at = record { eui = known eui is; psk = pairs eui psk pair; key0 = none_held; key1 = none_held }
       by_entry (Some x) at =
           let h = looked_up IsReadableEntry b (book.place_of b eui) x at k.each in
-          record { eui = (known eui is).0; psk = pairs eui psk pair; key0 = h.key0; key1 = h.key1 }
+          record { eui = known eui is; psk = pairs eui psk pair; key0 = h.key0; key1 = h.key1 }
   entry_fits b e (Issues eui granted x from given allowed) r k =
       let h = looked_up IsReadableEntry b (book.place_of b eui) x (stands b eui x allowed) k.each in
       let keys = grants granted given in
-      record { eui = (named eui from).0; psk = h.psk; key0 = keys.0; key1 = keys.1 }
+      record { eui = named eui from; psk = h.psk; key0 = keys.0; key1 = keys.1 }
   entry_fits b e (Kicks eui x is allowed) r k =
       let h = looked_up IsReadableEntry b (book.place_of b eui) x (stands b eui x allowed) k.each in
       record { eui = h.eui; psk = h.psk; key0 = none_held; key1 = none_held }

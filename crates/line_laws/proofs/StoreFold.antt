@@ -140,7 +140,7 @@ module _ (B : Records → Type 0) (lasts : Lasts B) (W : RingWord → Type 0) (g
   made_adds s d Starts = adds_none (With B) s
   made_adds s d (Ranks by origin rank e made o fits) = adds_then (With B) s e _ _ (made_adds s e made) refl (ranks_lead B lasts e.memory origin rank by g.now (offers _ by origin rank o) fits.room)
   made_adds s d (Numbers e made left) = adds_then (With B) s e _ _ (made_adds s e made) refl (number_leads B lasts e.memory left)
-  made_adds s d (Tags e made) = adds_then (With B) s e _ _ (made_adds s e made) refl (tag_leads B lasts e.memory)
+  made_adds s d (Tags e made first) = adds_then (With B) s e _ _ (made_adds s e made) refl (tag_leads B lasts e.memory)
   made_adds s d (Rings x e made change) = adds_then (With B) s e _ _ (made_adds s e made) refl
       (low_one B lasts _ _ _ (omega arith) (λ t h. ring_kept e.memory t x h (ring_fits W words e.memory.ring x change h.range.ring)))
   made_adds s d (Idles e made) = adds_beside (With B) s e _ (made_adds s e made) refl (λ r k. record { kept = beside_kept _ _ r (ended_kept e.memory r (λ _. true) k.kept) refl refl refl refl refl refl; rest = k.rest })

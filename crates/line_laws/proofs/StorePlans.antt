@@ -16,7 +16,7 @@ use Rattle.node_rules.specs.Drafts.{Draft, Ends, empty_draft, counters_left, cou
 use Rattle.node_rules.specs.MemoryDrafts.{in_memory, on_station, station_part, with_memory_by, with_pair_tags, goes_up, goes_down}
 use Rattle.node_rules.specs.Coordinators.{with_book_entry}
 use Rattle.node_rules.proofs.Sizes.{pending}
-use Rattle.line_laws.specs.Stores.{IsHeld, IsKept, HasEui}
+use Rattle.line_laws.specs.Stores.{IsHeld, IsKept, HasEui, IsPair}
 use Rattle.line_laws.proofs.Keeping.{Leads, leads_beside, leads_append, leads_when}
 use Rattle.line_laws.proofs.Beside.{low_when}
 use Rattle.line_laws.proofs.StoreWords.{counter_leads}
@@ -35,7 +35,7 @@ unfolding with_rank with_own_number with_next_tag with_ring with_routing_by goes
 made_counter W g s d Starts = refl
 made_counter W g s d (Ranks by origin rank e made o fits) = made_counter W g s e made
 made_counter W g s d (Numbers e made left) = made_counter W g s e made
-made_counter W g s d (Tags e made) = made_counter W g s e made
+made_counter W g s d (Tags e made first) = made_counter W g s e made
 made_counter W g s d (Rings x e made change) = made_counter W g s e made
 made_counter W g s d (Idles e made) = made_counter W g s e made
 made_counter W g s d (Loses lost by e made) = made_counter W g s e made
@@ -70,7 +70,7 @@ made_in_counter W L P E g m d (Down own message e made) = made_in_counter W L P 
 module _ (role : Role) (W : RingWord → Type 0) (L : Granted → Type 0) (P : Eui → Key → Type 0) (E : Eui → Type 0) (g : Given) (m : Memory)
     (words : (w : RingWord) → W w → WordFits w)
     (offers : (address : Option ℕ) (by origin : ℕ) (rank : Rank) → Offered g address by origin rank → EntryFits (routing.offered_entry origin rank by g.now))
-    (known : (eui : Eui) → E eui → HasEui eui) (pairs : (eui : Eui) (psk : Key) → P eui psk → length psk.0 ≡ 16)
+    (known : (eui : Eui) → E eui → HasEui eui) (pairs : (eui : Eui) (psk : Key) → P eui psk → IsPair psk)
     (coordinator : (b : book.Book) (e : BookEntry) → EntryChange L P E m b e → role ≡ Coordinator)
     (grants : (r : Records) → IsKept role m r → (granted : Granted) → L granted → IsHeld granted.key0 × IsHeld granted.key1) where
   abbrev pub MadeFew : {H : Type 0} → Draft Memory → H → Type 0

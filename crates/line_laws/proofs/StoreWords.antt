@@ -116,7 +116,7 @@ number_leads B lasts l left = by_due (own_number.passes l.own_number) refl
 
 -- # The tag
 
-tag_reads : (r : Records) (tag : ℕ) → tag < 2 ^ 16 → tag_in (get (insert r tag_slot (big_bytes 2 tag)) tag_slot) ≡ Ok tag
+pub tag_reads : (r : Records) (tag : ℕ) → tag < 2 ^ 16 → tag_in (get (insert r tag_slot (big_bytes 2 tag)) tag_slot) ≡ Ok tag
 tag_reads r tag fits = ap (read_result tag_at) (stored-insert tag_at r tag (omega arith) (omega arith))
 
 pub tag_kept : (l : StationMemory) (r : Records) (tag : ℕ) → IsStationKept l r → tag < 2 ^ 16 → IsStationKept (record l { next_tag = tag }) (insert r tag_slot (big_bytes 2 tag))

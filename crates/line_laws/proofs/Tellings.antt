@@ -79,6 +79,29 @@ pub data IsCall (ciphers : Ciphers) (w : World) (number : ℕ) (x : Node) : (A :
   Activates : (meter : ℕ) (y : Node) (index : ℕ) → number ≡ 0 → IsMeterAt w meter y → index ≤ 1 → IsCall ciphers w number x _ (Err orders.Halted) (λ m. coordinator_rules.activate m y.eui index w.clock)
   Kicks : (meter : ℕ) (y : Node) → number ≡ 0 → IsMeterAt w meter y → IsCall ciphers w number x _ (Err orders.Halted) (λ m. coordinator_rules.kick m y.eui)
 
+-- the calls that are events by themselves
+pub data IsAsked (ciphers : Ciphers) (w : World) (number : ℕ) (x : Node) : (A : Type 0) → A → (Memory → Plan Memory A) → Type 1 where
+  AskRandom : (value : Rand) → AreOctets 16 value.0 → IsAsked ciphers w number x _ (Err randoms.Halted) (λ m. give_random m value)
+  AskJoin : (psk : Key) (a : ℕ) → number ≢ 0 → psk_of x ≡ Some psk → IsAddressed w a → IsAsked ciphers w number x _ (Err joins.Halted) (λ m. meters.join (identity ciphers x psk) m a w.clock)
+  AskLeave : number ≢ 0 → IsAsked ciphers w number x _ (Err leaves.Halted) meters.leave
+  AskRekey : (index : ℕ) (key : Key) → number ≡ 0 → index ≤ 1 → IsKey key → IsAsked ciphers w number x _ (Err orders.Halted) (λ m. coordinator_rules.rekey m index key)
+  AskTurn : (index : ℕ) → number ≡ 0 → index ≤ 1 → IsAsked ciphers w number x _ (Err orders.Halted) (λ m. coordinator_rules.activate_self m index)
+  AskChallenge : (meter : ℕ) (y : Node) → number ≡ 0 → IsMeterAt w meter y → IsAsked ciphers w number x _ (Err orders.Halted) (λ m. coordinator_rules.challenge x.eui m y.eui w.clock)
+  AskActivate : (meter : ℕ) (y : Node) (index : ℕ) → number ≡ 0 → IsMeterAt w meter y → index ≤ 1 → IsAsked ciphers w number x _ (Err orders.Halted) (λ m. coordinator_rules.activate m y.eui index w.clock)
+  AskKick : (meter : ℕ) (y : Node) → number ≡ 0 → IsMeterAt w meter y → IsAsked ciphers w number x _ (Err orders.Halted) (λ m. coordinator_rules.kick m y.eui)
+
+-- a node has this address
+pub record IsAddressedAt (w : World) (number a : ℕ) : Type 0 where
+  pub node : Node
+  pub there : node_at w number ≡ Some node
+  pub address : node_address node ≡ Some a
+
+-- two neighbours have addresses, and their link a cost
+pub record AreNear (w : World) (p q cost : ℕ) : Type 0 where
+  pub first : IsAddressed w p
+  pub second : IsAddressed w q
+  pub low : cost ≤ 255
+
 -- # Events
 
 -- a node more: the coordinator, or a meter with an EUI of its own
@@ -122,12 +145,12 @@ pub data IsStep (ciphers : Ciphers) (w : World) : Event → Step → Type 1 wher
   Rests : (event : Event) → (IsBrought event → ⊥) → IsStep ciphers w event (Ok (ran w, trace_of (happened w said.NoAddress)))
   Shows : (number : ℕ) (x : Node) → IsStep ciphers w (events.Show number) (Ok (ran w, trace_of (record (happened w said.Shown) { shown = Some (shown_of x) })))
   -- one node acts
-  Acts : (event : Event) (number : ℕ) (x : Node) (A : Type 0) (halted : A) (plan : Memory → Plan Memory A) (reads : A → Answer) → node_at w number ≡ Some x → IsCall ciphers w number x A halted plan → IsWord A reads event
+  Acts : (event : Event) (number : ℕ) (x : Node) (A : Type 0) (halted : A) (plan : Memory → Plan Memory A) (reads : A → Answer) → node_at w number ≡ Some x → IsCall ciphers w number x A halted plan → IsWord A reads event → IsAsked ciphers w number x A halted plan
       → IsStep ciphers w event (Ok (acted ciphers w number (answering reads (acts x halted plan))))
   BreaksLink : (number next : ℕ) (x : Node) (a : ℕ) → node_at w number ≡ Some x → IsCall ciphers w number x _ said.Halted (λ m. changing said.Broken (with_station (calls.broke a m.station) m))
       → IsStep ciphers w (events.Break number next) (Ok (acted ciphers w number (acts x said.Halted (λ m. changing said.Broken (with_station (calls.broke a m.station) m)))))
   SendsFrom : (from to : ℕ) (datagram : List ℕ) (x : Node) (a : ℕ) → node_at w from ≡ Some x
-      → IsCall ciphers w from x _ (Err sends.Halted) (λ m. of_station m (calls.send m.station a datagram (w.sends + 1) w.clock))
+      → IsCall ciphers w from x _ (Err sends.Halted) (λ m. of_station m (calls.send m.station a datagram (w.sends + 1) w.clock)) → IsAddressedAt w to a
       → IsStep ciphers w (events.Send from to datagram) (Ok (sending ciphers w from to datagram (tag_of x) (answering sent_word (acts x (Err sends.Halted) (λ m. of_station m (calls.send m.station a datagram (w.sends + 1) w.clock))))))
   AllowsMeter : (number : ℕ) (y c : Node) (psk : Key) → node_at w 0 ≡ Some c → IsCall ciphers w 0 c _ (Err orders.Halted) (λ m. coordinator_rules.allow m y.eui psk) → node_at w number ≡ Some y
       → IsStep ciphers w (events.Allow number) (Ok (allowed ciphers w number (acts c (Err orders.Halted) (λ m. coordinator_rules.allow m y.eui psk))))
@@ -136,7 +159,7 @@ pub data IsStep (ciphers : Ciphers) (w : World) : Event → Step → Type 1 wher
   -- two nodes act, one after the other
   SetsTwo : (event : Event) → (IsBrought event → ⊥) → (a b cost : ℕ) (x y : Node) (p q : ℕ) → node_at w a ≡ Some x → node_at w b ≡ Some y → b ≢ a → takes_setup w ≡ true
       → IsCall ciphers w a x _ (Ok tt) (λ m. of_station m (calls.preset_near m.station q cost w.clock)) → IsCall ciphers w b y _ (Ok tt) (λ m. of_station m (calls.preset_near m.station p cost w.clock))
-      → keeps_rank x q ≡ false → IsStep ciphers w event (Ok (told ciphers (told ciphers (set_up w) a (offered_near x q cost w.clock)) b (offered_near y p cost w.clock), trace_of (happened w said.Set)))
+      → keeps_rank x q ≡ false → AreNear w p q cost → IsStep ciphers w event (Ok (told ciphers (told ciphers (set_up w) a (offered_near x q cost w.clock)) b (offered_near y p cost w.clock), trace_of (happened w said.Set)))
   Provides : (number : ℕ) (x c : Node) (psk : Key) (g : Granted) (d : NodeStep (Result Granted CoordinatorRefusal)) → number ≢ 0 → takes_setup w ≡ true → node_at w number ≡ Some x → node_at w 0 ≡ Some c → psk_of x ≡ Some psk
       → d ≡ workshop c x.eui psk → d.answer ≡ Ok g → IsStep ciphers w (events.Depot number) (Ok (provisioned ciphers (told ciphers (set_up w) 0 d) number x g))
   -- octets are refused, or heard once they are accepted
@@ -226,7 +249,8 @@ module _ (ciphers : Ciphers) (w : World) where
   near_by_step a b cost x y (Some p) (Some q) low open_is hx hy ep eq = branch _ ((a == b) || (keeps_rank x q || (ranks_full x || ranks_full y))) _ _ (λ _. Fails _ faults.Setup) (λ may.
       let parts = or_parts _ _ may in
       SetsTwo _ (λ none. none) a b cost x y p q hx hy (λ same. eqb-false _ _ parts.0 (sym same)) open_is
-      (Nears q cost open_is (record { number = b; node = y; there = hy; address = eq }) low) (Nears p cost open_is (record { number = a; node = x; there = hx; address = ep }) low) (or_parts _ _ parts.1).0)
+      (Nears q cost open_is (record { number = b; node = y; there = hy; address = eq }) low) (Nears p cost open_is (record { number = a; node = x; there = hx; address = ep }) low) (or_parts _ _ parts.1).0
+      (record { first = record { number = a; node = x; there = hx; address = ep }; second = record { number = b; node = y; there = hy; address = eq }; low = low }))
 
   near_step : (a b cost : ℕ) → cost ≤ 255 → Is (events.Near a b cost) (near ciphers w a b cost)
   unfolding near
@@ -245,12 +269,12 @@ module _ (ciphers : Ciphers) (w : World) where
 
   rand_step : (number : ℕ) (value : Rand) → AreOctets 16 value.0 → Is (events.Rand number value) (rand ciphers w number value)
   unfolding rand
-  rand_step number value are = once _ _ (at_node _ number _ (λ x hx. Acts _ number x _ _ _ _ hx (Gives value are) (OfRandom number value)))
+  rand_step number value are = once _ _ (at_node _ number _ (λ x hx. Acts _ number x _ _ _ _ hx (Gives value are) (OfRandom number value) (AskRandom value are)))
 
   joins_step : (number agent : ℕ) (x y : Node) (o : Option ℕ) (p : Option Key) → number ≢ 0 → node_at w number ≡ Some x → node_at w agent ≡ Some y → node_address y ≡ o → psk_of x ≡ p → Is (events.Join number agent) (Ok (joins_by ciphers w number x o p))
   joins_step number agent x y None p ne hx hy eo ep = Rests _ (λ b. b)
   joins_step number agent x y (Some a) None ne hx hy eo ep = Rests _ (λ b. b)
-  joins_step number agent x y (Some a) (Some psk) ne hx hy eo ep = Acts _ number x _ _ _ _ hx (Joins psk a ne ep (record { number = agent; node = y; there = hy; address = eo })) (OfJoin number agent)
+  joins_step number agent x y (Some a) (Some psk) ne hx hy eo ep = Acts _ number x _ _ _ _ hx (Joins psk a ne ep (record { number = agent; node = y; there = hy; address = eo })) (OfJoin number agent) (AskJoin psk a ne ep (record { number = agent; node = y; there = hy; address = eo }))
 
   join_step : (number agent : ℕ) → Is (events.Join number agent) (join ciphers w number agent)
   unfolding join
@@ -258,11 +282,11 @@ module _ (ciphers : Ciphers) (w : World) where
 
   leave_step : (number : ℕ) → Is (events.Leave number) (leave ciphers w number)
   unfolding leave
-  leave_step number = once _ _ (at_meter _ number _ (λ ne x hx. Acts _ number x _ _ _ _ hx (Leaves ne) (OfLeave number)))
+  leave_step number = once _ _ (at_meter _ number _ (λ ne x hx. Acts _ number x _ _ _ _ hx (Leaves ne) (OfLeave number) (AskLeave ne)))
 
   sends_step : (from to : ℕ) (datagram : List ℕ) (x y : Node) (o : Option ℕ) → IsLineOctets datagram → node_at w from ≡ Some x → node_at w to ≡ Some y → node_address y ≡ o → Is (events.Send from to datagram) (Ok (sends_by ciphers w from to datagram x o))
   sends_step from to datagram x y None are hx hy eo = Rests _ (λ b. b)
-  sends_step from to datagram x y (Some a) are hx hy eo = SendsFrom from to datagram x a hx (Sends a datagram (record { number = to; node = y; there = hy; address = eo }) are)
+  sends_step from to datagram x y (Some a) are hx hy eo = SendsFrom from to datagram x a hx (Sends a datagram (record { number = to; node = y; there = hy; address = eo }) are) (record { node = y; there = hy; address = eo })
 
   send_step : (from to : ℕ) (datagram : List ℕ) → IsLineOctets datagram → Is (events.Send from to datagram) (send ciphers w from to datagram)
   unfolding send
@@ -316,11 +340,11 @@ module _ (ciphers : Ciphers) (w : World) where
 
   rekey_step : (index : ℕ) (key : Key) → index ≤ 1 → IsKey key → Is (events.Rekey index key) (rekey ciphers w index key)
   unfolding rekey
-  rekey_step index key low long = once _ _ (at_node _ 0 _ (λ c hc. Acts _ 0 c _ _ _ _ hc (Rekeys index key refl low long) (OfDraw _ index key)))
+  rekey_step index key low long = once _ _ (at_node _ 0 _ (λ c hc. Acts _ 0 c _ _ _ _ hc (Rekeys index key refl low long) (OfDraw _ index key) (AskRekey index key refl low long)))
 
   challenge_step : (number : ℕ) → Is (events.Challenge number) (challenge ciphers w number)
   unfolding challenge
-  challenge_step number = once _ _ (at_meter _ number _ (λ ne y hy. at_node _ 0 _ (λ c hc. Acts _ 0 c _ _ _ _ hc (Challenges number y refl (record { other = ne; there = hy })) (OfChallenge _ number))))
+  challenge_step number = once _ _ (at_meter _ number _ (λ ne y hy. at_node _ 0 _ (λ c hc. Acts _ 0 c _ _ _ _ hc (Challenges number y refl (record { other = ne; there = hy })) (OfChallenge _ number) (AskChallenge number y refl (record { other = ne; there = hy })))))
 
   activate_step : (number index : ℕ) → index ≤ 1 → Is (events.Activate number index) (activate ciphers w number index)
   unfolding activate
@@ -328,12 +352,12 @@ module _ (ciphers : Ciphers) (w : World) where
     where
       by_number : (b : Bool) → (number == 0) ≡ b → (y c : Node) → node_at w number ≡ Some y → node_at w 0 ≡ Some c
           → Is (events.Activate number index) (Ok (if b then by_coordinator ciphers w c said.Activated (λ m. coordinator_rules.activate_self m index) else by_coordinator ciphers w c said.Ordered (λ m. coordinator_rules.activate m y.eui index w.clock)))
-      by_number true e y c hy hc = Acts _ 0 c _ _ _ _ hc (Turns index refl low) (OfTurn _ number index)
-      by_number false e y c hy hc = Acts _ 0 c _ _ _ _ hc (Activates number y index refl (record { other = eqb-false _ _ e; there = hy }) low) (OfOrder _ number index)
+      by_number true e y c hy hc = Acts _ 0 c _ _ _ _ hc (Turns index refl low) (OfTurn _ number index) (AskTurn index refl low)
+      by_number false e y c hy hc = Acts _ 0 c _ _ _ _ hc (Activates number y index refl (record { other = eqb-false _ _ e; there = hy }) low) (OfOrder _ number index) (AskActivate number y index refl (record { other = eqb-false _ _ e; there = hy }) low)
 
   kick_step : (number : ℕ) → Is (events.Kick number) (kick ciphers w number)
   unfolding kick
-  kick_step number = once _ _ (at_meter _ number _ (λ ne y hy. at_node _ 0 _ (λ c hc. Acts _ 0 c _ _ _ _ hc (Kicks number y refl (record { other = ne; there = hy })) (OfKick _ number))))
+  kick_step number = once _ _ (at_meter _ number _ (λ ne y hy. at_node _ 0 _ (λ c hc. Acts _ 0 c _ _ _ _ hc (Kicks number y refl (record { other = ne; there = hy })) (OfKick _ number) (AskKick number y refl (record { other = ne; there = hy })))))
 
   -- every event is one of them
   pub step_is : (event : Event) → IsEvent event → IsStep ciphers w event (step ciphers w event)

@@ -576,11 +576,11 @@ module _ (ciphers : Ciphers) (w : World) where
   right event s (Makes e x is) n = still_right n event (made_node w x).0 said.Made (refl, refl, refl, refl, refl) (unbrought event (made_quiet event x is)) (record { events = refl; sends = refl; ups = refl; forged = refl; done = refl }) (omega arith) (sym (append-nil w.made))
   right event s (Rests e quiet) n = still_right n event (ran w) said.NoAddress (refl, refl, refl, refl, refl) (unbrought event quiet) (ran_counted w) (omega arith) (sym (append-nil w.made))
   right event s (Shows number x) n = quiet_right n (events.Show number) (ran w) _ [] [] (refl, refl, refl, refl, refl) refl refl refl refl refl (unbrought (events.Show number) (λ b. b)) (ran_counted w) refl (omega arith) (sym (append-nil w.made))
-  right event s (Acts e number x A halted plan reads there call word) n =
+  right event s (Acts e number x A halted plan reads there call word asked) n =
       acted_right n event number (answering reads (acts x halted plan)) (word_plain A reads event word (acts x halted plan).answer) (acts_opened x halted plan (call_opened ciphers w number x A halted plan call)) (unbrought event (word_quiet A reads event word))
   right event s (BreaksLink number next x a there call) n =
       acted_right n (events.Break number next) number _ (breaks_plain x a) (acts_opened x said.Halted _ (call_opened ciphers w number x _ said.Halted _ call)) (unbrought (events.Break number next) (λ b. b))
-  right event s (SendsFrom from to datagram x a there call) n =
+  right event s (SendsFrom from to datagram x a there call target) n =
       sent_right n from to datagram x _ there (send_unsaid (acts x (Err sends.Halted) (λ m. of_station m (calls.send m.station a datagram (w.sends + 1) w.clock))).answer) (acts_opened x (Err sends.Halted) _ (call_opened ciphers w from x _ (Err sends.Halted) _ call))
   right event s (AllowsMeter number y c psk there call meter) n =
       let d = acts c (Err orders.Halted) (λ m. coordinator_rules.allow m y.eui psk) in
@@ -591,7 +591,7 @@ module _ (ciphers : Ciphers) (w : World) where
       let p = preset_none x plan is in
       let none = none_told (set_up w) number d p.0 p.1 in
       still_right n event (told ciphers (set_up w) number d) said.Set (refl, refl, refl, refl, refl) (unbrought event quiet) (told_counted ciphers w (set_up w) number d (set_up_counted w)) none.0 none.1
-  right event s (SetsTwo e quiet a b cost x y p q hx hy apart open_is first second fresh) n =
+  right event s (SetsTwo e quiet a b cost x y p q hx hy apart open_is first second fresh near) n =
       let d = offered_near x q cost w.clock in
       let k = offered_near y p cost w.clock in
       let u = near_none x q cost in

@@ -17,7 +17,7 @@ use Rattle.line_rules.specs.Nonces.{CounterRises}
 use Rattle.frame_counters.proofs.Limits.{stored_limit-kept}
 use Rattle.line_laws.proofs.Frontiers.{next_of, frontier}
 use Rattle.line_laws.proofs.Rising.{IsBelow, Grown, grows}
-use Rattle.line_laws.specs.Stores.{IsKept, HasEui}
+use Rattle.line_laws.specs.Stores.{IsKept, HasEui, IsPair}
 use Rattle.line_laws.specs.Owed.{AreOctets, KeepsRanges}
 use Rattle.line_laws.proofs.Keeping.{Left}
 use Rattle.line_laws.proofs.Nodes.{NodeOk, DidFits, DidOk}
@@ -25,7 +25,7 @@ use Rattle.line_laws.proofs.Nodes.{NodeOk, DidFits, DidOk}
 -- What a line of the script gave of a node.
 pub record NodeFits (x : Node) : Type 0 where
   pub eui : HasEui x.eui
-  pub psk : (psk : Key) → x.role ≡ Meter psk → length psk.0 ≡ 16
+  pub psk : (psk : Key) → x.role ≡ Meter psk → IsPair psk
 
 abbrev pub FlightFits : Flight → Type 0
 FlightFits f = AreOctets f.octets
@@ -143,7 +143,7 @@ told_rising ciphers fits w number x d ok there did = record { below = below; pai
 
 pub told_ok : {A : Type 0} (ciphers : Ciphers) → KeepsRanges ciphers → (w : World) (number : ℕ) (x : Node) (d : NodeStep A) → WorldOk w → node_at w number ≡ Some x → DidOk x d → (w.running ≡ false → d.frames ≡ []) → WorldOk (told ciphers w number d)
 told_ok ciphers fits w number x d ok there did still =
-    told_with ciphers w number x d ok there (record { node = did.node; role = did.role; eui = did.eui; few = did.few }) (told_rising ciphers fits w number x d ok there did) still
+    told_with ciphers w number x d ok there (record { node = did.node; role = did.role; eui = did.eui; few = did.few; marked = did.marked }) (told_rising ciphers fits w number x d ok there did) still
 
 -- the same nodes and flights
 pub same_rising : (w v : World) → Rising w → v.nodes ≡ w.nodes → v.flights ≡ w.flights → Rising v

@@ -1,6 +1,6 @@
 -- What holds of every run of the line.
 use Rattle.std.specs.Prelude.{All, List}
-use Rattle.node_rules.specs.Ciphers.{Ciphers}
+use Rattle.node_rules.specs.Ciphers.{Ciphers, network}
 use Rattle.line_rules.specs.Events.{AreEvents}
 use Rattle.line_rules.specs.Worlds.{Flight, start}
 use Rattle.line_rules.specs.Runs.{Entry, IsRun, events_of}
@@ -39,6 +39,12 @@ EveryForgeryIsTold =
 abbrev pub EveryFlightIsSpelled : Type 0
 EveryFlightIsSpelled =
     (ciphers : Ciphers) (entries : List Entry) → IsLineRun ciphers entries → AreSpelled ciphers entries
+
+-- # The network's frames
+
+-- whatever comes in, the frames that nodes send are octets
+abbrev pub EveryFlightIsOctets : Type 0
+EveryFlightIsOctets = (entries : List Entry) → IsLineRun network entries → FlightsAreOctets entries
 
 -- # Forged or not
 

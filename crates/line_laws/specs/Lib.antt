@@ -7,6 +7,11 @@ pub mod Custody
 pub mod Sends
 pub mod Places
 pub mod Laws
+pub mod Tags
+pub mod Ups
 pub mod Loops
 pub mod Issued
+pub mod Kicked
+pub mod Live
+pub mod Once
 pub mod Network

@@ -1,19 +1,29 @@
--- What holds of every run of the network whose flights are octets.
+-- What holds of every run of the network.
 use Rattle.std.specs.Prelude.{All, List, [], ◌∷◌}
 use Rattle.plc_base.specs.Fields.{AreOctets}
 use Rattle.node_rules.specs.Ciphers.{Ciphers, network}
-use Rattle.line_rules.specs.Agreement.{Agrees}
+use Rattle.line_rules.specs.Agreement.{Agrees, KickedStaysOut}
 use Rattle.line_rules.specs.Forgery.{IsForgedRight}
 use Rattle.line_rules.specs.Nonces.{CountersRise, NoncesDiffer, AreSpelled, AreAddressed, AreApart}
 use Rattle.line_rules.specs.Runs.{Entry, IsRun}
-use Rattle.line_rules.specs.SafeRuns.{IsAlwaysSized, RestartsAreAnswered}
+use Rattle.line_rules.specs.SafeRuns.{IsAlwaysSized, IsSafe, RestartsAreAnswered}
 use Rattle.line_rules.specs.Traces.{CountsRight, AreTracedRight}
 use Rattle.line_rules.specs.Worlds.{World, Flight, start}
+use Rattle.line_laws.specs.Live.{MarksAlwaysRise, FlightsAlwaysFall}
+use Rattle.line_laws.specs.Once.{AcceptsOnce, AcceptedOnce}
 use Rattle.line_laws.specs.Issued.{IsIssuedAfter}
 use Rattle.line_laws.specs.Laws.{IsLineRun, FlightsAreOctets}
+use Rattle.line_laws.specs.Loops.{AreLoopFree}
+use Rattle.line_laws.specs.Tags.{SendsHaveOctets, TagsRise}
+use Rattle.line_laws.specs.Ups.{UpsAreSentAfter}
+
+-- no run of the network is unsafe before it is forged
+abbrev pub EveryRunIsSafe : Type 0
+EveryRunIsSafe = (entries : List Entry) → IsLineRun network entries → IsSafe entries
 
 -- What the laws say of a run, one by one.
 pub record IsRight (entries : List Entry) : Type 0 where
+  pub octets : FlightsAreOctets entries
   pub sized : IsAlwaysSized entries
   pub answered : RestartsAreAnswered entries
   pub rises : CountersRise entries
@@ -21,15 +31,25 @@ pub record IsRight (entries : List Entry) : Type 0 where
   pub senders : AreAddressed start entries
   pub apart : AreApart entries
   pub nonces : NoncesDiffer entries
+  pub marks : MarksAlwaysRise start entries
+  pub falls : FlightsAlwaysFall network start entries
+  pub once : AcceptsOnce network start entries
+  pub alone : AcceptedOnce network start entries
   pub agrees : Agrees entries
   pub keys : IsIssuedAfter [] entries
+  pub kicked : KickedStaysOut entries
+  pub routes : AreLoopFree start entries
   pub counted : CountsRight start entries
   pub traced : AreTracedRight start entries
+  pub tags : TagsRise entries
+  pub some : SendsHaveOctets entries
+  pub ups : UpsAreSentAfter [] entries
+  pub safe : IsSafe entries
   pub forged : IsForgedRight network start entries
 
 -- so it is of every run of the network
 abbrev pub EveryNetworkRunIsRight : Type 0
-EveryNetworkRunIsRight = (entries : List Entry) → IsLineRun network entries → FlightsAreOctets entries → IsRight entries
+EveryNetworkRunIsRight = (entries : List Entry) → IsLineRun network entries → IsRight entries
 
 -- # Flights stay
 

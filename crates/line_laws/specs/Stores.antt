@@ -53,10 +53,18 @@ pub record IsStationKept (l : StationMemory) (records : Records) : Type 0 where
   pub routing : routing.IsKept l.routing records
   pub marks : marks.IsKept l.marks records
 
+-- an EUI of 8 octets
+abbrev pub HasEui : Eui → Type 0
+HasEui eui = (length eui.0 ≡ 8) × AreOctets eui.0
+
+-- a pair key of 16 octets
+abbrev pub IsPair : Key → Type 0
+IsPair psk = (length psk.0 ≡ 16) × AreOctets psk.0
+
 -- An entry of the book whose record is read back.
 pub record IsReadableEntry (e : BookEntry) : Type 0 where
-  pub eui : length e.eui.0 ≡ 8
-  pub psk : length e.psk.0 ≡ 16
+  pub eui : HasEui e.eui
+  pub psk : IsPair e.psk
   pub key0 : IsHeld e.issued0
   pub key1 : IsHeld e.issued1
 
@@ -71,11 +79,7 @@ abbrev pub BookKept : Role → book.Book → Records → Type 0
 BookKept Coordinator b records = IsBookKept b records
 BookKept (Meter psk) b records = (b ≡ []) × AreOctets psk.0
 
--- an EUI of 8 octets
-abbrev pub HasEui : Eui → Type 0
-HasEui eui = (length eui.0 ≡ 8) × AreOctets eui.0
-
--- the meter of a session has one
+-- the meter of a session has an EUI of 8 octets
 abbrev pub IsNamed : CoordinatorSession → Type 0
 IsNamed s = HasEui s.server.eui
 

@@ -1,10 +1,15 @@
 //! Laws of the runs: each carried by a function that does nothing.
 ghost use Rattle.line_laws.specs.Issued.{EveryJoiningAgrees, OnlyIssuedKeys};
-ghost use Rattle.line_laws.specs.Network.{EveryNetworkRunIsRight, LastFlightsSayAll};
+ghost use Rattle.line_laws.specs.Kicked.{EveryKickedMeterStaysOut};
+ghost use Rattle.line_laws.specs.Live.{EveryFlightFalls, EveryMarkRises};
+ghost use Rattle.line_laws.specs.Once.{EveryFrameIsAcceptedOnce, EveryNodeAcceptsOnce};
+ghost use Rattle.line_laws.specs.Network.{EveryNetworkRunIsRight, EveryRunIsSafe, LastFlightsSayAll};
 ghost use Rattle.line_laws.specs.Owed.{KeepsRanges};
+ghost use Rattle.line_laws.specs.Tags.{EverySendHasOctets, EveryTagRises};
+ghost use Rattle.line_laws.specs.Ups.{EveryDatagramWasSent};
 ghost use Rattle.node_rules.specs.Ciphers.{OpensWhatItSeals, network};
 ghost use Rattle.line_laws.specs.Loops.{EveryRunIsLoopFree};
-ghost use Rattle.line_laws.specs.Laws.{EveryAddressDiffers, EveryCountIsRight, EveryCounterRises, EveryFlightIsSpelled, EveryForgeryIsTold, EveryNonceDiffers, EveryRestartIsAnswered, EveryRunIsSized, EverySenderIsRight, EveryTraceIsRight};
+ghost use Rattle.line_laws.specs.Laws.{EveryAddressDiffers, EveryCountIsRight, EveryCounterRises, EveryFlightIsOctets, EveryFlightIsSpelled, EveryForgeryIsTold, EveryNonceDiffers, EveryRestartIsAnswered, EveryRunIsSized, EverySenderIsRight, EveryTraceIsRight};
 
 /// What the network's ciphers open of octets, under keys of octets, is octets, and each grant that they open can be
 /// stored.
@@ -38,14 +43,33 @@ pub fn every_counter_rises()
     ensures { EveryCounterRises }
 {}
 
+/// In every run, forged or not, over restarts and failed writes, the tags of one node's datagrams that are cut into pieces rise: no two
+/// of them have one tag.
+#[tactic(auto)]
+pub fn every_tag_rises()
+    ensures { EveryTagRises }
+{}
+
+/// In every run, forged or not, no datagram that was sent is empty.
+#[tactic(auto)]
+pub fn every_send_has_octets()
+    ensures { EverySendHasOctets }
+{}
+
 /// In every run, forged or not, a flight with a key is a sealed frame under this key, and one without a key is a plain frame.
 #[tactic(auto)]
 pub fn every_flight_is_spelled()
     ensures { EveryFlightIsSpelled }
 {}
 
-/// In every run whose addresses, grants and letters are right, up to the first forged event: after each event no valid next hops
-/// form a loop, and no stored rank is lower than before.
+/// In every run of the network, forged or not, whatever power was lost, every flight is octets: numbers below 256.
+#[tactic(auto)]
+pub fn every_flight_is_octets()
+    ensures { EveryFlightIsOctets }
+{}
+
+/// In every run of the network, up to its first forged event, over restarts, failed writes and presets: after each event no valid next
+/// hops form a loop, and no stored rank is lower than before.
 #[tactic(auto)]
 pub fn every_run_is_loop_free()
     ensures { EveryRunIsLoopFree }
@@ -55,6 +79,13 @@ pub fn every_run_is_loop_free()
 #[tactic(auto)]
 pub fn only_issued_keys()
     ensures { OnlyIssuedKeys }
+{}
+
+/// In every run of the network, up to its first forged event, over restarts and failed writes: a meter that was kicked never holds a key that
+/// had not stood in the coordinator's ring up to the kick, as long as it is not allowed again.
+#[tactic(auto)]
+pub fn every_kicked_meter_stays_out()
+    ensures { EveryKickedMeterStaysOut }
 {}
 
 /// In every run, up to its first forged event, a joining that is done was taken by that meter before, with the same random values.
@@ -103,7 +134,47 @@ pub fn every_nonce_differs()
     ensures { EveryNonceDiffers }
 {}
 
-/// In every run of the network whose flights are octets, these laws hold, with nothing asked of the ciphers.
+/// In every run, forged or not, over restarts and failed writes, no node admits a counter of a sender again that it did not admit.
+#[tactic(auto)]
+pub fn every_mark_rises()
+    ensures { EveryMarkRises }
+{}
+
+/// In every run, up to its first forged event, no flight comes to life, and a flight to one node that is opened was live, and is not live
+/// any more.
+#[tactic(auto)]
+pub fn every_flight_falls()
+    ensures { EveryFlightFalls }
+{}
+
+/// In every run, forged or not, over restarts, failed writes and changes of keys, no node accepts the same octets twice as a sealed frame.
+#[tactic(auto)]
+pub fn every_node_accepts_once()
+    ensures { EveryNodeAcceptsOnce }
+{}
+
+/// In every run, up to its first forged event, octets that a node accepted as a sealed frame to it alone are accepted so by no node again.
+#[tactic(auto)]
+pub fn every_frame_is_accepted_once()
+    ensures { EveryFrameIsAcceptedOnce }
+{}
+
+/// In every run of the network, up to its first forged event, over restarts, failed writes, presets and changes of keys, and where flights
+/// are lost or come again: each datagram that is handed up was sent to that node before, with the same octets, and none is handed up twice.
+#[tactic(auto)]
+pub fn every_datagram_was_sent()
+    ensures { EveryDatagramWasSent }
+{}
+
+/// Every run of the network is safe up to its first forged event: each datagram that is handed up was sent to that node before, with the
+/// same octets, and none is handed up twice; after each event valid next hops form no loop, a joined meter holds only keys that were
+/// issued to it, and no table passes its size; and no event sends more than 24 frames.
+#[tactic(auto)]
+pub fn every_run_is_safe()
+    ensures { EveryRunIsSafe }
+{}
+
+/// In every run of the network these laws hold, with nothing asked of the ciphers or of the flights.
 #[tactic(auto)]
 pub fn every_network_run_is_right()
     ensures { EveryNetworkRunIsRight }

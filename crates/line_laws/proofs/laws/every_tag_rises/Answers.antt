@@ -1,0 +1,6 @@
+-- The law, by the traversal of runs.
+use Rattle.line_laws.proofs.TagRuns.{every_tag}
+use Rattle.line_laws.proofs.laws.every_tag_rises.Goals as goal
+
+pub returns : goal.returns
+returns c = every_tag
