@@ -1,7 +1,7 @@
 -- The lines of flights, one after the other.
 use Rattle.std.proofs.Common.{◌≡◌, ℕ, suc, ◌+◌, ◌-◌, ◌≤◌, List, ◌++◌, sym, ◌∙◌, ap, append_assoc, arith}
 use Rattle.std.proofs.lemmas.List.{append-nil}
-use Rattle.line_world.specs.Worlds.{World}
+use Rattle.line_rules.specs.Worlds.{World}
 use Rattle.line_replay.specs.Texts.{flight_text, flies_text}
 
 pub flies_none : (w : World) (first : ℕ) (old : List ℕ) → old ≡ old ++ flies_text w first (first - first)

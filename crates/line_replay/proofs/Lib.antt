@@ -1,3 +1,4 @@
+mod Drilling
 mod Quieting
 mod Running
 mod Turning

@@ -1,9 +1,8 @@
 -- The quiet report is the other one without the lines of the flights.
 use Rattle.std.proofs.Common.{◌≡◌, ℕ, zero, suc, ◌+◌, ◌-◌, Bool, true, false, List, [], ◌∷◌, ◌++◌, length, Option, Some, None, refl, sym, ◌∙◌, ap, append_assoc}
 use Rattle.std.proofs.lemmas.List.{append-nil}
-use Rattle.line_world.specs.declared.world.Flight.{Flight}
-use Rattle.line_world.specs.Worlds.{World, flight_at}
-use Rattle.line_world.specs.Runs.{Entry}
+use Rattle.line_rules.specs.Worlds.{World, Flight, flight_at}
+use Rattle.line_rules.specs.Runs.{Entry}
 use Rattle.line_script.specs.Texts.{happened_text}
 use Rattle.line_replay.specs.Texts.{fly_by, flight_text, flies_text, sent_text}
 use Rattle.line_replay.specs.Report.{Piece, Fly, Other, full_text, quiet_text, IsQuieted, report, entry_text, entries, entries_text, last_text}
@@ -20,7 +19,7 @@ flies_pieces w first zero = []
 flies_pieces w first (suc count) = flies_pieces w first count ++ fly_pieces (first + count) (flight_at w (first + count))
 
 abbrev entry_pieces : Entry → List Piece
-entry_pieces x = Other (happened_text x.number x.event x.happened) ∷ flies_pieces x.after x.happened.first_flight (length x.after.flights + 1 - x.happened.first_flight)
+entry_pieces x = Other (happened_text x.number x.event x.trace.happened) ∷ flies_pieces x.after x.trace.happened.first_flight (length x.after.flights + 1 - x.trace.happened.first_flight)
 
 abbrev entries_pieces : List Entry → List Piece
 entries_pieces [] = []
@@ -61,11 +60,11 @@ quiet_flies w first (suc count) =
 
 full_entry : (x : Entry) → full_text (entry_pieces x) ≡ entry_text false x
 unfolding sent_text
-full_entry x = ap (λ l. happened_text x.number x.event x.happened ++ l) (full_flies x.after x.happened.first_flight (length x.after.flights + 1 - x.happened.first_flight))
+full_entry x = ap (λ l. happened_text x.number x.event x.trace.happened ++ l) (full_flies x.after x.trace.happened.first_flight (length x.after.flights + 1 - x.trace.happened.first_flight))
 
 quiet_entry : (x : Entry) → quiet_text (entry_pieces x) ≡ entry_text true x
 unfolding sent_text
-quiet_entry x = ap (λ l. happened_text x.number x.event x.happened ++ l) (quiet_flies x.after x.happened.first_flight (length x.after.flights + 1 - x.happened.first_flight))
+quiet_entry x = ap (λ l. happened_text x.number x.event x.trace.happened ++ l) (quiet_flies x.after x.trace.happened.first_flight (length x.after.flights + 1 - x.trace.happened.first_flight))
 
 full_entries : (xs : List Entry) → full_text (entries_pieces xs) ≡ entries_text false xs
 full_entries [] = refl

@@ -1,6 +1,7 @@
 -- What a run over the driver is as a replay.
 use Rattle.std.proofs.Common.{◌≡◌, ℕ, ◌+◌, ◌<◌, Bool, true, false, List, [], ◌∷◌, ◌++◌, nat_lt, if◌then◌else◌, Ok, Err, refl, sym, ◌∙◌, ap, subst, append_assoc, add-zero, arith}
 use Rattle.std.proofs.lemmas.Bool.{ltb-true, ltb-false}
+use Rattle.std.proofs.lemmas.List.Elements.{All-nil, All-cons}
 use Rattle.line_driver.specs.Lines.{Content, Text, Long, TooMuch, Line, lines}
 use Rattle.line_driver.specs.Outcomes.{Turn, Outcome, Ending, Bad, Ended, Open, outcome_turn, outcome_from, outcome as outcome_of}
 use Rattle.line_driver.specs.declared.machine.Exit.{Exit}
@@ -10,14 +11,20 @@ use Rattle.plc_base.specs.Streams.{SourceState, SinkState, SourceRose, SinkRose}
 use Rattle.line_rules.specs.declared.event.Event.{Event}
 use Rattle.line_rules.specs.declared.event.StepFault.TheVariants as faults
 use Rattle.line_rules.specs.declared.event.TheConstants.{MAX_EVENTS}
-use Rattle.line_world.specs.Worlds.{World, Step, start}
-use Rattle.line_world.specs.Steps.{step}
-use Rattle.line_world.specs.Runs.{Entry, IsRun, CountsRight}
+use Rattle.node_rules.specs.Ciphers.{network}
+use Rattle.line_rules.specs.Events.{IsEvent, AreEvents}
+use Rattle.line_rules.specs.Worlds.{World, start}
+use Rattle.line_rules.specs.Steps.{Step, step}
+use Rattle.line_rules.specs.Runs.{Entry, IsRun, events_of}
+use Rattle.line_rules.specs.Traces.{CountsRight}
+use Rattle.line_laws.specs.Laws.{IsLineRun}
 use Rattle.line_script.specs.declared.reading.Reading.{Reading}
 use Rattle.line_script.specs.declared.reading.Reading.TheVariants.{Quiet, NoForm, Reads}
 use Rattle.line_script.specs.declared.report.Reason.TheVariants as reasons
+use Rattle.line_script.specs.Lines.{IsInRange}
 use Rattle.line_script.specs.Readings.{reading}
-use Rattle.line_replay.specs.Report.{Taking, Skipped, Taken, Refused, step_taking, is_on_the_line, event_taking, reading_taking, taking, Playing, entry_text, turn_by, turn_of, end_of, is_forged, outcome, report, entries_by, entries_from, entries, entries_text, last_by, last_from, last_text, forged_in}
+use Rattle.line_script.proofs.Ranges.{reading_fits}
+use Rattle.line_replay.specs.Report.{Taking, Skipped, Taken, Refused, step_taking, event_taking, reading_taking, taking, Playing, entry_text, turn_by, turn_of, end_of, is_forged, outcome, report, entries_by, entries_from, entries, entries_text, last_by, last_from, last_text, forged_in}
 use Rattle.line_replay.specs.declared.status.Status.{Status}
 use Rattle.line_replay.specs.declared.status.Status.TheVariants as status
 use Rattle.line_replay.specs.Tool.{status_of, Ran, Names, is_whole}
@@ -25,47 +32,53 @@ use Rattle.line_replay.specs.Tool.{status_of, Ran, Names, is_whole}
 -- what a taking says of the run that goes on
 abbrev GoesOn : World → Taking → Type 0
 GoesOn w Skipped = Unit {0}
-GoesOn w (Taken x) = (w.events < MAX_EVENTS) × (x.number ≡ w.events + 1) × (step w x.event ≡ Ok (x.after, x.happened))
+GoesOn w (Taken x) = IsEvent x.event × (w.events < MAX_EVENTS) × (x.number ≡ w.events + 1) × (step network w x.event ≡ Ok (x.after, x.trace))
 GoesOn w (Refused reason) = Unit {0}
 
-step_goes : (w : World) (event : Event) (r : Step) → w.events < MAX_EVENTS → step w event ≡ r → GoesOn w (step_taking w event r)
-step_goes w event (Ok q) room is = (room, refl, is)
-step_goes w event (Err faults.Memory) room is = tt
-step_goes w event (Err faults.Setup) room is = tt
-step_goes w event (Err faults.Node) room is = tt
-step_goes w event (Err faults.Flight) room is = tt
+step_goes : (w : World) (event : Event) (r : Step) → IsEvent event → w.events < MAX_EVENTS → step network w event ≡ r → GoesOn w (step_taking w event r)
+step_goes w event (Ok q) said room is = (said, room, refl, is)
+step_goes w event (Err faults.Memory) said room is = tt
+step_goes w event (Err faults.Setup) said room is = tt
+step_goes w event (Err faults.Node) said room is = tt
+step_goes w event (Err faults.Flight) said room is = tt
 
-room_goes : (w : World) (event : Event) (b : Bool) → nat_lt w.events MAX_EVENTS ≡ b → GoesOn w (if b then step_taking w event (step w event) else Refused reasons.Events)
-room_goes w event true room = step_goes w event (step w event) (ltb-true w.events MAX_EVENTS room) refl
-room_goes w event false room = tt
+room_goes : (w : World) (event : Event) (b : Bool) → IsEvent event → nat_lt w.events MAX_EVENTS ≡ b → GoesOn w (if b then step_taking w event (step network w event) else Refused reasons.Events)
+room_goes w event true said room = step_goes w event (step network w event) said (ltb-true w.events MAX_EVENTS room) refl
+room_goes w event false said room = tt
 
-line_goes : (w : World) (event : Event) (b : Bool) → GoesOn w (if b then event_taking w event else Refused reasons.Form)
-line_goes w event true = room_goes w event (nat_lt w.events MAX_EVENTS) refl
-line_goes w event false = tt
-
-reading_goes : (w : World) (r : Reading) → GoesOn w (reading_taking w r)
-reading_goes w Quiet = tt
-reading_goes w NoForm = tt
-reading_goes w (Reads event) = line_goes w event (is_on_the_line event)
+-- what is read is an event that a line can say
+reading_goes : (w : World) (r : Reading) → IsInRange r → GoesOn w (reading_taking w r)
+reading_goes w Quiet said = tt
+reading_goes w NoForm said = tt
+reading_goes w (Reads event) said = room_goes w event (nat_lt w.events MAX_EVENTS) said refl
 
 taking_goes : (w : World) (content : Content) → GoesOn w (taking w content)
 unfolding taking
 taking_goes w TooMuch = tt
 taking_goes w Long = tt
-taking_goes w (Text octets) = reading_goes w (reading octets)
+taking_goes w (Text octets) = reading_goes w (reading octets) (reading_fits octets)
 
-run_by : (w : World) (t : Taking) (rest : World → List Entry) → GoesOn w t → ((next : World) → IsRun next (rest next)) → IsRun w (entries_by w t rest)
+run_by : (w : World) (t : Taking) (rest : World → List Entry) → GoesOn w t → ((next : World) → IsRun network next (rest next)) → IsRun network w (entries_by w t rest)
 run_by w Skipped rest on all = all w
-run_by w (Taken x) rest on all = (on.0, on.1, on.2, all x.after)
+run_by w (Taken x) rest on all = (on.1, on.2, on.3, all x.after)
 run_by w (Refused reason) rest on all = tt
 
-run_from : (ls : List Line) (w : World) → IsRun w (entries_from w ls)
+run_from : (ls : List Line) (w : World) → IsRun network w (entries_from w ls)
 run_from [] w = tt
 run_from (line ∷ ls) w = run_by w (taking w line.content) (λ next. entries_from next ls) (taking_goes w line.content) (run_from ls)
 
--- the entries of a script are a run
-pub entries_run : (octets : List ℕ) (ended : Bool) → IsRun start (entries octets ended)
-entries_run octets ended = run_from (lines octets ended) start
+events_by : (w : World) (t : Taking) (rest : World → List Entry) → GoesOn w t → ((next : World) → AreEvents (events_of (rest next))) → AreEvents (events_of (entries_by w t rest))
+events_by w Skipped rest on all = all w
+events_by w (Taken x) rest on all = All-cons IsEvent x.event (events_of (rest x.after)) on.0 (all x.after)
+events_by w (Refused reason) rest on all = All-nil IsEvent
+
+events_from : (ls : List Line) (w : World) → AreEvents (events_of (entries_from w ls))
+events_from [] w = All-nil IsEvent
+events_from (line ∷ ls) w = events_by w (taking w line.content) (λ next. entries_from next ls) (taking_goes w line.content) (events_from ls)
+
+-- the entries of a script are a run of the line
+pub entries_run : (octets : List ℕ) (ended : Bool) → IsLineRun network (entries octets ended)
+entries_run octets ended = record { events = events_from (lines octets ended) start; run = run_from (lines octets ended) start }
 
 -- ---- the report by entries
 

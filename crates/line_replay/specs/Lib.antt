@@ -1,3 +1,5 @@
+pub mod Codes
+pub mod Drills
 pub mod Report
 pub mod Shown
 pub mod Statuses

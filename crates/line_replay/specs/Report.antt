@@ -1,16 +1,15 @@
 -- What a script does, line by line, and its report.
-use Rattle.std.specs.Prelude.{◌≡◌, Some, ℕ, ◌+◌, Bool, true, false, List, [], ◌∷◌, ◌++◌, if◌then◌else◌, nat_lt, Ok, Err}
+use Rattle.std.specs.Prelude.{◌≡◌, Some, ℕ, ◌+◌, Bool, List, [], ◌∷◌, ◌++◌, if◌then◌else◌, nat_lt, Ok, Err}
 use Rattle.line_driver.specs.Lines.{Content, Text, Long, TooMuch, Line, lines}
 use Rattle.line_driver.specs.Clauses.{IsStop}
 use Rattle.line_driver.specs.Outcomes.{Turn, Skips, Takes, Stops, Outcome, outcome as outcome_of}
 use Rattle.line_rules.specs.declared.event.Event.{Event}
-use Rattle.line_rules.specs.declared.event.Event.TheVariants.{Coordinator, Meter, Depot, Near, Counter, Send, Deliver, Inject, Lose, Restart}
 use Rattle.line_rules.specs.declared.event.StepFault.TheVariants as faults
-use Rattle.line_world.specs.declared.world.Flight.{Flight}
 use Rattle.line_rules.specs.declared.event.TheConstants.{MAX_EVENTS}
-use Rattle.line_world.specs.Worlds.{World, Step, start}
-use Rattle.line_world.specs.Steps.{step}
-use Rattle.line_world.specs.Runs.{Entry}
+use Rattle.node_rules.specs.Ciphers.{network}
+use Rattle.line_rules.specs.Worlds.{World, Flight, start}
+use Rattle.line_rules.specs.Steps.{Step, step}
+use Rattle.line_rules.specs.Runs.{Entry}
 use Rattle.line_script.specs.declared.reading.Reading.{Reading}
 use Rattle.line_script.specs.declared.reading.Reading.TheVariants.{Quiet, NoForm, Reads}
 use Rattle.line_script.specs.declared.report.Reason.{Reason}
@@ -27,34 +26,21 @@ pub data Taking : Type 0 where
 
 -- an event's step; that memory runs out is no step of the definition
 abbrev pub step_taking : World → Event → Step → Taking
-step_taking w event (Ok r) = Taken (record { number = w.events + 1; event = event; happened = r.1; after = r.0 })
+step_taking w event (Ok r) = Taken (record { number = w.events + 1; event = event; trace = r.1; after = r.0 })
 step_taking w event (Err faults.Setup) = Refused reasons.Setup
 step_taking w event (Err faults.Node) = Refused reasons.Node
 step_taking w event (Err faults.Flight) = Refused reasons.Flight
 step_taking w event (Err faults.Memory) = Skipped
 
--- the line takes the events of these kinds; those of the others have a reading and are refused as if they had none
-abbrev pub is_on_the_line : Event → Bool
-is_on_the_line (Coordinator eui key) = true
-is_on_the_line (Meter eui psk) = true
-is_on_the_line (Depot node) = true
-is_on_the_line (Near a b cost) = true
-is_on_the_line (Counter node value) = true
-is_on_the_line (Send from to datagram) = true
-is_on_the_line (Deliver flight node cost) = true
-is_on_the_line (Inject node cost octets) = true
-is_on_the_line (Lose flight) = true
-is_on_the_line (Restart node) = true
-is_on_the_line _ = false
-
--- an event of a kind that the line takes
+-- an event, whose step is that of the network
 abbrev pub event_taking : World → Event → Taking
-event_taking w event = if nat_lt w.events MAX_EVENTS then step_taking w event (step w event) else Refused reasons.Events
+event_taking w event =
+    if nat_lt w.events MAX_EVENTS then step_taking w event (step network w event) else Refused reasons.Events
 
 abbrev pub reading_taking : World → Reading → Taking
 reading_taking w Quiet = Skipped
 reading_taking w NoForm = Refused reasons.Form
-reading_taking w (Reads event) = if is_on_the_line event then event_taking w event else Refused reasons.Form
+reading_taking w (Reads event) = event_taking w event
 
 -- the reasons of a bad line, in their order
 unfoldable pub taking : World → Content → Taking
@@ -67,7 +53,8 @@ taking w (Text octets) = reading_taking w (reading octets)
 -- the lines that report an event, in a quiet report without those of its flights
 abbrev pub entry_text : Bool → Entry → List ℕ
 entry_text quiet entry =
-    happened_text entry.number entry.event entry.happened ++ sent_text quiet entry.after entry.happened.first_flight
+    happened_text entry.number entry.event entry.trace.happened
+    ++ sent_text quiet entry.after entry.trace.happened.first_flight
 
 -- A world, and whether its report is quiet.
 pub record Playing : Type 0 where
@@ -167,4 +154,4 @@ last_text octets ended = last_from start (lines octets ended) ended
 -- how many events of a history are forged
 abbrev pub forged_in : List Entry → ℕ
 forged_in [] = 0
-forged_in (x ∷ xs) = (if x.happened.forged then 1 else 0) + forged_in xs
+forged_in (x ∷ xs) = (if x.trace.happened.forged then 1 else 0) + forged_in xs

@@ -1,7 +1,6 @@
 -- The texts of a report that the world gives.
 use Rattle.std.specs.Prelude.{ℕ, zero, suc, ◌+◌, ◌-◌, Bool, List, [], ◌++◌, length, codes, Option, None, Some, if◌then◌else◌}
-use Rattle.line_world.specs.declared.world.Flight.{Flight}
-use Rattle.line_world.specs.Worlds.{World, flight_at}
+use Rattle.line_rules.specs.Worlds.{World, Flight, flight_at}
 use Rattle.line_script.specs.declared.report.Totals.{Totals}
 use Rattle.line_script.specs.Texts.{fly_text}
 

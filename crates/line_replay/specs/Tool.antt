@@ -1,6 +1,7 @@
 -- What the tool's call says.
 use Rattle.std.specs.Prelude.{◌≡◌, ℕ, ◌<◌, Bool, true, false, ◌&&◌, List, [], ◌∷◌, ◌++◌, length, String, Some, None, codes, string_bytes, bytes_eq, if◌then◌else◌}
 use Rattle.std.specs.declared.option.Option.{Option}
+use Rattle.std.specs.Option.{option_map}
 use Rattle.std.specs.declared.alloc.Global.{Global}
 use Rattle.std.specs.Io.KnownBytes.{Appends}
 use Rattle.plc_base.specs.Streams.{SourceState, SinkState, SinkFaults, SinkRose, IsPrefixOf}
@@ -8,14 +9,21 @@ use Rattle.line_driver.specs.declared.machine.Exit.{Exit}
 use Rattle.line_driver.specs.declared.machine.Exit.TheVariants as exits
 use Rattle.line_driver.specs.Outcomes.{Outcome}
 use Rattle.line_driver.specs.Clauses.{Drives}
-use Rattle.line_world.specs.Worlds.{start}
-use Rattle.line_world.specs.Runs.{Entry, IsSafe, IsForgedRight, IsCounted, HaveNewNonces, IsRestarting, CountsRight}
+use Rattle.node_rules.specs.Ciphers.{network}
+use Rattle.line_rules.specs.Runs.{Entry}
+use Rattle.line_laws.specs.Laws.{IsLineRun}
+use Rattle.line_laws.specs.Network.{IsRight}
+use Rattle.line_script.specs.Words.{number_within}
 use Rattle.line_replay.specs.declared.tool.Command.{Command}
-use Rattle.line_replay.specs.declared.tool.Command.TheVariants.{Replay, Show, Vectors}
+use Rattle.line_replay.specs.declared.tool.Command.TheVariants.{Replay, Show, Vectors, Drill}
 use Rattle.line_replay.specs.declared.status.Status.{Status}
 use Rattle.line_replay.specs.declared.status.Status.TheVariants as status
 use Rattle.line_replay.specs.Shown.{show_outcome}
 use Rattle.line_replay.specs.Report.{is_forged, outcome, report, entries, entries_text, last_text, forged_in, IsQuieted}
+
+-- a drill with so many meters: 1 to 60, as a line has a number
+abbrev pub drill_of : List ℕ → Option Command
+drill_of word = option_map Drill (number_within 1 60 word)
 
 -- the command that words name, if they are of a form
 abbrev pub command_of : List (String Global) → Option Command
@@ -28,7 +36,8 @@ command_of (word ∷ []) =
 command_of (word ∷ option ∷ []) =
     if bytes_eq (string_bytes word) (codes "replay") && bytes_eq (string_bytes option) (codes "-q")
     then Some (Replay true)
-    else None
+    else (if bytes_eq (string_bytes word) (codes "drill") then drill_of (string_bytes option)
+    else None)
 command_of (word ∷ option ∷ other ∷ words) = None
 
 -- the status of a run over lines, which has seen a forged event or not
@@ -72,19 +81,6 @@ is_whole status.Fine = true
 is_whole status.Forged = true
 is_whole _ = false
 
--- What holds of the run of a script.
-pub record Holds (entries : List Entry) : Type 0 where
-  -- the run is safe up to its first forged event
-  pub safe : IsSafe entries
-  -- exactly those events are told to be forged at which a node opened what was never sent so
-  pub forged : IsForgedRight start entries
-  -- of two flights of one node the later one has the greater counter, and no two flights have one nonce
-  pub counters : IsCounted entries
-  pub nonces : HaveNewNonces entries
-  -- a restart is answered Restarted, and the counts are those of the history
-  pub restarts : IsRestarting entries
-  pub counts : CountsRight start entries
-
 -- What a replay did: the same, and what holds of its run.
 pub record Replays (quiet : Bool) (source0 source1 : SourceState) (sink0 sink1 : SinkState)
     (result : Status) : Type 0 where
@@ -94,7 +90,10 @@ pub record Replays (quiet : Bool) (source0 source1 : SourceState) (sink0 sink1 :
       → report quiet ran.drives.b e ≡ entries_text quiet (entries ran.drives.b e) ++ last_text ran.drives.b e
   -- the quiet report is the other one without the lines of the flights
   pub quieted : (e : Bool) → IsQuieted (report false ran.drives.b e) (report true ran.drives.b e)
-  pub holds : (e : Bool) → Holds (entries ran.drives.b e)
+  -- the entries are a run of the network: the step of each event gives the next world
+  pub run : (e : Bool) → IsLineRun network (entries ran.drives.b e)
+  -- all that the laws of every run say of it
+  pub holds : (e : Bool) → IsRight (entries ran.drives.b e)
   -- the status names a forged event exactly where there is one
   pub named : Names result (forged_in (entries ran.drives.b true))
 
@@ -115,3 +114,8 @@ pub record Tells (text : List ℕ) (done : Status) (sink0 sink1 : SinkState) (re
   pub wrote : Appends sink0.taken sink1.taken w
   pub by : TellsBy text done w sink0 sink1 result
   pub faults : SinkFaults sink0 sink1 (length text)
+
+-- One text was written, unless memory ran out while it was made: then nothing was written.
+abbrev pub TellsOrMemory : List ℕ → Status → SinkState → SinkState → Status → Type 0
+TellsOrMemory text done sink0 sink1 status.Memory = sink1 ≡ sink0
+TellsOrMemory text done sink0 sink1 result = Tells text done sink0 sink1 result

@@ -1,6 +1,7 @@
-//! Replays the script that stands on standard input.
+//! Runs whole nodes on a line, from a script or as a drill. It also shows frames, and what the ciphers make.
 #![tactic(auto)]
 
+mod drill;
 mod replay;
 mod report;
 mod show;

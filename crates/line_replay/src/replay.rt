@@ -1,39 +1,20 @@
 //! A world that takes the lines of a script and reports what they do.
 ghost use Rattle.std.specs.Prelude.{◌≡◌, ◌++◌, OnOk, string_bytes};
 ghost use Rattle.line_driver.specs.Clauses.{Turned};
-ghost use Rattle.line_world.specs.Worlds.{start};
-ghost use Rattle.line_script.specs.declared.reading.Reading.TheVariants.{Reads};
+ghost use Rattle.line_rules.specs.Events.{IsEvent};
+ghost use Rattle.line_rules.specs.Worlds.{start};
 ghost use Rattle.line_script.specs.Texts.{happened_text};
 ghost use Rattle.line_replay.specs.Texts.{sent_text};
-ghost use Rattle.line_replay.specs.Report.{Playing, is_forged, is_on_the_line, event_taking, reading_taking, turn_by, turn_of, end_of, stops_at_too_much};
+ghost use Rattle.line_replay.specs.Report.{Playing, is_forged, event_taking, turn_by, turn_of, end_of, stops_at_too_much};
 
 use crate::report::{push_sent, refuse, totals};
 use line_driver::{LineKind, LineMachine, StopReason, tell, tell_made};
 use line_rules::{Event, Happenings, MAX_EVENTS, StepFault};
 use line_script::{LINE_OCTETS, Reading, Reason, end_text, push_happened, read_line};
-use line_world::World;
-use plc_base::{FrameBuf, Sink};
+use line_world::{Space, World};
+use plc_base::Sink;
 use std::alloc::{AllocError, Global};
 use std::marker::Model;
-
-/// Whether the line takes events of this kind.
-fn is_on_the_line(event: &Event<'_>) -> bool
-    ensures { result ≡ is_on_the_line event.now }
-{
-    match event {
-        Event::Coordinator { .. } => true,
-        Event::Meter { .. } => true,
-        Event::Depot { .. } => true,
-        Event::Near { .. } => true,
-        Event::Counter { .. } => true,
-        Event::Send { .. } => true,
-        Event::Deliver { .. } => true,
-        Event::Inject { .. } => true,
-        Event::Lose { .. } => true,
-        Event::Restart { .. } => true,
-        _ => false,
-    }
-}
 
 /// The world that a script acts on. A contract sees it, and whether its report is quiet.
 #[derive(Drop)]
@@ -41,16 +22,19 @@ struct Player {
     alloc: Global,
     quiet: bool,
     world: World,
-    // Where the payload is of the frame that was opened last.
-    payload: FrameBuf,
+    // Where the datagram stands that was handed up last, and what was shown last.
+    space: Space,
     // The report of the event that was taken last.
     text: String,
 }
 
 impl Model for Player {
+    ghost use Rattle.line_replay.specs.Codes.{playing_code};
     ghost use Rattle.line_replay.specs.Report.{Playing};
 
     ghost Value = { Playing };
+
+    ghost coded = { playing_code };
 
     ghost view = { λ p. record { quiet = p.quiet; world = p.world } };
 }
@@ -74,7 +58,7 @@ fn push_entry(
 }
 
 impl Player {
-    /// Takes an event of a kind that the line takes, and reports it.
+    /// Takes an event that a line can say, and reports it.
     #[tactic(auto, using(line_driver::proofs::Turned::stopped))]
     fn take_event<K: Sink>(
         &mut self,
@@ -82,6 +66,7 @@ impl Player {
         event: &Event<'_>,
         sink: &mut K,
     ) -> Result<(), StopReason>
+        requires { IsEvent event.now }
         ensures { Turned (K.state sink.old) (K.state sink.new) self.old self.new
             (turn_by self.old.quiet number (event_taking self.old.world event.now)) result }
     {
@@ -89,7 +74,7 @@ impl Player {
         if taken >= MAX_EVENTS {
             return refuse(self.alloc, number, Reason::Events, sink);
         }
-        let happened = match self.world.step(event, &mut self.payload) {
+        let happened = match self.world.step(event, &mut self.space) {
             Ok(happened) => happened,
             Err(StepFault::Memory) => return Err(StopReason::Memory),
             Err(StepFault::Setup) => return refuse(self.alloc, number, Reason::Setup, sink),
@@ -108,23 +93,6 @@ impl Player {
         );
         tell_made(sink, made, self.text.as_str())
     }
-
-    /// Takes an event that was read, and reports it.
-    #[tactic(auto, using(line_driver::proofs::Turned::stopped))]
-    fn take_read<K: Sink>(
-        &mut self,
-        number: u32,
-        event: &Event<'_>,
-        sink: &mut K,
-    ) -> Result<(), StopReason>
-        ensures { Turned (K.state sink.old) (K.state sink.new) self.old self.new
-            (turn_by self.old.quiet number (reading_taking self.old.world (Reads event.now))) result }
-    {
-        if is_on_the_line(event) {
-            return self.take_event(number, event, sink);
-        }
-        refuse(self.alloc, number, Reason::Form, sink)
-    }
 }
 
 /// Takes the lines of a script and reports what they do. A contract sees the world, and whether the report is quiet.
@@ -137,9 +105,12 @@ pub struct Replay {
 }
 
 impl Model for Replay {
+    ghost use Rattle.line_replay.specs.Codes.{playing_code};
     ghost use Rattle.line_replay.specs.Report.{Playing};
 
     ghost Value = { Playing };
+
+    ghost coded = { playing_code };
 
     ghost view = { λ r. r.player };
 }
@@ -155,7 +126,7 @@ impl Replay {
                 alloc,
                 quiet,
                 world: World::new(alloc),
-                payload: FrameBuf::new(),
+                space: Space::new(),
                 text: String::new(alloc),
             },
             space: [0; LINE_OCTETS],
@@ -192,7 +163,7 @@ impl LineMachine for Replay {
             LineKind::Text => match read_line(line, &mut self.space) {
                 Reading::Quiet => Ok(()),
                 Reading::NoForm => refuse(alloc, number, Reason::Form, sink),
-                Reading::Reads(event) => self.player.take_read(number, &event, sink),
+                Reading::Reads(event) => self.player.take_event(number, &event, sink),
             },
         }
     }

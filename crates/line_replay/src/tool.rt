@@ -1,22 +1,22 @@
 //! All that the program does.
-ghost use Rattle.std.specs.Prelude.{◌≡◌, ◌≤◌, ◌⊎◌, Bool, true, Some, None};
+ghost use Rattle.std.specs.Prelude.{◌≡◌, ℕ, ◌≤◌, ◌⊎◌, Bool, true, Some, None};
 ghost use Rattle.std.specs.Io.KnownBytes.{IsAtEnd};
 ghost use Rattle.plc_base.specs.Streams.{SourceFaults, SourceRose, SinkRose};
-ghost use Rattle.line_replay.specs.Tool.{Replays, Shows, Tells, command_of, status_of, is_whole};
+ghost use Rattle.line_replay.specs.Tool.{Replays, Shows, Tells, TellsOrMemory, command_of, drill_of, status_of, is_whole};
+ghost use Rattle.line_replay.specs.Drills.{drill_text};
 ghost use Rattle.line_replay.specs.Texts.{usage_text};
 ghost use Rattle.standard_vectors.specs.VectorsText.{vectors_text};
 
+use crate::drill::drill_text;
 use crate::replay::Replay;
 use crate::show::Show;
 use crate::status::Status;
 use line_driver::{Exit, run};
-use line_world::{
-    counters_only_rise, counts_are_right, every_run_is_safe, forged_events_are_told, nonces_differ,
-    restarts_succeed,
-};
+use line_laws::every_network_run_is_right;
+use line_script::number_within;
 use plc_base::{Sink, Source, write_all};
 use standard_vectors::vectors_text;
-use std::alloc::Global;
+use std::alloc::{AllocError, Global};
 
 /// The status of a run over lines, which has seen a forged event or not.
 fn status_of(exit: Exit, forged: bool) -> Status
@@ -42,12 +42,7 @@ fn replay<S: Source, K: Sink>(alloc: Global, quiet: bool, source: &mut S, sink: 
     ensures source { SourceFaults (S.state source.old) (S.state source.new) }
     ensures sink { (K.state sink.old).faults ≤ (K.state sink.new).faults }
 {
-    every_run_is_safe();
-    forged_events_are_told();
-    counters_only_rise();
-    nonces_differ();
-    restarts_succeed();
-    counts_are_right();
+    every_network_run_is_right();
     let mut replay = Replay::new(alloc, quiet);
     let exit = run(alloc, &mut replay, source, sink);
     status_of(exit, replay.is_forged())
@@ -91,6 +86,11 @@ pub enum Command {
     Show,
     /// `vectors`: writes what the ciphers make of known inputs.
     Vectors,
+    /// `drill N`: runs a line of so many meters, with events that are one function of the number, and writes what was counted.
+    Drill {
+        /// 1 to 60.
+        meters: u8,
+    },
 }
 
 /// The command that words name, if they are of a form.
@@ -104,7 +104,31 @@ fn command_of(words: &[String]) -> Option<Command>
         [word, option] if word.as_str() == "replay" && option.as_str() == "-q" => {
             Some(Command::Replay { quiet: true })
         }
+        [word, number] if word.as_str() == "drill" => drill_of(number.as_str()),
         _ => None,
+    }
+}
+
+/// A drill of a number of meters.
+fn drill_of(number: &str) -> Option<Command>
+    ensures { result ≡ drill_of number.now }
+{
+    let meters = number_within(1, 60, number.as_bytes())?;
+    Some(Command::Drill {
+        meters: meters as u8,
+    })
+}
+
+/// Runs a drill of so many meters, and writes its text.
+fn run_drill<K: Sink>(alloc: Global, meters: u8, sink: &mut K) -> Status
+    ensures drill { TellsOrMemory (drill_text meters) Status.Fine (K.state sink.old) (K.state sink.new) result }
+    ensures write { result ≡ Status.WriteFault → SinkRose (K.state sink.old) (K.state sink.new) }
+    ensures sink { (K.state sink.old).faults ≤ (K.state sink.new).faults }
+    ensures read { (result ≡ Status.ReadFault) → ⊥ }
+{
+    match drill_text(alloc, meters) {
+        Ok(text) => tell(sink, text.as_bytes(), Status::Fine),
+        Err(AllocError) => Status::Memory,
     }
 }
 
@@ -113,8 +137,9 @@ const USAGE: &[u8; 58] = b"usage: line_replay replay [-q] | show | vectors | dri
 /// All that the program does, with the words after its name.
 ///
 /// `replay` reads a script and writes what its line did, `replay -q` the same without the octets of the flights. `show` reads
-/// frames in hexadecimal and writes what each is. `vectors` writes what the ciphers make of known inputs. Other words write the
-/// usage line. These two read nothing, and never answer Memory.
+/// frames in hexadecimal and writes what each is. `vectors` writes what the ciphers make of known inputs. `drill N` runs a line of N
+/// meters, 1 to 60, whose events are one function of N, and writes what was counted in it. Other words write the usage line. These
+/// three read nothing, and the first and the last of them never answer Memory.
 ///
 /// Where no read of the source and no write of the sink is to fail, and the sink has room for the whole text, neither count of
 /// faults changes, so that neither fault comes.
@@ -124,10 +149,12 @@ pub fn run_tool<S: Source, K: Sink>(
     source: &mut S,
     sink: &mut K,
 ) -> Status
-    // What was read and written, why this status came, and what holds of the run: up to its first forged event every datagram
-    // that was handed up was sent to that node with the same octets, none is handed up twice, a meter holds only group keys that
-    // were issued to it, and no table passes its size; in every run the counters of a node's flights rise, and no two flights
-    // have one nonce.
+    // What was read and written, why this status came, and what holds of the run. Its events are those of the lines, and each
+    // world is the step of the rules. Up to its first forged event every datagram that was handed up was sent to that node with
+    // the same octets, none is handed up twice, valid next hops form no loop, a joined meter holds only group keys that were
+    // issued to it, and no table passes its size; no two nodes have one address and no two flights one nonce. In every run a
+    // restart finds a store that it can read, counters rise, no node accepts a frame twice, and exactly the forged events are
+    // reported to be forged.
     ensures replays { (quiet : Bool) → command_of words.now ≡ Some (Command.Replay quiet)
         → Replays quiet (S.state source.old) (S.state source.new) (K.state sink.old) (K.state sink.new) result }
     // What was read and written of frames, and why this status came.
@@ -141,6 +168,9 @@ pub fn run_tool<S: Source, K: Sink>(
     // The vectors are those of the definitions, and nothing is read for them.
     ensures vectors { command_of words.now ≡ Some Command.Vectors
         → (source.new ≡ source.old) × Tells vectors_text Status.Fine (K.state sink.old) (K.state sink.new) result }
+    // A drill is the one of its number, and nothing is read for it.
+    ensures drill { (meters : ℕ) → command_of words.now ≡ Some (Command.Drill meters) → (source.new ≡ source.old)
+        × TellsOrMemory (drill_text meters) Status.Fine (K.state sink.old) (K.state sink.new) result }
     // Other words write the usage line, and nothing is read.
     ensures usage { command_of words.now ≡ None
         → (source.new ≡ source.old) × Tells usage_text Status.Usage (K.state sink.old) (K.state sink.new) result }
@@ -153,6 +183,7 @@ pub fn run_tool<S: Source, K: Sink>(
     match command_of(words) {
         Some(Command::Replay { quiet }) => replay(alloc, quiet, source, sink),
         Some(Command::Show) => show(alloc, source, sink),
+        Some(Command::Drill { meters }) => run_drill(alloc, meters, sink),
         Some(Command::Vectors) => tell(sink, vectors_text().octets(), Status::Fine),
         None => tell(sink, USAGE, Status::Usage),
     }

@@ -1,163 +1,338 @@
--- A frame that a node opens, and that is not forged.
-use Rattle.std.proofs.Common.{◌≡◌, ℕ, ◌+◌, ◌-◌, ◌<◌, ◌≤◌, ◌==◌, Bool, true, false, List, get_or, Some, sym, ◌∙◌, ap, subst, arith, slice_set}
-use Rattle.std.proofs.lemmas.Bool.{eq-eqb, ne_eqb}
-use Rattle.std.specs.Prelude.{slice_get}
-use Rattle.plc_base.specs.declared.key.Key.{Key}
-use Rattle.mac_frames.specs.declared.head.MacHead.{MacHead}
-use Rattle.mac_frames.specs.declared.head.MacHead.TheVariants.{Sealed}
-use Rattle.mac_frames.specs.Reading.{head_in, body_in}
-use Rattle.mac_frames.specs.Sealing.{payload_in}
-use Rattle.frame_counters.specs.PeerMarks.{IsCovered, kept_after}
-use Rattle.line_rules.specs.declared.happenings.Handed.{Handed}
-use Rattle.line_world.specs.declared.hearing.WholeUnit.{WholeUnit}
-use Rattle.line_world.specs.declared.opening.Opened.{Opened}
-use Rattle.line_world.specs.declared.world.Flight.{Flight}
-use Rattle.line_world.specs.Nodes.{Node, address_of}
-use Rattle.line_world.specs.Flights.{is_forged, note_of}
-use Rattle.line_world.specs.Units.{whole_in}
-use Rattle.line_world.specs.Hearing.{carried}
-use Rattle.line_world.specs.Worlds.{World}
-use Rattle.line_world.specs.Runs.{Sending, Issue, WasSent, IsNew, send_at}
-use Rattle.line_world.proofs.Places.{each_set, set_here, same_some}
-use Rattle.line_world.proofs.Naming.{distinct}
-use Rattle.line_world.proofs.Sealings.{head_back, payload_back}
-use Rattle.line_world.proofs.Senders.{HasSeen, seen_no_room, seen_here, seen_on, covered_kept}
-use Rattle.line_world.proofs.Openings.{IsOpening, for_address}
-use Rattle.line_world.proofs.Flown.{WasFlown, flown}
-use Rattle.line_world.proofs.Keeping.{IsFlown}
-use Rattle.line_world.proofs.Histories.{Keeps}
-use Rattle.line_world.proofs.Custody.{Holds, IsTaken, AllCovered, Remember, remember_set}
+-- Flights that come to a node or are lost, and what a node makes of octets that come to it.
+use Rattle.std.proofs.Common.{◌≡◌, ℕ, zero, suc, ◌+◌, ◌<◌, ◌≤◌, Bool, true, false, cond, ◌||◌, List, [], ◌∷◌, length, Option, Some, None, Result, Ok, Err, refl, sym, ap, subst, ◌∙◌, if◌then◌else◌, arith}
+use Rattle.std.specs.Prelude.{IfSome, IfOk, MatchOption, is_some, nat_lt, slice_get, slice_set}
+use Rattle.std.specs.List.{list_any}
+use Rattle.std.specs.Option.{option_map, option_map_or}
+use Rattle.std.proofs.lemmas.List.{append-nil, length-set, set-set}
+use Rattle.std.proofs.lemmas.List.Folds.{position_or_len-set}
+use Rattle.std.proofs.lemmas.Option.{get_or_from_slice_get, slice_get_within}
+use Rattle.plc_base.proofs.SlotTables.{slice_get-set}
+use Rattle.plc_base.specs.declared.address.Eui.{Eui}
+use Rattle.plc_base.specs.declared.out_frame.Out.{Out}
+use Rattle.eap_psk.specs.declared.server.Agreed.{Agreed}
+use Rattle.node_rules.specs.declared.heard.Accepted.{Accepted}
+use Rattle.node_rules.specs.declared.heard.Path.{Path}
+use Rattle.node_rules.specs.declared.heard.Path.TheVariants as paths
+use Rattle.node_rules.specs.declared.refusal.Dropped.TheVariants as drops
+use Rattle.node_rules.specs.declared.refusal.FrameRefusal.{FrameRefusal}
+use Rattle.node_rules.specs.declared.refusal.FrameRefusal.TheVariants as frame_refusals
+use Rattle.node_rules.specs.Accepting.{accept, same_eui}
+use Rattle.node_rules.specs.Carrying.{nothing}
+use Rattle.node_rules.specs.Ciphers.{network}
+use Rattle.node_rules.specs.Coordinators as coordinator_rules
+use Rattle.node_rules.specs.Frames.{arrived, spelled}
+use Rattle.node_rules.specs.Memory.{Memory, Node, Role, Coordinator, Meter}
+use Rattle.node_rules.specs.Meters as meters
+use Rattle.node_rules.specs.NodeSteps.{NodeStep, acts, answering, left_by, of_station, stays}
+use Rattle.node_rules.specs.Plans.{Plan, carry_out}
+use Rattle.line_flights.specs.declared.flights.Origin.{Origin}
+use Rattle.line_flights.specs.Flown.{Flown, not_lost}
+use Rattle.line_nodes.specs.declared.reception.Reception as telling
+use Rattle.line_nodes.specs.Doings.{Did}
+use Rattle.line_nodes.specs.Receiving.{Received, Tells}
+use Rattle.line_rules.specs.declared.event.StepFault.TheVariants as faults
+use Rattle.line_rules.specs.declared.event.TheConstants.{MAX_EVENTS}
+use Rattle.line_rules.specs.declared.happenings.Happenings.{Happenings}
+use Rattle.line_rules.specs.Answers.{CompletedJoining, Reception, Up, coordinator_reception, frame_word, meter_reception}
+use Rattle.line_rules.specs.Worlds.{Flight, Pairing, Trace, World, flight_at, is_forged_tag}
+use Rattle.line_rules.specs.Steps.{Step, arrives, done_by, forged_by, handed_by, happened, heard, hears, identity, note_by, number_if, number_of, on_flight, ran, received, reception_trace, told, trace_of}
+use Rattle.line_world.specs.Arrivals.{comes_so, done_in, forged_in, handed_in, hears_so, in_run, left_of, note_in, said_of, taker_in}
+use Rattle.line_world.specs.Bounds.{IsBounded}
+use Rattle.line_world.specs.Steps.{Steps}
+use Rattle.line_world.proofs.Taking.{IsThere, after, bounded_after, is_taken_so, many_given, told_as}
 
--- two sealed heads that are the same
-record IsSameHead (to to' from from' counter counter' : ℕ) : Type 0 where
-  to_is : to ≡ to'
-  from_is : from ≡ from'
-  counter_is : counter ≡ counter'
+-- # Flights
 
-same_head : (a a' : Bool) (s s' p p' t t' f f' c c' i i' : ℕ) → Sealed a s p t f c i ≡ Sealed a' s' p' t' f' c' i' → IsSameHead t t' f f' c c'
-same_head a a' s s' p p' t t' f f' c c' i i' e = record { to_is = cc; from_is = cc; counter_is = cc }
+-- a flight that is none, or was lost, does not come
+pub not_flying : (w : World) (number : ℕ) (k : Flight → Step) → not_lost (flight_at w number) ≡ None → on_flight w number k ≡ Err faults.Flight
+not_flying w number k is = by (flight_at w number) is
+  where
+    by_lost : (f : Flight) (lost : Bool) → (if lost then None else Some f) ≡ None → (if lost then Err faults.Flight else k f) ≡ Err faults.Flight
+    by_lost f true is = refl
+    by_lost f false is = absurd (cc)
 
-module _ (w : World) (sent : List Sending) (issues : List Issue) (k : Keeps w sent issues) (number : ℕ) (node : Node) (octets : List ℕ) (o : Opened)
-    (is_node : slice_get w.nodes number ≡ Some node) (opening : IsOpening node octets o) (unforged : is_forged w.flights octets o.key ≡ false) where
-  was : WasFlown w.flights octets o.key
-  was = flown w.flights octets o.key unforged
+    by : (o : Option Flight) → not_lost o ≡ None → option_map_or (λ f. if f.lost then Err faults.Flight else k f) o (Err faults.Flight) ≡ Err faults.Flight
+    by None is = refl
+    by (Some f) is = by_lost f f.lost is
 
-  f : Flight
-  f = was.flight
+-- one that was not lost does
+pub flying : (w : World) (number : ℕ) (k : Flight → Step) (f : Flight) → not_lost (flight_at w number) ≡ Some f → on_flight w number k ≡ k f
+flying w number k f is = by (flight_at w number) is
+  where
+    by_lost : (g : Flight) (lost : Bool) → (if lost then None else Some g) ≡ Some f → (if lost then Err faults.Flight else k g) ≡ k f
+    by_lost g true is = absurd (cc)
+    by_lost g false is = let same : g ≡ f = cc in ap k same
 
-  place : ℕ
-  place = was.has.place
+    by : (o : Option Flight) → not_lost o ≡ Some f → option_map_or (λ g. if g.lost then Err faults.Flight else k g) o (Err faults.Flight) ≡ k f
+    by None is = absurd (cc)
+    by (Some g) is = by_lost g g.lost is
 
-  is_f : slice_get w.flights place ≡ Some f
-  unfolding f place
-  is_f = was.has.is
+-- a flight that could not be lost does not fly, and the flights are as they were
+pub not_lost_now : (o : Option Flight) (old new : Flown) (lose : Flight → Flown) → MatchOption o ((false ≡ false) × (new ≡ old)) (λ f. (false ≡ true) × (new ≡ lose f))
+    → (o ≡ None) × (new ≡ old)
+not_lost_now None old new lose is = (refl, is.1)
+not_lost_now (Some f) old new lose is = let e : false ≡ true = is.0 in absurd (cc)
 
-  octets_are : f.octets ≡ octets
-  unfolding f
-  octets_are = was.has.octets_are
+-- A flight that was lost flew.
+pub record Loses (o : Option Flight) (new : Flown) (lose : Flight → Flown) : Type 0 where
+  pub flight : Flight
+  pub flew : o ≡ Some flight
+  pub left : new ≡ lose flight
 
-  fl : IsFlown w.nodes sent f
-  fl = k.flown place f is_f
+pub lost_now : (o : Option Flight) (old new : Flown) (lose : Flight → Flown) → MatchOption o ((true ≡ false) × (new ≡ old)) (λ f. (true ≡ true) × (new ≡ lose f)) → Loses o new lose
+lost_now None old new lose is = let e : true ≡ false = is.0 in absurd (cc)
+lost_now (Some f) old new lose is = record { flight = f; flew = refl; left = is.1 }
 
-  abbrev head : MacHead
-  head = Sealed fl.ack fl.seq fl.pan fl.to fl.from fl.counter fl.index
+-- A flight of these octets flies.
+pub record Flies (o : Option Flight) (octets : List ℕ) : Type 0 where
+  pub flight : Flight
+  pub at : o ≡ Some flight
+  pub same : octets ≡ flight.octets
 
-  head_is : head_in octets ≡ head
-  head_is = ap head_in (sym octets_are) ∙ head_back head fl.key.0 fl.payload f.octets fl.sealed_so
+pub flies : (o : Option Flight) (octets : List ℕ) → Some octets ≡ option_map (λ (f : Flight). f.octets) o → Flies o octets
+flies None octets is = absurd (cc)
+flies (Some f) octets is = record { flight = f; at = refl; same = let same : octets ≡ f.octets = cc in same }
 
-  same : IsSameHead o.to fl.to o.from fl.from o.counter fl.counter
-  same = same_head opening.ack fl.ack opening.seq fl.seq opening.pan fl.pan o.to fl.to o.from fl.from o.counter fl.counter opening.index fl.index (sym opening.head ∙ head_is)
+pub flies_none : (o : Option Flight) → None ≡ option_map (λ (f : Flight). f.octets) o → o ≡ None
+flies_none None is = refl
+flies_none (Some f) is = absurd (cc)
 
-  key_is : o.key ≡ fl.key
-  unfolding f
-  key_is = same_some (sym was.has.key_is ∙ fl.key_is)
+-- # The node of a number
 
-  payload_is : o.payload ≡ fl.payload
-  payload_is =
-      opening.payload ∙ ap (λ (key : Key). payload_in key.0 (head_in octets) (body_in octets)) key_is
-      ∙ ap (λ (l : List ℕ). payload_in fl.key.0 (head_in l) (body_in l)) (sym octets_are) ∙ payload_back head fl.key.0 fl.payload f.octets fl.sealed_so
+-- a number below their count is that of a node
+pub at_some : (nodes : List Node) (number : ℕ) → number < length nodes → (x : Node) × (slice_get nodes number ≡ Some x)
+at_some [] number less = absurd (omega (arith, less))
+at_some (x ∷ xs) zero less = (x, refl)
+at_some (x ∷ xs) (suc n) less = let below : n < length xs = omega (arith, less) in at_some xs n below
 
-  -- its counter has 32 bits
-  pub counter_fits : o.counter ≤ 4294967295
-  counter_fits = omega (arith, same.counter_is, fl.fits)
+-- what is told of the node of a number
+pub at_node_told : (nodes : List Node) (number : ℕ) (x : Node) (P : Node → Type 0) → slice_get nodes number ≡ Some x → IfSome (slice_get nodes number) P → P x
+at_node_told nodes number x P at told = subst (λ (o : Option Node). IfSome o P) at told
 
-  -- it is for the node's own address
-  own_address : address_of node.ring ≡ Some fl.to
-  own_address = for_address node opening.ack opening.seq opening.pan o.to o.from o.counter opening.index (λ e. omega (arith, e, same.to_is, fl.low)) opening.for_it ∙ ap Some same.to_is
+-- # The bounds while octets come
 
-  note_is : note_of w.flights octets o.key ≡ place + 1
-  unfolding f
-  note_is = was.note ∙ k.notes place f is_f
+pub in_run_bounded : (w : World) (nodes : List Node) → IsBounded w → length nodes ≡ length w.nodes → IsBounded (in_run (record w { nodes = nodes }))
+in_run_bounded w nodes b same = record {
+  events = b.events;
+  clock = b.clock;
+  nodes = let e = b.nodes in omega (arith, e, same);
+  flights = b.flights;
+  made = b.made;
+  sends = b.sends;
+  ups = b.ups;
+  forged = b.forged;
+  done = b.done;
+  uncut = λ is. absurd (cc);
+}
 
-  -- it carries the datagram of its send
-  pub unit : WholeUnit
-  unit = fl.unit
+pub in_run_again : (w : World) (nodes : List Node) → IsBounded (in_run w) → length nodes ≡ length w.nodes → IsBounded (in_run (record w { nodes = nodes }))
+in_run_again w nodes b same = in_run_bounded (in_run w) nodes b same
 
-  pub carried_is : carried o ≡ Some unit
-  unfolding carried unit
-  carried_is = rw (ne_eqb o.to 0xFFFF (λ e. omega (arith, e, same.to_is, fl.low))) (ap whole_in payload_is ∙ fl.reads)
+if_more : (test : Bool) (n events : ℕ) → n ≤ events → number_if test n ≤ events + 1
+if_more true n events less = let l = less in omega (arith, l)
+if_more false n events less = let l = less in omega (arith, l)
 
-  pub own_is : unit.mesh.to == o.to ≡ true
-  unfolding unit
-  own_is = eq-eqb fl.unit.mesh.to o.to (fl.own ∙ sym same.to_is)
+-- # What a step keeps of a node
 
-  abbrev up : Handed
-  up = record { node = number; note = note_of w.flights octets o.key; octets = unit.octets }
+acts_eui : {A : Type 0} (x : Node) (halted : A) (plan : Memory → Plan Memory A) → (acts x halted plan).node.eui ≡ x.eui
+unfolding acts
+acts_eui {A} x halted plan = by x.memory
+  where
+    by : (o : Option Memory) → (option_map_or (λ m. left_by x (carry_out x.store.records x.store.cut (plan m))) o (stays x halted)).node.eui ≡ x.eui
+    by None = refl
+    by (Some m) = refl
 
-  send_numbered : (n : ℕ) (send : Sending) → 0 < n → slice_get sent (n - 1) ≡ Some send → send_at sent n ≡ Some send
-  send_numbered n send some is = rw (ne_eqb n 0 (λ e. omega (arith, e, some))) is
+hears_eui : (x : Node) (got : Accepted) (cost note now : ℕ) → (hears network x got cost note now).node.eui ≡ x.eui
+hears_eui x got cost note now = by x.role
+  where
+    hears_as : Role → NodeStep Reception
+    hears_as Coordinator = answering coordinator_reception (acts x (Err drops.Store) (λ m. coordinator_rules.hear_coordinator (record { eui = x.eui; ciphers = network }) m got cost note now))
+    hears_as (Meter psk) = answering meter_reception (acts x (Err drops.Store) (λ m. meters.hear_meter (identity network x psk) m got cost note now))
 
-  -- which was sent to this node
-  pub was_sent : WasSent (record { node = number; note = note_of w.flights octets o.key; octets = unit.octets }) sent
-  unfolding unit f
-  was_sent = record {
-    send = fl.send;
-    is = send_numbered (note_of w.flights octets o.key) fl.send (omega (arith, note_is)) (ap (λ n. slice_get sent (n - 1)) was.note ∙ fl.is);
-    node = sym (distinct w.nodes number fl.send.to node fl.target fl.to k.named is_node fl.there own_address fl.address);
-    octets = sym fl.octets_are;
-  }
+    by : (role : Role) → (hears_as role).node.eui ≡ x.eui
+    by Coordinator = acts_eui x (Err drops.Store) _
+    by (Meter psk) = acts_eui x (Err drops.Store) _
 
-  module _ (handed : List Handed) (h : Holds w sent handed) where
-    -- and was not handed up before: its counter would have been taken in
-    pub is_new : IsNew (record { node = number; note = note_of w.flights octets o.key; octets = unit.octets }) handed
-    is_new i d within same_note =
-        let v = get_or handed i d in
-        let t = h.taken i d within in
-        let here : v.note - 1 ≡ place = omega (arith, same_note, note_is) in
-        let flight_is : t.at.flight ≡ f = same_some (sym t.at.is ∙ ap (slice_get w.flights) here ∙ is_f) in
-        let octets_same : t.octets ≡ octets = sym t.at.octets_are ∙ ap (λ (g : Flight). g.octets) flight_is ∙ octets_are in
-        let heads = same_head t.ack opening.ack t.seq opening.seq t.pan opening.pan t.to o.to t.from o.from t.counter o.counter t.index opening.index (sym t.head ∙ ap head_in octets_same ∙ opening.head) in
-        let send_is : t.sent_so.send ≡ was_sent.send = same_some (sym t.sent_so.is ∙ ap (send_at sent) same_note ∙ was_sent.is) in
-        let number_is : v.node ≡ number = sym t.sent_so.node ∙ ap (λ (x : Sending). x.to) send_is ∙ was_sent.node in
-        let hearer_is : t.hearer ≡ node = same_some (sym t.there ∙ ap (slice_get w.nodes) number_is ∙ is_node) in
-        let at_node : HasSeen node.marks t.from t.counter = subst (λ (x : Node). HasSeen x.marks t.from t.counter) hearer_is t.seen in
-        let at_from : HasSeen node.marks o.from t.counter = subst (λ n. HasSeen node.marks n t.counter) heads.from_is at_node in
-        seen_no_room node.marks o.from o.counter (subst (λ n. HasSeen node.marks o.from n) heads.counter_is at_from) opening.room
+-- no node changes its EUI, so each EUI keeps its number
+same_number : (w : World) (number : ℕ) (x y : Node) (eui : Eui) → slice_get w.nodes number ≡ Some x → y.eui ≡ x.eui
+    → number_of (record w { nodes = slice_set w.nodes number y }) eui ≡ number_of w eui
+same_number w number x y eui at same =
+    let test : Node → Bool = λ (z : Node). same_eui z.eui eui in
+    let passes : test y ≡ test x = ap (λ (e : Eui). same_eui e eui) same in
+    let first = position_or_len-set test w.nodes number y x (passes ∙ ap test (sym (get_or_from_slice_get w.nodes number x x at))) in
+    let many = length-set w.nodes number y in
+    λ i. option_map_or (λ (n : ℕ). n) (cond (nat_lt (first i) (many i)) (Some (first i)) None) 0
 
-    abbrev hearer : Node
-    hearer = record node { marks = kept_after node.marks o.from o.counter }
+-- # A frame that is heard
 
-    -- the node remembers all that it took in, and this counter too
-    pub remembers : Remember w.nodes (slice_set w.nodes number (record node { marks = kept_after node.marks o.from o.counter }))
-    remembers = remember_set w.nodes number node hearer is_node (seen_on node.marks o.from o.counter opening.room)
+is_some_map : {A B : Type 0} (f : A → B) (o : Option A) → is_some (option_map f o) ≡ is_some o
+is_some_map f None = refl
+is_some_map f (Some a) = refl
 
-    pub covers : AllCovered (slice_set w.nodes number (record node { marks = kept_after node.marks o.from o.counter }))
-    covers = each_set (λ n x. IsCovered x.marks) w.nodes number hearer h.covered (covered_kept node.marks o.from o.counter opening.room counter_fits (h.covered number node is_node))
+-- a datagram that was handed up, by the octets that stand in the buffer
+handed_as : (number : ℕ) (datagram : List ℕ) (up : Option Up) → IfSome up (λ (u : Up). datagram ≡ u.octets)
+    → handed_in number datagram (option_map (λ (u : Up). u.note) up) ≡ handed_by number up
+handed_as number datagram None is = refl
+handed_as number datagram (Some u) is = λ i. Some (record { node = number; note = u.note; octets = is i })
 
-    pub is_taken : IsTaken (slice_set w.nodes number (record node { marks = kept_after node.marks o.from o.counter })) w.flights sent (record { node = number; note = note_of w.flights octets o.key; octets = unit.octets })
-    is_taken = record {
-      sent_so = was_sent;
-      octets = octets;
-      at = record { flight = f; is = ap (slice_get w.flights) (omega (arith, note_is)) ∙ is_f; octets_are = octets_are };
-      ack = opening.ack;
-      seq = opening.seq;
-      pan = opening.pan;
-      to = o.to;
-      from = o.from;
-      counter = o.counter;
-      index = opening.index;
-      head = opening.head;
-      hearer = hearer;
-      there = set_here w.nodes number node hearer is_node;
-      seen = seen_here node.marks o.from o.counter opening.room;
-    }
+took_as : (number : ℕ) (took : Option Agreed) → taker_in number (is_some took) ≡ option_map (λ _. number) took
+took_as number None = refl
+took_as number (Some agreed) = refl
+
+done_as : (v w : World) (done : Option CompletedJoining) → ((eui : Eui) → number_of v eui ≡ number_of w eui)
+    → done_in v (option_map (λ (d : CompletedJoining). d.eui) done) ≡ option_map (λ (p : Pairing). p.node) (done_by w done)
+done_as v w None same = refl
+done_as v w (Some d) same = ap Some (same d.eui)
+
+pairing_as : (v w : World) (done : Option CompletedJoining) → ((eui : Eui) → number_of v eui ≡ number_of w eui) → done_by v done ≡ done_by w done
+pairing_as v w None same = refl
+pairing_as v w (Some d) same = λ i. Some (record { node = same d.eui i; agreed = d.agreed })
+
+-- what is said and what is left of a frame that a node heard
+pub heard_so : (w new : World) (number : ℕ) (x : Node) (got : Accepted) (origin : Origin) (cost : ℕ) (r : telling.Reception) (datagram : List ℕ) (out : Out) (nodes : List Node)
+    (forged : Bool) (h : Happenings) → IsBounded (in_run w) → w.events < MAX_EVENTS → length out.frames ≤ 24 → length out.tags.made ≤ 2 → slice_get w.nodes number ≡ Some x
+    → Received (hears network x got cost origin.note w.clock) w.nodes number r datagram out nodes
+    → forged ≡ (origin.is_forged || list_any (is_forged_tag w.made) out.tags.opened)
+    → h ≡ said_of (record w { nodes = nodes }) number out forged r datagram → new ≡ left_of (record w { nodes = nodes }) number out forged r
+    → Steps true w (Ok h) new (Ok (hears_so network w number x got origin cost))
+heard_so w new number x got origin cost r datagram out nodes forged h b room frames tags at rec is_forged said is =
+    let d : NodeStep Reception = hears network x got cost origin.note w.clock in
+    let did : Did d w.nodes number d.answer out nodes = rec.did in
+    let told : Tells r datagram d.answer = rec.tells in
+    let right : Bool = origin.is_forged || list_any (is_forged_tag w.made) d.opened in
+    let forgery : forged ≡ right = is_forged ∙ ap (λ (o : Out). origin.is_forged || list_any (is_forged_tag w.made) o.tags.opened) did.out_is in
+    let numbers : (eui : Eui) → number_of (record w { nodes = nodes }) eui ≡ number_of w eui =
+    λ eui. ap (λ (ns : List Node). number_of (record w { nodes = ns }) eui) did.nodes_are ∙ same_number w number x d.node eui at (hears_eui x got cost origin.note w.clock) in
+    let up = ap (λ o. handed_in number datagram o) told.up ∙ handed_as number datagram d.answer.up told.octets in
+    let took = ap (λ t. taker_in number t) told.took ∙ took_as number d.answer.took in
+    let done = ap (λ o. done_in (record w { nodes = nodes }) o) told.done ∙ done_as (record w { nodes = nodes }) w d.answer.done numbers in
+    let many : length out.frames ≡ length d.frames = ap (λ (o : Out). length o.frames) did.out_is ∙ many_given (spelled network) d.frames in
+    let ups : is_some r.up ≡ is_some d.answer.up = ap is_some told.up ∙ is_some_map _ d.answer.up in
+    let ends : is_some r.done ≡ is_some d.answer.done = ap is_some told.done ∙ is_some_map _ d.answer.done in
+    let left : (received network w number right d).0 ≡ new =
+    ap (λ (t : World). record t {
+      ups = number_if (is_some d.answer.up) w.ups;
+      forged = number_if right w.forged;
+      done = number_if (is_some d.answer.done) w.done;
+    }) (told_as (ran w) number d nodes out did.out_is did.nodes_are)
+    ∙ (λ i. record (after (ran w) number nodes out) {
+      ups = number_if (sym ups i) w.ups;
+      forged = number_if (sym forgery i) w.forged;
+      done = number_if (sym ends i) w.done;
+    }) ∙ sym is in
+    let same : length nodes ≡ length w.nodes = ap (λ (ns : List Node). length ns) did.nodes_are ∙ length-set w.nodes number d.node in
+    let counted : IsBounded (after (ran w) number nodes out) = bounded_after (in_run w) number nodes out b room same frames tags in
+    is_taken_so true w new (Ok (received network w number right d)) (reception_trace w number right d) h
+    (λ i. Ok (left i, reception_trace w number right d))
+    (said ∙ (λ i. record (happened w (told.answer i)) { forged = forgery i; up = up i; took = took i; done = done i; flights = many i }))
+    (subst IsBounded (sym is) (record {
+      events = counted.events;
+      clock = counted.clock;
+      nodes = counted.nodes;
+      flights = counted.flights;
+      made = counted.made;
+      sends = counted.sends;
+      ups = if_more (is_some r.up) w.ups w.events b.ups;
+      forged = if_more forged w.forged w.events b.forged;
+      done = if_more (is_some r.done) w.done w.events b.done;
+      uncut = counted.uncut;
+    }))
+
+-- # Octets that come
+
+-- what a node answers that looks at octets
+abbrev pub looks : Node → List ℕ → NodeStep (Result Accepted FrameRefusal)
+looks x octets = acts x (Err frame_refusals.Halted) (λ m. of_station m (accept m.station x.eui (arrived network octets)))
+
+-- two steps of one node leave what the second leaves
+told_twice : {A : Type 0} (w : World) (number : ℕ) (y : Node) (d : NodeStep A) → told network (record w { nodes = slice_set w.nodes number y }) number d ≡ told network w number d
+unfolding told
+told_twice w number y d = λ i. record (told network w number d) { nodes = set-set w.nodes number y d.node i }
+
+-- a frame is heard after its node was looked at as it is before
+received_as : (w : World) (number : ℕ) (x y : Node) (forged : Bool) (d : NodeStep Reception) → slice_get w.nodes number ≡ Some x → y.eui ≡ x.eui
+    → received network (record w { nodes = slice_set w.nodes number y }) number forged d ≡ received network w number forged d
+received_as w number x y forged d at same =
+    let done = pairing_as (record w { nodes = slice_set w.nodes number y }) w d.answer.done (λ eui. same_number w number x y eui at same) in
+    λ i. (
+      record (told_twice (ran w) number y d i) {
+        ups = number_if (is_some d.answer.up) w.ups;
+        forged = number_if forged w.forged;
+        done = number_if (is_some d.answer.done) w.done;
+      },
+      record (reception_trace w number forged d) {
+        happened = record (reception_trace w number forged d).happened { done = option_map (λ (p : Pairing). p.node) (done i) };
+        done = done i;
+      },
+    )
+
+note_as : (w : World) (octets : List ℕ) (path : Path) → note_in w.flights octets path ≡ note_by w octets path
+note_as w octets (paths.Sealed from to_all key) = refl
+note_as w octets (paths.Up from) = refl
+note_as w octets (paths.Down from) = refl
+
+forged_as : (w : World) (octets : List ℕ) (path : Path) → forged_in w.flights octets path ≡ forged_by w octets path
+forged_as w octets (paths.Sealed from to_all key) = refl
+forged_as w octets (paths.Up from) = refl
+forged_as w octets (paths.Down from) = refl
+
+-- what comes of octets that a node looked at is what the rules say of octets that come to it
+comes_as : (w : World) (number : ℕ) (x : Node) (octets : List ℕ) (cost : ℕ) (accepted : Result Accepted FrameRefusal) (origin : Origin) (nodes : List Node)
+    → slice_get w.nodes number ≡ Some x → Did (looks x octets) w.nodes number accepted nothing nodes
+    → IfOk accepted (λ got. origin.is_forged ≡ forged_in w.flights octets got.path) → IfOk accepted (λ got. origin.note ≡ note_in w.flights octets got.path)
+    → comes_so network (record w { nodes = nodes }) number (looks x octets).node accepted origin cost ≡ arrives network w number x octets cost
+unfolding arrives
+comes_as w number x octets cost accepted origin nodes at did forged note =
+    by accepted forged note ∙ ap by_answer did.answer_is
+  where
+    by_answer : Result Accepted FrameRefusal → World × Trace
+    by_answer (Ok got) = heard network w number (looks x octets).node octets got cost
+    by_answer (Err reason) = (told network (ran w) number (looks x octets), trace_of (happened w (frame_word reason)))
+
+    by : (a : Result Accepted FrameRefusal) → IfOk a (λ got. origin.is_forged ≡ forged_in w.flights octets got.path) → IfOk a (λ got. origin.note ≡ note_in w.flights octets got.path)
+        → comes_so network (record w { nodes = nodes }) number (looks x octets).node a origin cost ≡ by_answer a
+    by (Ok got) forged note =
+        let y : Node = (looks x octets).node in
+        let f : origin.is_forged ≡ forged_by w octets got.path = forged ∙ forged_as w octets got.path in
+        let n : origin.note ≡ note_by w octets got.path = note ∙ note_as w octets got.path in
+        let d : ℕ → NodeStep Reception = λ note. hears network y got cost note w.clock in
+        (λ i. received network (record w { nodes = did.nodes_are i }) number (f i || list_any (is_forged_tag w.made) (d (n i)).opened) (d (n i)))
+        ∙ received_as w number x y (forged_by w octets got.path || list_any (is_forged_tag w.made) (d (note_by w octets got.path)).opened) (d (note_by w octets got.path)) at
+        (acts_eui x (Err frame_refusals.Halted) _)
+    by (Err reason) forged note =
+        let left : told network (ran w) number (looks x octets) ≡ record (ran w) { nodes = nodes } =
+        told_as (ran w) number (looks x octets) nodes nothing did.out_is did.nodes_are
+        ∙ (λ i. record (ran w) { nodes = nodes; flights = append-nil w.flights i; made = append-nil w.made i }) in
+        λ i. (sym left i, trace_of (happened w (frame_word reason)))
+
+-- what is said and what is left of octets that came to a node
+pub came : (w new : World) (number : ℕ) (x : Node) (octets : List ℕ) (cost : ℕ) (accepted : Result Accepted FrameRefusal) (origin : Origin) (nodes : List Node) (h : Happenings)
+    → slice_get w.nodes number ≡ Some x → IfSome (slice_get w.nodes number) (λ y. Did (looks y octets) w.nodes number accepted nothing nodes)
+    → IfOk accepted (λ got. origin.is_forged ≡ forged_in w.flights octets got.path) → IfOk accepted (λ got. origin.note ≡ note_in w.flights octets got.path)
+    → IfSome (slice_get nodes number) (λ y. Steps true (record w { nodes = nodes }) (Ok h) new (Ok (comes_so network (record w { nodes = nodes }) number y accepted origin cost)))
+    → Steps true w (Ok h) new (Ok (arrives network w number x octets cost))
+came w new number x octets cost accepted origin nodes h at looked forged note s =
+    let did : Did (looks x octets) w.nodes number accepted nothing nodes =
+    subst (λ (o : Option Node). IfSome o (λ y. Did (looks y octets) w.nodes number accepted nothing nodes)) at looked in
+    let left : slice_get nodes number ≡ Some (looks x octets).node =
+    ap (λ (ns : List Node). slice_get ns number) did.nodes_are ∙ slice_get-set w.nodes number (looks x octets).node (slice_get_within w.nodes number x at) in
+    let steps : Steps true (record w { nodes = nodes }) (Ok h) new (Ok (comes_so network (record w { nodes = nodes }) number (looks x octets).node accepted origin cost)) =
+    subst (λ (o : Option Node). IfSome o (λ y. Steps true (record w { nodes = nodes }) (Ok h) new (Ok (comes_so network (record w { nodes = nodes }) number y accepted origin cost)))) left s in
+    subst (λ (r : World × Trace). Steps true w (Ok h) new (Ok r)) (comes_as w number x octets cost accepted origin nodes at did forged note)
+    (record { gives = steps.gives; memory = tt; bounds = steps.bounds })
+
+-- the nodes are as many as before
+pub as_many : {A : Type 0} (d : NodeStep A) (old : List Node) (number : ℕ) (answer : A) (out : Out) (nodes : List Node) → Did d old number answer out nodes → length nodes ≡ length old
+as_many d old number answer out nodes did = ap (λ (ns : List Node). length ns) did.nodes_are ∙ length-set old number d.node
+
+-- the node that was found, by the number that it was found under
+pub found_at : {w : World} {number found : ℕ} (there : IsThere w number found) → slice_get w.nodes found ≡ Some there.node
+found_at {w} there = ap (λ n. slice_get w.nodes n) there.same ∙ there.at
+
+-- a node that was found looked at octets: the nodes are as many as before
+pub looked_many : (v w : World) (number found : ℕ) (octets : List ℕ) (accepted : Result Accepted FrameRefusal) (nodes : List Node) → v ≡ w → IsThere w number found
+    → IfSome (slice_get v.nodes found) (λ y. Did (looks y octets) v.nodes found accepted nothing nodes) → length nodes ≡ length v.nodes
+looked_many v w number found octets accepted nodes same there looked =
+    let again : IsThere v number found = subst (λ (it : World). IsThere it number found) (sym same) there in
+    as_many (looks again.node octets) v.nodes found accepted nothing nodes
+    (at_node_told v.nodes found again.node (λ y. Did (looks y octets) v.nodes found accepted nothing nodes) (found_at again) looked)

@@ -1,13 +1,5 @@
-pub mod Enrolling
-pub mod Flights
-pub mod Hearing
-pub mod Buckets
-pub mod Chains
-pub mod Nodes
-pub mod Opening
-pub mod Runs
-pub mod Sending
-pub mod Setup
+pub mod Lines
 pub mod Steps
-pub mod Units
-pub mod Worlds
+pub mod Bounds
+pub mod WorldCodes
+pub mod Arrivals

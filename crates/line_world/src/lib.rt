@@ -1,23 +1,18 @@
-//! A line of nodes: what each event of a script does to it.
+//! The world: a line of nodes, what flew on it, and the step that an event makes.
+//!
+//! The step is that of `line_rules`: its definition there is what the code here is proved against.
 #![tactic(auto)]
 
-mod chains;
-mod flights;
-mod hearing;
-mod laws;
-mod node;
-mod opening;
+mod arriving;
+mod happening;
+mod joining;
+mod line;
+mod ordering;
 mod sending;
 mod setup;
 #[cfg(test)]
 mod tests;
+mod time;
 mod world;
 
-pub use hearing::WholeUnit;
-pub use laws::{
-    addresses_differ, counters_only_rise, counts_are_right, every_run_is_safe,
-    flights_are_readable, forged_events_are_told, nonces_differ, restarts_succeed,
-};
-pub use node::Neighbour;
-pub use opening::Opened;
-pub use world::{Counts, Flight, MAX_NODES, World};
+pub use world::{Counts, Space, World};

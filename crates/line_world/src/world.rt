@@ -1,31 +1,16 @@
-//! The world: its nodes and flights, and the step that an event makes.
+//! The world, and the step that an event makes.
 ghost use Rattle.std.specs.Prelude.{◌≡◌, ◌<◌, ◌≤◌, length};
 ghost use Rattle.line_rules.specs.declared.event.TheConstants.{MAX_EVENTS};
+ghost use Rattle.line_rules.specs.Events.{IsEvent};
 
-use crate::flights::Flights;
-use crate::node::Node;
+use crate::line::Line;
+use line_flights::{Flights, MadeTags};
+use line_nodes::Nodes;
 use line_rules::{Event, Happenings, StepFault};
-use plc_base::{FrameBuf, Key, OctetRef};
+use node_rules::{Shown, ShownPeers, ShownRoutes};
+use plc_base::{DatagramBuf, Out};
 use std::alloc::Global;
 use std::marker::Model;
-
-/// A line has at most so many nodes.
-pub const MAX_NODES: usize = 1000;
-
-/// A frame on its way. It may come any number of times, until it is lost.
-#[derive(Drop)]
-pub struct Flight<'a> {
-    /// The node that sent it.
-    pub from: u16,
-    /// Its octets.
-    pub octets: OctetRef<'a>,
-    /// The group key that sealed it.
-    pub key: Option<Key>,
-    /// The number of the send that it carries, from 1.
-    pub note: u32,
-    /// Whether it was taken away.
-    pub lost: bool,
-}
 
 /// What was counted so far.
 #[derive(Clone, Copy, Debug, PartialEq, Eq)]
@@ -34,71 +19,93 @@ pub struct Counts {
     pub events: u32,
     /// The flights that went out.
     pub flights: u32,
-    /// The sends that were answered Sent.
+    /// The sends that were answered Sent or Waiting.
     pub sends: u32,
     /// The datagrams that were handed up.
     pub ups: u32,
-    /// The events at which a forged frame was opened.
+    /// The events that were forged.
     pub forged: u32,
+    /// The joinings that are done.
+    pub done: u32,
 }
 
-/// The nodes of a line, and every flight that ever went out.
+/// Where an event puts what it hands out: a datagram, or what is shown of a node.
+#[derive(Drop)]
+pub struct Space {
+    /// The datagram that was handed up last.
+    pub datagram: DatagramBuf,
+    /// What was shown last.
+    pub shown: Shown,
+}
+
+impl Space {
+    /// Nothing.
+    pub fn new() -> Space {
+        Space {
+            datagram: DatagramBuf::new(),
+            shown: Shown {
+                halted: true,
+                address: None,
+                active: None,
+                next_counter: 0,
+                last_number: 0,
+                key0: None,
+                key1: None,
+                routes: ShownRoutes::new(),
+                floors: [0; 16],
+                peers: ShownPeers::new(),
+            },
+        }
+    }
+}
+
+/// The nodes of a line, and every frame that ever went out.
 #[derive(Drop)]
 pub struct World {
-    pub(crate) alloc: Global,
-    pub(crate) events: u32,
-    pub(crate) running: bool,
-    pub(crate) sends: u32,
-    pub(crate) ups: u32,
-    pub(crate) forged: u32,
-    pub(crate) nodes: Vec<Node>,
-    pub(crate) flights: Flights,
+    pub(crate) line: Line,
 }
 
 impl Model for World {
-    ghost use Rattle.line_world.specs.Worlds.{World, IsSound};
+    ghost use Rattle.line_rules.specs.Worlds.{World};
+    ghost use Rattle.line_world.specs.WorldCodes.{world_code};
+    ghost use Rattle.line_world.specs.Bounds.{IsBounded};
+    ghost use Rattle.line_world.specs.Lines.{world_of};
 
     ghost Value = { World };
 
-    ghost view = { λ w. record {
-      events = w.events;
-      running = w.running;
-      sends = w.sends;
-      ups = w.ups;
-      forged = w.forged;
-      nodes = w.nodes.items;
-      flights = w.flights;
-    } };
+    ghost coded = { world_code };
 
-    ghost invariant = { λ w. IsSound (record {
-      events = w.events;
-      running = w.running;
-      sends = w.sends;
-      ups = w.ups;
-      forged = w.forged;
-      nodes = w.nodes.items;
-      flights = w.flights;
-    }) };
+    ghost view = { λ w. world_of w.line };
+
+    ghost invariant = { λ w. IsBounded (world_of w.line) };
 }
 
 impl World {
-    ghost use Rattle.line_world.specs.Worlds.{start, flight_at};
     ghost use Rattle.std.specs.Option.{option_copied, option_map};
-    ghost use Rattle.line_world.specs.Steps.{step, takes_memory, Gives, HasMemory};
+    ghost use Rattle.node_rules.specs.Ciphers.{network};
+    ghost use Rattle.line_rules.specs.Worlds.{start, flight_at};
+    ghost use Rattle.line_rules.specs.Steps.{step};
+    ghost use Rattle.line_world.specs.Steps.{Gives, HasMemory, takes_memory};
 
     /// A world with no node. It takes no memory.
     pub fn new(alloc: Global) -> World
         ensures { result ≡ start }
     {
         World {
-            alloc,
-            events: 0,
-            running: false,
-            sends: 0,
-            ups: 0,
-            forged: 0,
-            nodes: Vec::new(alloc),
-            flights: Flights::new(alloc),
+            line: Line {
+                alloc,
+                clock: 0,
+                events: 0,
+                running: false,
+                nodes: Nodes::new(alloc),
+                flights: Flights::new(alloc),
+                made: MadeTags::new(alloc),
+                sends: 0,
+                ups: 0,
+                forged: 0,
+                done: 0,
+                out: Out::new(),
+            },
         }
     }
 
@@ -109,14 +116,16 @@ impl World {
         ensures sends { result.sends ≡ self.now.sends }
         ensures ups { result.ups ≡ self.now.ups }
         ensures forged { result.forged ≡ self.now.forged }
+        ensures done { result.done ≡ self.now.done }
         ensures bound { self.now.events ≤ MAX_EVENTS }
     {
         Counts {
-            events: self.events,
-            flights: self.flights.len() as u32,
-            sends: self.sends,
-            ups: self.ups,
-            forged: self.forged,
+            events: self.line.events,
+            flights: self.line.flights.len() as u32,
+            sends: self.line.sends,
+            ups: self.line.ups,
+            forged: self.line.forged,
+            done: self.line.done,
         }
     }
 
@@ -124,44 +133,64 @@ impl World {
     pub fn flight(&self, flight: u32) -> Option<&[u8]>
         ensures { option_copied result ≡ option_map (λ f. f.octets) (flight_at self.now flight) }
     {
-        Some(self.flights.get(flight)?.octets.octets())
+        self.line.flights.octets(flight)
     }
 
     /// The node that sent a flight, lost or not. None exactly where no flight has that number.
     pub fn flight_sender(&self, flight: u32) -> Option<u16>
         ensures { result ≡ option_map (λ f. f.from) (flight_at self.now flight) }
     {
-        Some(self.flights.get(flight)?.from)
+        self.line.flights.sender(flight)
     }
 
-    /// Takes an event, and answers what happened: the step of the definition. Fewer than 50,000 events were taken before.
+    /// Takes an event, and answers what happened: the step of the rules. Fewer than 50,000 events were taken before.
     ///
-    /// `Setup`, `Node` and `Flight` come exactly where the definition says that the event is not taken for that reason, `Memory`
-    /// where there was none for it, which only an event that makes a node or sends a datagram can meet. After each of them the
-    /// world is as it was.
+    /// `Setup`, `Node` and `Flight` come exactly where the rules say that the event is not taken for that reason, `Memory` where there
+    /// was none for it, which only an event that makes a node or may send frames can meet. After each of them the world is as it was.
     ///
-    /// The payload of a frame that is opened stands in `space`, and what is handed up is a part of it.
+    /// A datagram that is handed up, and what is shown of a node, stands in `space`.
     pub fn step<'a>(
         &mut self,
         event: &Event<'_>,
-        space: &'a mut FrameBuf,
+        space: &'a mut Space,
     ) -> Result<Happenings<'a>, StepFault>
-        requires { self.old.events < MAX_EVENTS }
-        ensures step { Gives self.old result self.new (step self.old event.now) }
+        requires events { self.old.events < MAX_EVENTS }
+        requires event { IsEvent event.now }
+        ensures step { Gives self.old result self.new (step network self.old event.now) }
         ensures memory { HasMemory (takes_memory event.now) result }
     {
         match event {
-            Event::Coordinator { eui, key } => self.coordinator(*eui, *key),
-            Event::Meter { eui, psk } => self.meter(*eui, *psk),
-            Event::Depot { node } => self.depot(*node),
-            Event::Near { a, b, cost } => self.near(*a, *b, *cost),
-            Event::Counter { node, value } => self.counter(*node, *value),
-            Event::Send { from, to, datagram } => self.send(*from, *to, datagram.octets()),
-            Event::Deliver { flight, node, .. } => self.deliver(*flight, *node, space),
-            Event::Inject { node, octets, .. } => self.inject(*node, octets.octets(), space),
-            Event::Lose { flight } => self.lose(*flight),
-            Event::Restart { node } => self.restart(*node),
-            _ => Err(StepFault::Setup),
+            Event::Coordinator { eui, key } => self.line.coordinator(*eui, key),
+            Event::Meter { eui, psk } => self.line.meter(*eui, *psk),
+            Event::Depot { node } => self.line.depot(*node),
+            Event::Near { a, b, cost } => self.line.near(*a, *b, *cost),
+            Event::Counter { node, value } => self.line.counter(*node, *value),
+            Event::Number { node, value } => self.line.number(*node, *value),
+            Event::Allow { node } => self.line.allow(*node),
+            Event::Rand { node, value } => self.line.rand(*node, *value),
+            Event::Join { node, agent } => self.line.join(*node, *agent),
+            Event::Leave { node } => self.line.leave(*node),
+            Event::Send { from, to, datagram } => self.line.send(*from, *to, datagram.octets()),
+            Event::Deliver { flight, node, cost } => self
+                .line
+                .deliver(*flight, *node, *cost, space),
+            Event::Inject { node, cost, octets } => {
+                self.line.inject(*node, *cost, octets.octets(), space)
+            }
+            Event::Lose { flight } => self.line.lose(*flight),
+            Event::Break { node, next } => self.line.breaks(*node, *next),
+            Event::Tick { seconds } => self.line.tick(*seconds),
+            Event::Restart { node } => self.line.restart(*node),
+            Event::Cut {
+                node,
+                nth,
+                keeps_new,
+            } => self.line.cut(*node, *nth, *keeps_new),
+            Event::Rekey { index, key } => self.line.rekey(*index, key),
+            Event::Challenge { node } => self.line.challenge(*node),
+            Event::Activate { node, index } => self.line.activate(*node, *index),
+            Event::Kick { node } => self.line.kick(*node),
+            Event::Show { node } => self.line.show(*node, space),
         }
     }
 }

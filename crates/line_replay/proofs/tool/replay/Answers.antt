@@ -11,15 +11,9 @@ returns-clause-replays g c =
       ran = ran;
       by_entries = report_by_entries c.args.quiet ran.drives.b;
       quieted = λ e. report_quieted ran.drives.b e;
-      holds = λ e. record {
-        safe = c.every_run_is_safe.ensures.entries (entries ran.drives.b e) (entries_run ran.drives.b e);
-        forged = c.forged_events_are_told.ensures.entries (entries ran.drives.b e) (entries_run ran.drives.b e);
-        counters = c.counters_only_rise.ensures.entries (entries ran.drives.b e) (entries_run ran.drives.b e);
-        nonces = c.nonces_differ.ensures.entries (entries ran.drives.b e) (entries_run ran.drives.b e);
-        restarts = c.restarts_succeed.ensures.entries (entries ran.drives.b e) (entries_run ran.drives.b e);
-        counts = c.counts_are_right.ensures.entries (entries ran.drives.b e) (entries_run ran.drives.b e);
-      };
-      named = names c.args.quiet ran (c.counts_are_right.ensures.entries (entries ran.drives.b true) (entries_run ran.drives.b true));
+      run = entries_run ran.drives.b;
+      holds = λ e. c.every_network_run_is_right.ensures (entries ran.drives.b e) (entries_run ran.drives.b e);
+      named = names c.args.quiet ran (c.every_network_run_is_right.ensures (entries ran.drives.b true) (entries_run ran.drives.b true)).counted;
     }
 
 pub returns-clause-whole : goal.returns-clause-whole

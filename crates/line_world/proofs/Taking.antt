@@ -1,0 +1,205 @@
+-- How an event is taken: why it is not, and what a node's step makes of the world.
+use Rattle.std.proofs.Common.{◌≡◌, ℕ, suc, ◌+◌, ◌<◌, ◌≤◌, Bool, true, false, List, [], ◌∷◌, ◌++◌, length, map, Option, Some, None, Result, Ok, Err, refl, sym, ap, subst, ◌∙◌, if◌then◌else◌, arith}
+use Rattle.std.specs.Prelude.{IfSome, slice_get, slice_set}
+use Rattle.std.specs.Option.{option_map, option_map_or}
+use Rattle.std.proofs.lemmas.List.{append-nil, length-append, length-set}
+use Rattle.std.proofs.lemmas.Option.{slice_get_within}
+use Rattle.plc_base.specs.declared.out_frame.Out.{Out}
+use Rattle.node_rules.specs.Carrying.{nothing}
+use Rattle.node_rules.specs.Ciphers.{network}
+use Rattle.node_rules.specs.Frames.{Sent, spelled}
+use Rattle.node_rules.specs.Memory.{Node}
+use Rattle.node_rules.specs.NodeSteps.{NodeStep, answering}
+use Rattle.line_nodes.specs.Doings.{Did, given_by}
+use Rattle.line_rules.specs.declared.event.Answer.{Answer}
+use Rattle.line_rules.specs.declared.event.StepFault.{StepFault}
+use Rattle.line_rules.specs.declared.event.StepFault.TheVariants as faults
+use Rattle.line_rules.specs.declared.event.TheConstants.{MAX_EVENTS}
+use Rattle.line_rules.specs.declared.happenings.Happenings.{Happenings}
+use Rattle.line_rules.specs.Worlds.{World, Flight, Trace, node_at}
+use Rattle.line_rules.specs.Steps.{Step, acted, flight_by, flights_of, happened, has_begun, on_node, once_begun, ran, spoken, told}
+use Rattle.line_world.specs.Bounds.{IsBounded}
+use Rattle.line_world.specs.Steps.{HasMemory, Steps}
+
+-- # Events that are not taken
+
+pub setup_fault : (takes : Bool) (w : World) (step : Step) → IsBounded w → step ≡ Err faults.Setup → Steps takes w (Err faults.Setup) w step
+setup_fault takes w step bounds is = record { gives = (is, refl); memory = by takes; bounds = bounds }
+  where
+    by : (t : Bool) → HasMemory t (Err faults.Setup)
+    by true = tt
+    by false = refl
+
+pub node_fault : (takes : Bool) (w : World) (step : Step) → IsBounded w → step ≡ Err faults.Node → Steps takes w (Err faults.Node) w step
+node_fault takes w step bounds is = record { gives = (is, refl); memory = by takes; bounds = bounds }
+  where
+    by : (t : Bool) → HasMemory t (Err faults.Node)
+    by true = tt
+    by false = refl
+
+pub flight_fault : (takes : Bool) (w : World) (step : Step) → IsBounded w → step ≡ Err faults.Flight → Steps takes w (Err faults.Flight) w step
+flight_fault takes w step bounds is = record { gives = (is, refl); memory = by takes; bounds = bounds }
+  where
+    by : (t : Bool) → HasMemory t (Err faults.Flight)
+    by true = tt
+    by false = refl
+
+-- memory ran out where the event may take some
+pub out_of_memory : (w new : World) (step : Step) → IsBounded w → new ≡ w → Steps true w (Err faults.Memory) new step
+out_of_memory w new step bounds same = record { gives = same; memory = tt; bounds = subst IsBounded (sym same) bounds }
+
+-- the same of a step by another name
+pub steps_as : {takes : Bool} {w new : World} {r : Result Happenings StepFault} (named step : Step) → named ≡ step → Steps takes w r new step → Steps takes w r new named
+steps_as {takes} {w} {new} {r} named step is s = subst (λ (it : Step). Steps takes w r new it) (sym is) s
+
+-- # The tests before a step
+
+pub unbegun : (w : World) (step : Step) → false ≡ has_begun w → once_begun w step ≡ Err faults.Setup
+unbegun w step is = ap (λ (b : Bool). if b then step else Err faults.Setup) (sym is)
+
+pub begun : (w : World) (step : Step) → true ≡ has_begun w → once_begun w step ≡ step
+begun w step is = ap (λ (b : Bool). if b then step else Err faults.Setup) (sym is)
+
+pub no_node : (w : World) (number : ℕ) (k : Node → Step) → node_at w number ≡ None → on_node w number k ≡ Err faults.Node
+no_node w number k is = ap (λ (o : Option Node). option_map_or k o (Err faults.Node)) is
+
+pub at_node : (w : World) (number : ℕ) (x : Node) (k : Node → Step) → node_at w number ≡ Some x → on_node w number k ≡ k x
+at_node w number x k is = ap (λ (o : Option Node). option_map_or k o (Err faults.Node)) is
+
+-- a number that is found none is the number of no node
+pub not_there : (number : ℕ) (o : Option Node) → None ≡ option_map (λ _. number) o → o ≡ None
+not_there number None is = refl
+not_there number (Some x) is = absurd (cc)
+
+-- A number that is found is that of a node.
+pub record IsThere (w : World) (number found : ℕ) : Type 0 where
+  pub node : Node
+  pub at : node_at w number ≡ Some node
+  pub same : found ≡ number
+  pub within : found < length w.nodes
+
+pub is_there : (w : World) (number found : ℕ) → Some found ≡ option_map (λ _. number) (node_at w number) → IsThere w number found
+is_there w number found is = by (node_at w number) refl is
+  where
+    by : (o : Option Node) → node_at w number ≡ o → Some found ≡ option_map (λ _. number) o → IsThere w number found
+    by None at is = absurd (cc)
+    by (Some x) at is = let same : found ≡ number = cc in record { node = x; at = at; same = same; within = subst (λ n. n < length w.nodes) (sym same) (slice_get_within w.nodes number x at) }
+
+-- what is told of the node of the number that was found, of that node
+pub told_of : {w : World} {number found : ℕ} (there : IsThere w number found) (P : Node → Type 0) → IfSome (slice_get w.nodes found) P → P there.node
+told_of {w} {number} {found} there P is = subst (λ (o : Option Node). IfSome o P) (ap (λ n. slice_get w.nodes n) there.same ∙ there.at) is
+
+-- # What a node's step makes of the world
+
+flown : (number : ℕ) (frames : List Sent) → map (λ frame. flight_by number (spelled network frame)) frames ≡ map (flight_by number) (map (spelled network) frames)
+flown number [] = refl
+flown number (x ∷ xs) = ap (λ (l : List Flight). flight_by number (spelled network x) ∷ l) (flown number xs)
+
+-- the world that a node's step leaves, by the nodes that are left and by what was given out
+abbrev pub after : World → ℕ → List Node → Out → World
+after w number nodes out =
+    record w { nodes = nodes; flights = w.flights ++ map (flight_by number) out.frames; made = w.made ++ out.tags.made }
+
+pub told_as : {A : Type 0} (w : World) (number : ℕ) (d : NodeStep A) (nodes : List Node) (out : Out) → out ≡ given_by d → nodes ≡ slice_set w.nodes number d.node
+    → told network w number d ≡ after w number nodes out
+unfolding told
+told_as w number d nodes out o n =
+    let frames : flights_of network number d ≡ map (flight_by number) out.frames = flown number d.frames ∙ ap (λ (x : Out). map (flight_by number) x.frames) (sym o) in
+    let tags : d.made ≡ out.tags.made = ap (λ (x : Out). x.tags.made) (sym o) in
+    λ i. record w { nodes = sym n i; flights = w.flights ++ frames i; made = w.made ++ tags i }
+
+pub many_given : {A B : Type 0} (f : A → B) (xs : List A) → length (map f xs) ≡ length xs
+many_given f [] = refl
+many_given f (x ∷ xs) = ap (λ n. suc n) (many_given f xs)
+
+-- the bounds after an event of no setup kind at which a node gave this out
+pub bounded_after : (w : World) (number : ℕ) (nodes : List Node) (out : Out) → IsBounded w → w.events < MAX_EVENTS → length nodes ≡ length w.nodes
+    → length out.frames ≤ 24 → length out.tags.made ≤ 2 → IsBounded (after (ran w) number nodes out)
+bounded_after w number nodes out b room same frames tags = record {
+  events = let e = room in omega (arith, e);
+  clock = let e = b.clock in omega (arith, e);
+  nodes = let e = b.nodes in omega (arith, e, same);
+  flights = let e = b.flights in omega (arith, e, frames, length-append w.flights (map (flight_by number) out.frames), many_given (flight_by number) out.frames);
+  made = let e = b.made in omega (arith, e, tags, length-append w.made out.tags.made);
+  sends = let e = b.sends in omega (arith, e);
+  ups = let e = b.ups in omega (arith, e);
+  forged = let e = b.forged in omega (arith, e);
+  done = let e = b.done in omega (arith, e);
+  uncut = λ is. absurd (cc);
+}
+
+-- # An event at which one node acted
+
+-- what is said and what is left of an event, where a node that was found did this
+pub node_acted : {A : Type 0} (takes : Bool) (w new : World) {number found : ℕ} (there : IsThere w number found) (k : Node → NodeStep A) (word : A → Answer) (answer : A) (out : Out)
+    (nodes : List Node) (h : Happenings) → IsBounded w → w.events < MAX_EVENTS → length out.frames ≤ 24 → length out.tags.made ≤ 2
+    → IfSome (slice_get w.nodes found) (λ y. Did (k y) w.nodes found answer out nodes) → h ≡ record (happened w (word answer)) { flights = length out.frames }
+    → new ≡ after (ran w) found nodes out → Steps takes w (Ok h) new (Ok (acted network w number (answering word (k there.node))))
+node_acted takes w new {number} {found} there k word answer out nodes h b room frames tags did said is =
+    let x = there.node in
+    let at : slice_get w.nodes found ≡ Some x = ap (λ n. slice_get w.nodes n) there.same ∙ there.at in
+    let d : Did (k x) w.nodes found answer out nodes = subst (λ o. IfSome o (λ y. Did (k y) w.nodes found answer out nodes)) at did in
+    let left : told network (ran w) number (answering word (k x)) ≡ new =
+    ap (λ n. told network (ran w) n (answering word (k x))) (sym there.same) ∙ told_as (ran w) found (answering word (k x)) nodes out d.out_is d.nodes_are ∙ sym is in
+    let count : length out.frames ≡ length (k x).frames = ap (λ (o : Out). length o.frames) d.out_is ∙ many_given (spelled network) (k x).frames in
+    let same : length nodes ≡ length w.nodes = ap (λ (ns : List Node). length ns) d.nodes_are ∙ length-set w.nodes found (k x).node in
+    record {
+      gives = record {
+        trace = spoken w (answering word (k x));
+        taken = λ i. Ok (left i, spoken w (answering word (k x)));
+        told = said ∙ (λ i. record (happened w (word (d.answer_is i))) { flights = count i });
+      };
+      memory = by takes;
+      bounds = subst IsBounded (sym is) (bounded_after w found nodes out b room same frames tags);
+    }
+  where
+    by : (t : Bool) → HasMemory t (Ok h)
+    by true = tt
+    by false = tt
+
+-- the same where nothing was given out
+pub node_answered : {A : Type 0} (takes : Bool) (w new : World) {number found : ℕ} (there : IsThere w number found) (k : Node → NodeStep A) (word : A → Answer) (answer : A)
+    (nodes : List Node) (h : Happenings) → IsBounded w → w.events < MAX_EVENTS → IfSome (slice_get w.nodes found) (λ y. Did (k y) w.nodes found answer nothing nodes)
+    → h ≡ happened w (word answer) → new ≡ record (ran w) { nodes = nodes } → Steps takes w (Ok h) new (Ok (acted network w number (answering word (k there.node))))
+node_answered takes w new there k word answer nodes h b room did said is =
+    node_acted takes w new there k word answer nothing nodes h b room (omega arith) (omega arith) did said
+    (is ∙ (λ i. record (ran w) { nodes = nodes; flights = sym (append-nil w.flights) i; made = sym (append-nil w.made) i }))
+
+-- the same where the node answers a word of the report itself
+pub node_said : (takes : Bool) (w new : World) {number found : ℕ} (there : IsThere w number found) (k : Node → NodeStep Answer) (answer : Answer) (nodes : List Node) (h : Happenings)
+    → IsBounded w → w.events < MAX_EVENTS → IfSome (slice_get w.nodes found) (λ y. Did (k y) w.nodes found answer nothing nodes) → h ≡ happened w answer
+    → new ≡ record (ran w) { nodes = nodes } → Steps takes w (Ok h) new (Ok (acted network w number (k there.node)))
+node_said takes w new there k answer nodes h b room did said is =
+    node_answered takes w new there k (λ (a : Answer). a) answer nodes h b room did said is
+
+-- # An event at which no node acted
+
+-- the bounds after an event of no setup kind, by what it changed of the world beside counting itself
+pub bounded_by : (w : World) (clock : ℕ) (nodes : List Node) (flights : List Flight) → IsBounded w → w.events < MAX_EVENTS → clock < w.clock + 4294967296 → length nodes ≡ length w.nodes
+    → length flights ≡ length w.flights → IsBounded (record (ran w) { clock = clock; nodes = nodes; flights = flights })
+bounded_by w clock nodes flights b room time same flown = record {
+  events = let e = room in omega (arith, e);
+  clock = let e = b.clock in omega (arith, e, time);
+  nodes = let e = b.nodes in omega (arith, e, same);
+  flights = let e = b.flights in omega (arith, e, flown);
+  made = let e = b.made in omega (arith, e);
+  sends = let e = b.sends in omega (arith, e);
+  ups = let e = b.ups in omega (arith, e);
+  forged = let e = b.forged in omega (arith, e);
+  done = let e = b.done in omega (arith, e);
+  uncut = λ is. absurd (cc);
+}
+
+-- an event that was taken, by the world that it left and what is said of it
+pub is_taken_so : (takes : Bool) (w new : World) (step : Step) (trace : Trace) (h : Happenings) → step ≡ Ok (new, trace) → h ≡ trace.happened → IsBounded new → Steps takes w (Ok h) new step
+is_taken_so takes w new step trace h taken said bounds = record { gives = record { trace = trace; taken = taken; told = said }; memory = by takes; bounds = bounds }
+  where
+    by : (t : Bool) → HasMemory t (Ok h)
+    by true = tt
+    by false = tt
+
+-- an event that changes nothing but what it counts
+pub only_ran : (takes : Bool) (w new : World) (trace : Trace) (h : Happenings) → IsBounded w → w.events < MAX_EVENTS → h ≡ trace.happened → new ≡ ran w → Steps takes w (Ok h) new (Ok (ran w, trace))
+only_ran takes w new trace h b room said is =
+    is_taken_so takes w new (Ok (ran w, trace)) trace h (λ i. Ok (sym is i, trace)) said
+    (subst IsBounded (sym is) (bounded_by w w.clock w.nodes w.flights b room (omega arith) refl refl))

@@ -1,0 +1,76 @@
+-- Another key is to seal.
+use Rattle.std.proofs.Common.{◌≡◌, ℕ, ◌<◌, ◌≤◌, Bool, true, length, Ok, Err, sym, ap, subst, ◌∙◌, if◌then◌else◌, arith}
+use Rattle.std.specs.Prelude.{◌==◌}
+use Rattle.node_rules.specs.declared.refusal.CoordinatorRefusal.TheVariants as orders
+use Rattle.node_rules.specs.Ciphers.{network}
+use Rattle.node_rules.specs.Coordinators as coordinators
+use Rattle.node_rules.specs.Memory.{Node}
+use Rattle.node_rules.specs.NodeSteps.{acts}
+use Rattle.line_rules.specs.declared.event.Answer.TheVariants as said
+use Rattle.line_rules.specs.Answers.{ordered_word}
+use Rattle.line_rules.specs.Steps.{activate, by_coordinator, happened}
+use Rattle.line_rules.specs.Worlds.{World}
+use Rattle.line_world.specs.Lines.{world_of}
+use Rattle.line_world.proofs.Taking.{IsThere, setup_fault, node_fault, steps_as, unbegun, begun, is_there, no_node, node_acted, node_answered, not_there}
+use Rattle.line_world.proofs.Orders.{Runs, about_node, first_there, is_some_meter, of_found, reserved, still_runs, told_with}
+use Rattle.line_world.proofs.line.Line.activate.Goals as goal
+
+pub returns-then-not-has_begun : goal.returns-then-not-has_begun
+unfolding activate
+returns-then-not-has_begun c = setup_fault _ _ _ c.requires.bounds (unbegun (world_of c.args.self.now) _ c.if-not-has_begun.ensures)
+
+pub returns-in_default : goal.returns-in_default
+unfolding activate
+returns-in_default c =
+    let w = world_of c.args.self.now in
+    node_fault _ _ _ c.requires.bounds (begun w _ c.if-not-has_begun.ensures ∙ no_node w c.args.node _ (not_there c.args.node _ c.in_default.ensures))
+
+-- at the coordinator itself
+activates_self : {w : World} {number found : ℕ} (r : Runs w) (there : IsThere w number found) (index : ℕ) → found ≡ 0
+    → activate network w number index ≡ Ok (by_coordinator network w (first_there w r.begun).node said.Activated (λ k. coordinators.activate_self k index))
+unfolding activate
+activates_self {w} {number} r there index zero =
+    let c = (first_there w r.begun).node in
+    let is : (number == 0) ≡ true = ap (λ (n : ℕ). n == 0) (sym there.same ∙ zero) in
+    about_node r there _ ∙ ap (λ (b : Bool). Ok (if b then by_coordinator network w c said.Activated (λ k. coordinators.activate_self k index)
+    else by_coordinator network w c said.Ordered (λ k. coordinators.activate k there.node.eui index w.clock))) is
+
+-- at a meter, by an order
+activates_meter : {w : World} {number found : ℕ} (r : Runs w) (there : IsThere w number found) (index : ℕ) → 1 ≤ found
+    → activate network w number index ≡ Ok (by_coordinator network w (first_there w r.begun).node said.Ordered (λ k. coordinators.activate k there.node.eui index w.clock))
+unfolding activate
+activates_meter {w} {number} r there index some =
+    let c = (first_there w r.begun).node in
+    about_node r there _ ∙ ap (λ (b : Bool). Ok (if b then by_coordinator network w c said.Activated (λ k. coordinators.activate_self k index)
+    else by_coordinator network w c said.Ordered (λ k. coordinators.activate k there.node.eui index w.clock))) (is_some_meter there some)
+
+pub returns-then-number-eq0 : goal.returns-then-number-eq0
+returns-then-number-eq0 c =
+    let w = world_of c.args.self.now in
+    let r : Runs w = record { begun = c.if-not-has_begun.ensures; bounds = c.requires.bounds; room = c.requires.events } in
+    let there = is_there w c.args.node c.in-Some.number c.in-Some.ensures in
+    steps_as _ _ (activates_self r there c.args.index c.if-number-eq0.true)
+    (node_answered true w _ (first_there w r.begun) (λ x. acts x (Err orders.Halted) (λ k. coordinators.activate_self k c.args.index)) (ordered_word said.Activated) _ _ _
+    r.bounds r.room c.activate_self-done.ensures (c.answered.ensures.told ∙ ap (λ a. happened w a) c.ordered_word.ensures) (ap world_of c.answered.ensures.line))
+
+pub eui-eui-requires-clause-there : goal.eui-eui-requires-clause-there
+eui-eui-requires-clause-there c =
+    let there = is_there (world_of c.args.self.now) c.args.node c.in-Some.number c.in-Some.ensures in
+    subst (λ (it : World). c.in-Some.number < length it.nodes) (sym c.reserve.ensures.world) there.within
+
+pub returns : goal.returns
+returns c =
+    let w = world_of c.args.self.now in
+    let kept = world_of c.reserve.new.self in
+    let same : kept ≡ w = c.reserve.ensures.world in
+    let r : Runs kept = still_runs same (record { begun = c.if-not-has_begun.ensures; bounds = c.requires.bounds; room = c.requires.events }) in
+    let there : IsThere kept c.args.node c.in-Some.number =
+    subst (λ (it : World). IsThere it c.args.node c.in-Some.number) (sym same) (is_there w c.args.node c.in-Some.number c.in-Some.ensures) in
+    let some : 1 ≤ c.in-Some.number = omega (arith, c.if-number-eq0.false) in
+    let eui = of_found there (λ (x : Node). c.eui-eui.result ≡ x.eui) c.eui-eui.ensures in
+    let first = first_there kept r.begun in
+    reserved kept w (λ it. activate network it c.args.node c.args.index) same
+    (steps_as _ _ (activates_meter r there c.args.index some
+    ∙ ap (λ e. Ok (by_coordinator network kept first.node said.Ordered (λ k. coordinators.activate k e c.args.index kept.clock))) (sym eui))
+    (node_acted true kept _ first (λ x. acts x (Err orders.Halted) (λ k. coordinators.activate k c.eui-eui.result c.args.index kept.clock)) (ordered_word said.Ordered) _ _ _ _
+    r.bounds r.room c.acted.ensures.frames c.acted.ensures.tags c.activate-done.ensures (told_with kept _ _ _ _ c.acted.ensures.told c.ordered_word-2.ensures) c.acted.ensures.world))

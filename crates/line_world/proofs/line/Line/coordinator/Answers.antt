@@ -1,0 +1,18 @@
+-- The coordinator is made.
+use Rattle.std.proofs.Common.{ap, ◌∙◌}
+use Rattle.line_rules.specs.declared.event.Answer.TheVariants as said
+use Rattle.line_rules.specs.Steps.{happened}
+use Rattle.line_world.specs.declared.line.Line.{Line}
+use Rattle.line_world.specs.Lines.{world_of}
+use Rattle.line_world.proofs.Taking.{setup_fault}
+use Rattle.line_world.proofs.Settings.{had_begun, first_made, went_well}
+use Rattle.line_world.proofs.line.Line.coordinator.Goals as goal
+
+pub returns-then-has_begun : goal.returns-then-has_begun
+returns-then-has_begun c = setup_fault _ _ _ c.requires.bounds (had_begun (world_of c.args.self.now) _ _ c.if-has_begun.ensures)
+
+pub returns : goal.returns
+returns c =
+    let w = world_of c.args.self.now in
+    first_made w _ c.args.eui c.args.key.now _ _ c.requires.bounds c.requires.events c.if-has_begun.ensures
+    (went_well _ c.make_coordinator.ensures.ok c.if-is_err.ensures.value) (c.happened.ensures ∙ ap (λ (l : Line). happened (world_of l) said.Made) c.set_up.ensures) (ap world_of c.set_up.ensures)

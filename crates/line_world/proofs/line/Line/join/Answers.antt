@@ -1,0 +1,116 @@
+-- A meter begins to join.
+use Rattle.std.proofs.Common.{◌≡◌, true, ℕ, ◌<◌, length, Some, None, Option, Ok, Err, sym, ap, subst, ◌∙◌}
+use Rattle.std.specs.Prelude.{IfSome}
+use Rattle.plc_base.specs.declared.key.Key.{Key}
+use Rattle.node_rules.specs.declared.refusal.JoinRefusal.TheVariants as joins
+use Rattle.node_rules.specs.Ciphers.{network}
+use Rattle.node_rules.specs.Memory.{Node, node_address}
+use Rattle.node_rules.specs.Meters as meters
+use Rattle.node_rules.specs.NodeSteps.{acts, answering}
+use Rattle.line_nodes.specs.Doings.{Did}
+use Rattle.line_rules.specs.declared.event.Answer.TheVariants as said
+use Rattle.line_rules.specs.Answers.{join_word}
+use Rattle.line_rules.specs.Steps.{acted, identity, join, joins_by, on_node, psk_of}
+use Rattle.line_rules.specs.Worlds.{World}
+use Rattle.line_world.specs.Lines.{world_of}
+use Rattle.line_world.proofs.Taking.{IsThere, setup_fault, node_fault, steps_as, unbegun, begun, no_node, at_node, not_there, is_there, node_acted}
+use Rattle.line_world.proofs.Orders.{IsMeter, Runs, as_found, at_meter, is_meter, no_meter, of_found, only_said, reserved, told_with, within_line}
+use Rattle.line_world.proofs.line.Line.join.Goals as goal
+
+pub returns-then-not-has_begun : goal.returns-then-not-has_begun
+unfolding join
+returns-then-not-has_begun c = setup_fault _ _ _ c.requires.bounds (unbegun (world_of c.args.self.now) _ c.if-not-has_begun.ensures)
+
+pub returns-in_default : goal.returns-in_default
+unfolding join
+returns-in_default c =
+    let w = world_of c.args.self.now in
+    node_fault _ _ _ c.requires.bounds (begun w _ c.if-not-has_begun.ensures ∙ no_meter w c.args.node _ c.in_default.ensures)
+
+pub returns-in_default-node : goal.returns-in_default-node
+unfolding join
+returns-in_default-node c =
+    let w = world_of c.args.self.now in
+    let m = is_meter w c.args.node c.in-Some.number c.in-Some.ensures in
+    node_fault _ _ _ c.requires.bounds (begun w _ c.if-not-has_begun.ensures ∙ at_meter m _ ∙ no_node w c.args.agent _ (not_there c.args.agent _ c.in_default-node.ensures))
+
+pub address-requires : goal.address-requires
+address-requires c = record { there = (is_there (world_of c.args.self.now) c.args.agent c.in-Some-node.agent c.in-Some-node.ensures).within }
+
+-- the rule, where there are the meter and the agent
+joins_at : {w : World} {number found agent by : ℕ} (r : Runs w) (m : IsMeter w number found) (there : IsThere w agent by)
+    → join network w number agent ≡ Ok (joins_by network w number m.there.node (node_address there.node) (psk_of m.there.node))
+unfolding join
+joins_at {w} {number} {found} {agent} r m there =
+    begun w _ r.begun ∙ at_meter m (λ x. on_node w agent (λ y. Ok (joins_by network w number x (node_address y) (psk_of x))))
+    ∙ at_node w agent there.node (λ y. Ok (joins_by network w number m.there.node (node_address y) (psk_of m.there.node))) there.at
+
+pub returns-in_default-address : goal.returns-in_default-address
+returns-in_default-address c =
+    let w = world_of c.args.self.now in
+    let r : Runs w = record { begun = c.if-not-has_begun.ensures; bounds = c.requires.bounds; room = c.requires.events } in
+    let m = is_meter w c.args.node c.in-Some.number c.in-Some.ensures in
+    let there = is_there w c.args.agent c.in-Some-node.agent c.in-Some-node.ensures in
+    let none = of_found there (λ (y : Node). ◌≡◌ {A = Option ℕ} None (node_address y)) c.in_default-address.ensures in
+    steps_as _ _ (joins_at r m there ∙ ap (λ (o : Option ℕ). Ok (joins_by network w c.args.node m.there.node o (psk_of m.there.node))) (sym none))
+    (only_said true w _ said.NoAddress _ r.bounds r.room c.answered.ensures.told (ap world_of c.answered.ensures.line))
+
+pub psk-psk-requires-clause-there : goal.psk-psk-requires-clause-there
+psk-psk-requires-clause-there c = (is_meter (world_of c.args.self.now) c.args.node c.in-Some.number c.in-Some.ensures).there.within
+
+pub join-asked-requires-clause-there : goal.join-asked-requires-clause-there
+join-asked-requires-clause-there c =
+    let there = (is_meter (world_of c.args.self.now) c.args.node c.in-Some.number c.in-Some.ensures).there in
+    subst (λ (it : World). c.in-Some.number < length it.nodes) (sym c.reserve.ensures.world) there.within
+
+pub acted-requires-clause-node : goal.acted-requires-clause-node
+acted-requires-clause-node c = within_line c.requires.bounds (is_meter (world_of c.args.self.now) c.args.node c.in-Some.number c.in-Some.ensures).there
+
+-- What the tests of a joining have found: the meter with its pair key, and the agent with its address.
+record Found (w : World) (number found agent by address : ℕ) (psk : Key) : Type 0 where
+  runs : Runs w
+  meter : IsMeter w number found
+  key : psk_of meter.there.node ≡ Some psk
+  there : IsThere w agent by
+  at : node_address there.node ≡ Some address
+
+joins_is : {w : World} {number found agent by address : ℕ} {psk : Key} (f : Found w number found agent by address psk)
+    → join network w number agent ≡ Ok (acted network w number (answering join_word
+    (acts f.meter.there.node (Err joins.Halted) (λ k. meters.join (identity network f.meter.there.node psk) k address w.clock))))
+joins_is {w} {number} f =
+    let at = f.at in
+    let key = f.key in
+    joins_at f.runs f.meter f.there ∙ (λ i. Ok (joins_by network w number f.meter.there.node (at i) (key i)))
+
+pub returns : goal.returns
+returns c =
+    let w = world_of c.args.self.now in
+    let kept = world_of c.reserve.new.self in
+    let same : kept ≡ w = c.reserve.ensures.world in
+    let psk = c.psk-psk.result in
+    let address = c.in-Some-address.address in
+    let meter = is_meter w c.args.node c.in-Some.number c.in-Some.ensures in
+    let there = is_there w c.args.agent c.in-Some-node.agent c.in-Some-node.ensures in
+    let found : Found w c.args.node c.in-Some.number c.args.agent c.in-Some-node.agent address psk = record {
+      runs = record { begun = c.if-not-has_begun.ensures; bounds = c.requires.bounds; room = c.requires.events };
+      meter = meter;
+      key = of_found meter.there (λ (x : Node). psk_of x ≡ Some psk) c.psk-psk.ensures;
+      there = there;
+      at = sym (of_found there (λ (y : Node). ◌≡◌ {A = Option ℕ} (Some address) (node_address y)) c.in-Some-address.ensures);
+    } in
+    let f : Found kept c.args.node c.in-Some.number c.args.agent c.in-Some-node.agent address psk =
+    subst (λ (it : World). Found it c.args.node c.in-Some.number c.args.agent c.in-Some-node.agent address psk) (sym same) found in
+    let x = f.meter.there.node in
+    let out = c.join-asked.new.out in
+    let nodes = c.join-asked.new.self in
+    let asked = c.join-asked.result in
+    let did = of_found f.meter.there (λ (y : Node). IfSome (psk_of y) (λ key. Did (acts y (Err joins.Halted) (λ k. meters.join (identity network y key) k address kept.clock)) kept.nodes c.in-Some.number asked out nodes))
+    c.join-asked.ensures in
+    let by_key : Did (acts x (Err joins.Halted) (λ k. meters.join (identity network x psk) k address kept.clock)) kept.nodes c.in-Some.number asked out nodes =
+    subst (λ (o : Option Key). IfSome o (λ key. Did (acts x (Err joins.Halted) (λ k. meters.join (identity network x key) k address kept.clock)) kept.nodes c.in-Some.number asked out nodes)) f.key did in
+    reserved kept w (λ it. join network it c.args.node c.args.agent) same
+    (steps_as _ _ (joins_is f)
+    (node_acted true kept _ f.meter.there (λ y. acts y (Err joins.Halted) (λ k. meters.join (identity network y psk) k address kept.clock)) join_word asked out nodes _
+    f.runs.bounds f.runs.room c.acted.ensures.frames c.acted.ensures.tags
+    (as_found f.meter.there (λ (y : Node). Did (acts y (Err joins.Halted) (λ k. meters.join (identity network y psk) k address kept.clock)) kept.nodes c.in-Some.number asked out nodes) by_key)
+    (told_with kept _ _ _ _ c.acted.ensures.told c.join_word.ensures) c.acted.ensures.world))

@@ -1,0 +1,31 @@
+-- The clock goes on.
+use Rattle.std.proofs.Common.{◌≡◌, ℕ, ◌+◌, Ok, false, map, refl, sym, ap, subst, ◌∙◌, arith}
+use Rattle.line_rules.specs.declared.event.Answer.TheVariants as said
+use Rattle.line_rules.specs.Worlds.{World, Trace}
+use Rattle.line_rules.specs.Steps.{happened, ran, tick, ticked, trace_of}
+use Rattle.line_world.specs.Bounds.{IsBounded}
+use Rattle.line_world.specs.Lines.{world_of}
+use Rattle.line_world.proofs.Taking.{setup_fault, steps_as, unbegun, begun, is_taken_so, bounded_by, many_given}
+use Rattle.line_world.proofs.line.Line.tick.Goals as goal
+
+pub returns-then-not-has_begun : goal.returns-then-not-has_begun
+unfolding tick
+returns-then-not-has_begun c = setup_fault _ _ _ c.requires.bounds (unbegun (world_of c.args.self.now) _ c.if-not-has_begun.ensures)
+
+pub overflow_add-self : goal.overflow_add-self
+overflow_add-self c = omega (arith, c.requires.bounds.clock, c.requires.events, c.from.ensures, c.ranges.seconds)
+
+pub returns : goal.returns
+unfolding tick
+returns c =
+    let w = world_of c.args.self.now in
+    let trace : Trace = trace_of (happened w said.Ticked) in
+    let clock : ℕ = w.clock + c.args.seconds in
+    let nodes : c.tick.new.self ≡ map (ticked clock) w.nodes = c.tick.ensures ∙ ap (λ s. map (ticked (w.clock + s)) w.nodes) c.from.ensures in
+    let left : World = record (ran w) { clock = clock; nodes = map (ticked clock) w.nodes } in
+    let new : world_of c.answered.new.self ≡ left =
+    ap world_of c.answered.ensures.line ∙ (λ i. record (ran w) { clock = w.clock + c.from.ensures i; nodes = nodes i }) in
+    steps_as _ _ (begun w _ c.if-not-has_begun.ensures)
+    (is_taken_so false w _ (Ok (left, trace)) trace _ (λ i. Ok (sym new i, trace)) c.answered.ensures.told
+    (subst IsBounded (sym new)
+    (bounded_by w clock (map (ticked clock) w.nodes) w.flights c.requires.bounds c.requires.events (omega (arith, c.ranges.seconds)) (many_given (ticked clock) w.nodes) refl)))

@@ -1,0 +1,77 @@
+-- What becomes of octets that came to a node.
+use Rattle.std.specs.Prelude.{ℕ, Bool, true, ◌||◌, List, ◌++◌, length, map, Option, Some, None, is_some, Result, Ok, Err, if◌then◌else◌}
+use Rattle.std.specs.List.{list_any}
+use Rattle.std.specs.Option.{option_map}
+use Rattle.plc_base.specs.declared.address.Eui.{Eui}
+use Rattle.plc_base.specs.declared.out_frame.Out.{Out}
+use Rattle.node_rules.specs.declared.heard.Accepted.{Accepted}
+use Rattle.node_rules.specs.declared.heard.Path.{Path}
+use Rattle.node_rules.specs.declared.refusal.FrameRefusal.{FrameRefusal}
+use Rattle.node_rules.specs.Ciphers.{Ciphers}
+use Rattle.node_rules.specs.Memory.{Node}
+use Rattle.node_rules.specs.NodeSteps.{NodeStep}
+use Rattle.line_flights.specs.declared.flights.Origin.{Origin}
+use Rattle.line_nodes.specs.declared.reception.Reception as telling
+use Rattle.line_rules.specs.declared.happenings.Handed.{Handed}
+use Rattle.line_rules.specs.declared.happenings.Happenings.{Happenings}
+use Rattle.line_rules.specs.Answers.{frame_word, Reception}
+use Rattle.line_rules.specs.Worlds.{Flight, World, Trace, start, is_forged_tag}
+use Rattle.line_rules.specs.Steps.{flight_by, forged_by, happened, hears, note_by, number_if, number_of, ran, received, trace_of}
+
+-- a world after its setup: a node that looked at octets may have lost power
+abbrev pub in_run : World → World
+in_run w = record w { running = true }
+
+-- whether octets are forged that came on this path, and their note, by the flights alone
+abbrev pub forged_in : List Flight → List ℕ → Path → Bool
+forged_in flights octets path = forged_by (record start { flights = flights }) octets path
+
+abbrev pub note_in : List Flight → List ℕ → Path → ℕ
+note_in flights octets path = note_by (record start { flights = flights }) octets path
+
+-- a node has heard octets of this origin
+abbrev pub received_so : Ciphers → World → ℕ → Origin → NodeStep Reception → World × Trace
+received_so ciphers w number origin d =
+    received ciphers w number (origin.is_forged || list_any (is_forged_tag w.made) d.opened) d
+
+-- a node hears a frame that it accepted, of this origin
+abbrev pub hears_so : Ciphers → World → ℕ → Node → Accepted → Origin → ℕ → World × Trace
+hears_so ciphers w number x got origin cost =
+    received_so ciphers w number origin (hears ciphers x got cost origin.note w.clock)
+
+-- a node has looked at octets of this origin
+abbrev pub comes_so : Ciphers → World → ℕ → Node → Result Accepted FrameRefusal → Origin → ℕ → World × Trace
+comes_so ciphers w number x (Ok got) origin cost = hears_so ciphers w number x got origin cost
+comes_so ciphers w number x (Err reason) origin cost = (ran w, trace_of (happened w (frame_word reason)))
+
+-- a datagram that was handed up, by the octets in the buffer
+abbrev pub handed_in : ℕ → List ℕ → Option ℕ → Option Handed
+handed_in number datagram up = option_map (λ (note : ℕ). record { node = number; note = note; octets = datagram }) up
+
+-- the node, where it took a grant
+abbrev pub taker_in : ℕ → Bool → Option ℕ
+taker_in number took = if took then Some number else None
+
+-- the number of the meter whose joining is done
+abbrev pub done_in : World → Option Eui → Option ℕ
+done_in w done = option_map (λ (eui : Eui). number_of w eui) done
+
+-- what is left of a frame that a node heard, by what the node told and gave out
+abbrev pub left_of : World → ℕ → Out → Bool → telling.Reception → World
+left_of w number out forged told = record (ran w) {
+  flights = w.flights ++ map (flight_by number) out.frames;
+  made = w.made ++ out.tags.made;
+  ups = number_if (is_some told.up) w.ups;
+  forged = number_if forged w.forged;
+  done = number_if (is_some told.done) w.done;
+}
+
+-- what is said of it
+abbrev pub said_of : World → ℕ → Out → Bool → telling.Reception → List ℕ → Happenings
+said_of w number out forged told datagram = record (happened w told.answer) {
+  forged = forged;
+  up = handed_in number datagram told.up;
+  took = taker_in number told.took;
+  done = done_in w told.done;
+  flights = length out.frames;
+}

@@ -1,0 +1,285 @@
+//! Octets that come to a node, and flights that are lost.
+ghost use Rattle.std.specs.Prelude.{◌≡◌, ◌<◌, ◌≤◌, ◌||◌, true, false, length, is_some, slice_get, Ok, IfSome, IfOk};
+ghost use Rattle.std.specs.List.{list_any};
+ghost use Rattle.node_rules.specs.Ciphers.{network};
+ghost use Rattle.line_rules.specs.declared.event.TheConstants.{MAX_EVENTS};
+ghost use Rattle.line_rules.specs.Answers as words;
+ghost use Rattle.line_rules.specs.Steps as rules;
+ghost use Rattle.line_rules.specs.Worlds.{is_forged_tag};
+ghost use Rattle.line_nodes.specs.Receiving.{MayHear};
+ghost use Rattle.line_world.specs.Arrivals.{comes_so, done_in, forged_in, handed_in, hears_so, in_run, left_of, note_in, said_of, taker_in};
+ghost use Rattle.line_world.specs.Bounds.{IsBounded};
+ghost use Rattle.line_world.specs.Lines.{HasRoom, world_of};
+ghost use Rattle.line_world.specs.Steps.{Steps};
+
+use crate::line::Line;
+use crate::world::Space;
+use line_flights::{Flights, Origin};
+use line_nodes::Reception;
+use line_rules::{Answer, Handed, Happenings, StepFault};
+use node_rules::{Accepted, FrameRefusal, Path};
+use plc_base::{DatagramBuf, Eui, LinkCost, OctetRef};
+
+fn frame_word(reason: FrameRefusal) -> Answer
+    ensures { result ≡ words.frame_word reason }
+{
+    match reason {
+        FrameRefusal::Halted => Answer::Halted,
+        FrameRefusal::Malformed => Answer::Malformed,
+        FrameRefusal::NotForMe => Answer::NotForMe,
+        FrameRefusal::NoKey => Answer::NoKey,
+        FrameRefusal::BadTag => Answer::BadTag,
+        FrameRefusal::Replayed => Answer::Replayed,
+        FrameRefusal::PeersFull => Answer::PeersFull,
+        FrameRefusal::Store => Answer::Store,
+    }
+}
+
+// Where octets come from that a node accepted: only a sealed frame can be forged, and only it carries a datagram.
+fn origin_by(flights: &Flights, octets: &[u8], path: &Path) -> Origin
+    ensures forged { result.is_forged ≡ forged_in flights.now.flights octets.now path.now }
+    ensures note { result.note ≡ note_in flights.now.flights octets.now path.now }
+{
+    match path {
+        Path::Sealed { key, .. } => flights.origin(octets, key),
+        Path::Up { .. } => Origin {
+            is_forged: false,
+            note: 0,
+        },
+        Path::Down { .. } => Origin {
+            is_forged: false,
+            note: 0,
+        },
+    }
+}
+
+// Where the octets come from that a node looked at; of refused ones nothing is told.
+fn origin(flights: &Flights, octets: &[u8], accepted: &Result<Accepted, FrameRefusal>) -> Origin
+    ensures forged { IfOk accepted.now (λ got. result.is_forged ≡ forged_in flights.now.flights octets.now got.path) }
+    ensures note { IfOk accepted.now (λ got. result.note ≡ note_in flights.now.flights octets.now got.path) }
+{
+    match accepted {
+        Ok(got) => origin_by(flights, octets, &got.path),
+        Err(_) => Origin {
+            is_forged: false,
+            note: 0,
+        },
+    }
+}
+
+// A datagram that was handed up, for the report.
+fn handed<'a>(node: usize, up: Option<u32>, datagram: &'a DatagramBuf) -> Option<Handed<'a>>
+    requires node { node < 1000 }
+    ensures { result ≡ handed_in node datagram.now up }
+{
+    let note = up?;
+    Some(Handed {
+        node: node as u16,
+        note,
+        octets: OctetRef::new(datagram.octets()),
+    })
+}
+
+// The node, where it took a grant.
+fn taker(node: usize, took: bool) -> Option<u16>
+    requires node { node < 1000 }
+    ensures { result ≡ taker_in node took }
+{
+    if took {
+        return Some(node as u16);
+    }
+    None
+}
+
+impl Line {
+    // The number of the meter whose joining is done.
+    fn number_done(&self, done: Option<Eui>) -> Option<u16>
+        requires nodes { length self.now.nodes ≤ 1000 }
+        ensures { result ≡ done_in (world_of self.now) done }
+    {
+        let eui = done?;
+        let number = self.nodes.position(eui).unwrap_or(0);
+        Some(number as u16)
+    }
+
+    // Whether the octets are forged, or a tag that the node found right was made by nobody.
+    fn is_forged(&self, origin: Origin) -> bool
+        ensures { result ≡ (origin.is_forged || list_any (is_forged_tag self.now.made.tags) self.now.out.tags.opened) }
+    {
+        if origin.is_forged {
+            return true;
+        }
+        self.made.has_forged(self.out.tags.opened.tags())
+    }
+
+    // Counts what came of a frame.
+    fn count(&mut self, told: &Reception, forged: bool)
+        requires ups { self.old.ups < MAX_EVENTS }
+        requires forged { self.old.forged < MAX_EVENTS }
+        requires done { self.old.done < MAX_EVENTS }
+        ensures { self.new ≡ record self.old {
+          ups = rules.number_if (is_some told.now.up) self.old.ups;
+          forged = rules.number_if forged self.old.forged;
+          done = rules.number_if (is_some told.now.done) self.old.done;
+        } }
+    {
+        self.ups += u32::from(told.up.is_some());
+        self.forged += u32::from(forged);
+        self.done += u32::from(told.done.is_some());
+    }
+
+    // What a frame led to, for the world and for the report.
+    fn received<'a>(
+        &mut self,
+        node: usize,
+        forged: bool,
+        told: &Reception,
+        datagram: &'a DatagramBuf,
+    ) -> Happenings<'a>
+        requires room { HasRoom self.old }
+        requires node { node < 1000 }
+        requires bounds { IsBounded (in_run (world_of self.old)) }
+        requires events { self.old.events < MAX_EVENTS }
+        ensures world { world_of self.new ≡ left_of (world_of self.old) node self.old.out forged told.now }
+        ensures told { result ≡ said_of (world_of self.old) node self.old.out forged told.now datagram.now }
+        ensures frames { length self.old.out.frames ≤ 24 }
+        ensures tags { length self.old.out.tags.made ≤ 2 }
+    {
+        let done = self.number_done(told.done);
+        let happened = self.acted(node, told.answer);
+        self.count(told, forged);
+        Happenings {
+            answer: told.answer,
+            forged,
+            up: handed(node, told.up, datagram),
+            grant: None,
+            took: taker(node, told.took),
+            done,
+            shown: None,
+            first_flight: happened.first_flight,
+            flights: happened.flights,
+        }
+    }
+
+    // A node hears a frame that it accepted, under the note with which its octets were sent.
+    fn heard<'a>(
+        &mut self,
+        node: usize,
+        got: &Accepted,
+        origin: Origin,
+        cost: LinkCost,
+        space: &'a mut Space,
+    ) -> Happenings<'a>
+        requires room { HasRoom self.old }
+        requires there { node < length self.old.nodes }
+        requires accepted { IfSome (slice_get self.old.nodes node) (λ x. MayHear x got.now) }
+        requires bounds { IsBounded (in_run (world_of self.old)) }
+        requires events { self.old.events < MAX_EVENTS }
+        ensures { IfSome (slice_get self.old.nodes node) (λ x. Steps true (world_of self.old) (Ok result)
+            (world_of self.new) (Ok (hears_so network (world_of self.old) node x got.now origin cost))) }
+    {
+        let told = self.nodes.hear(
+            node,
+            got,
+            cost,
+            origin.note,
+            self.clock,
+            &mut space.datagram,
+            &mut self.out,
+        );
+        let forged = self.is_forged(origin);
+        self.received(node, forged, &told, &space.datagram)
+    }
+
+    // What becomes of octets that a node looked at: a refused frame leads to nothing.
+    fn arrived<'a>(
+        &mut self,
+        node: usize,
+        accepted: &Result<Accepted, FrameRefusal>,
+        origin: Origin,
+        cost: LinkCost,
+        space: &'a mut Space,
+    ) -> Happenings<'a>
+        requires room { HasRoom self.old }
+        requires there { node < length self.old.nodes }
+        requires accepted { IfOk accepted.now (λ got. IfSome (slice_get self.old.nodes node) (λ x. MayHear x got)) }
+        requires bounds { IsBounded (in_run (world_of self.old)) }
+        requires events { self.old.events < MAX_EVENTS }
+        ensures { IfSome (slice_get self.old.nodes node) (λ x. Steps true (world_of self.old) (Ok result)
+            (world_of self.new) (Ok (comes_so network (world_of self.old) node x accepted.now origin cost))) }
+    {
+        match accepted {
+            Ok(got) => self.heard(node, got, origin, cost, space),
+            Err(reason) => self.answered(frame_word(*reason)),
+        }
+    }
+
+    /// A flight comes to a node over a link of this cost.
+    pub(crate) fn deliver<'a>(
+        &mut self,
+        flight: u32,
+        node: u32,
+        cost: LinkCost,
+        space: &'a mut Space,
+    ) -> Result<Happenings<'a>, StepFault>
+        requires bounds { IsBounded (world_of self.old) }
+        requires events { self.old.events < MAX_EVENTS }
+        ensures { Steps true (world_of self.old) result (world_of self.new)
+            (rules.deliver network (world_of self.old) flight node cost) }
+    {
+        if !self.has_begun() {
+            return Err(StepFault::Setup);
+        }
+        let Some(number) = self.node(node) else {
+            return Err(StepFault::Node);
+        };
+        self.reserve()?;
+        let Some(octets) = self.flights.flying(flight) else {
+            return Err(StepFault::Flight);
+        };
+        let accepted = self.nodes.accept(number, octets);
+        let origin = origin(&self.flights, octets, &accepted);
+        Ok(self.arrived(number, &accepted, origin, cost, space))
+    }
+
+    /// Octets of the script come to a node over a link of this cost.
+    pub(crate) fn inject<'a>(
+        &mut self,
+        node: u32,
+        cost: LinkCost,
+        octets: &[u8],
+        space: &'a mut Space,
+    ) -> Result<Happenings<'a>, StepFault>
+        requires bounds { IsBounded (world_of self.old) }
+        requires events { self.old.events < MAX_EVENTS }
+        ensures { Steps true (world_of self.old) result (world_of self.new)
+            (rules.inject network (world_of self.old) node cost octets.now) }
+    {
+        if !self.has_begun() {
+            return Err(StepFault::Setup);
+        }
+        let Some(number) = self.node(node) else {
+            return Err(StepFault::Node);
+        };
+        self.reserve()?;
+        let accepted = self.nodes.accept(number, octets);
+        let origin = origin(&self.flights, octets, &accepted);
+        Ok(self.arrived(number, &accepted, origin, cost, space))
+    }
+
+    /// A flight is lost.
+    pub(crate) fn lose(&mut self, flight: u32) -> Result<Happenings<'static>, StepFault>
+        requires bounds { IsBounded (world_of self.old) }
+        requires events { self.old.events < MAX_EVENTS }
+        ensures { Steps false (world_of self.old) result (world_of self.new)
+            (rules.lose (world_of self.old) flight) }
+    {
+        if !self.has_begun() {
+            return Err(StepFault::Setup);
+        }
+        if !self.flights.lose(flight) {
+            return Err(StepFault::Flight);
+        }
+        Ok(self.answered(Answer::Lost))
+    }
+}

@@ -1,0 +1,153 @@
+//! What is said of an event, and what a node's doing leaves of the world.
+ghost use Rattle.std.specs.Prelude.{◌≡◌, ◌+◌, ◌++◌, ◌<◌, ◌≤◌, ◌&&◌, not, true, length, map, Ok, OnOk, OnErr, nat_lt};
+ghost use Rattle.std.specs.Option.{option_map};
+ghost use Rattle.line_rules.specs.declared.event.TheConstants.{MAX_EVENTS};
+ghost use Rattle.line_rules.specs.declared.event.StepFault.TheVariants as faults;
+ghost use Rattle.line_rules.specs.Steps as rules;
+ghost use Rattle.line_rules.specs.Worlds.{node_at};
+ghost use Rattle.line_world.specs.Bounds.{IsBounded};
+ghost use Rattle.line_world.specs.Lines.{HasRoom, world_of};
+
+use crate::line::Line;
+use line_rules::{Answer, Happenings, StepFault};
+
+/// The most frames that a node sends at one event.
+const MAX_FRAMES: usize = 24;
+
+/// The most octets that they have together.
+const MAX_OCTETS: usize = 24 * 400;
+
+/// The most pair tags that a node makes at one event.
+const MAX_TAGS: usize = 2;
+
+impl Line {
+    /// Nothing but an answer.
+    pub(crate) fn happened(&self, answer: Answer) -> Happenings<'static>
+        requires flights { length self.now.flights.flights < 4294967295 }
+        ensures { result ≡ rules.happened (world_of self.now) answer }
+    {
+        Happenings {
+            answer,
+            forged: false,
+            up: None,
+            grant: None,
+            took: None,
+            done: None,
+            shown: None,
+            first_flight: self.flights.len() as u32 + 1,
+            flights: 0,
+        }
+    }
+
+    /// Counts an event of a setup kind that was taken.
+    pub(crate) fn set_up(&mut self)
+        requires events { self.old.events < MAX_EVENTS }
+        ensures { self.new ≡ record self.old { events = self.old.events + 1 } }
+    {
+        self.events += 1;
+    }
+
+    /// Counts an event of another kind than setup that was taken.
+    pub(crate) fn ran(&mut self)
+        requires events { self.old.events < MAX_EVENTS }
+        ensures { self.new ≡ record self.old { events = self.old.events + 1; running = true } }
+    {
+        self.events += 1;
+        self.running = true;
+    }
+
+    /// Counts an event that changed nothing else, or nothing but nodes and the clock.
+    pub(crate) fn answered(&mut self, answer: Answer) -> Happenings<'static>
+        requires events { self.old.events < MAX_EVENTS }
+        requires flights { length self.old.flights.flights < 4294967295 }
+        ensures line { self.new ≡ record self.old { events = self.old.events + 1; running = true } }
+        ensures told { result ≡ rules.happened (world_of self.old) answer }
+    {
+        self.ran();
+        self.happened(answer)
+    }
+
+    /// Reserves the memory for what an event may add to flights and tags. Nothing changes of the world.
+    pub(crate) fn reserve(&mut self) -> Result<(), StepFault>
+        ensures world { world_of self.new ≡ world_of self.old }
+        ensures ok { OnOk result (HasRoom self.new) }
+        ensures err { OnErr result (result ≡ Err faults.Memory) }
+    {
+        if self.flights.reserve(MAX_FRAMES, MAX_OCTETS).is_err() {
+            return Err(StepFault::Memory);
+        }
+        if self.made.reserve(MAX_TAGS).is_err() {
+            return Err(StepFault::Memory);
+        }
+        Ok(())
+    }
+
+    /// The frames that a node gave out fly, and its pair tags are made. Answers how many frames there are.
+    pub(crate) fn tell(&mut self, node: usize) -> u8
+        requires room { HasRoom self.old }
+        requires node { node < 1000 }
+        requires flights { length self.old.flights.flights + 24 ≤ 4294967295 }
+        requires made { length self.old.made.tags + 2 ≤ 4294967295 }
+        ensures world { world_of self.new ≡ record (world_of self.old) {
+          flights = self.old.flights.flights ++ map (rules.flight_by node) self.old.out.frames;
+          made = self.old.made.tags ++ self.old.out.tags.made;
+        } }
+        ensures count { result ≡ length self.old.out.frames }
+        ensures frames { length self.old.out.frames ≤ 24 }
+        ensures tags { length self.old.out.tags.made ≤ 2 }
+    {
+        let flights = self.out.frames.len() as u8;
+        let _tags = self.out.tags.made.len();
+        self.flights.send_off(node as u16, self.out.frames.frames());
+        self.made.note(self.out.tags.made.tags());
+        flights
+    }
+
+    /// What a node did is told to the world and to the report.
+    pub(crate) fn acted(&mut self, node: usize, answer: Answer) -> Happenings<'static>
+        requires room { HasRoom self.old }
+        requires node { node < 1000 }
+        requires events { self.old.events < MAX_EVENTS }
+        requires flights { length self.old.flights.flights + 24 ≤ 4294967295 }
+        requires made { length self.old.made.tags + 2 ≤ 4294967295 }
+        ensures world { world_of self.new ≡ record (rules.ran (world_of self.old)) {
+          flights = self.old.flights.flights ++ map (rules.flight_by node) self.old.out.frames;
+          made = self.old.made.tags ++ self.old.out.tags.made;
+        } }
+        ensures told { result ≡ record (rules.happened (world_of self.old) answer) {
+          flights = length self.old.out.frames;
+        } }
+        ensures frames { length self.old.out.frames ≤ 24 }
+        ensures tags { length self.old.out.tags.made ≤ 2 }
+    {
+        let mut happened = self.answered(answer);
+        happened.flights = self.tell(node);
+        happened
+    }
+
+    /// Whether there is a coordinator.
+    pub(crate) fn has_begun(&self) -> bool
+        ensures { result ≡ rules.has_begun (world_of self.now) }
+    {
+        !self.nodes.is_empty()
+    }
+
+    /// Whether setup still lasts.
+    pub(crate) fn takes_setup(&self) -> bool
+        ensures { result ≡ rules.takes_setup (world_of self.now) }
+    {
+        self.has_begun() && !self.running
+    }
+
+    /// The node of a number, where there is one.
+    pub(crate) fn node(&self, number: u32) -> Option<usize>
+        ensures { result ≡ option_map (λ _. number) (node_at (world_of self.now) number) }
+    {
+        let number = number as usize;
+        if number < self.nodes.len() {
+            Some(number)
+        } else {
+            None
+        }
+    }
+}

@@ -1,0 +1,168 @@
+//! Meters that are let in, join and leave, and the random values of nodes.
+ghost use Rattle.std.specs.Prelude.{◌≡◌, ◌==◌, ◌<◌, ◌≤◌, true, false, if◌then◌else◌, None};
+ghost use Rattle.std.specs.Option.{option_map};
+ghost use Rattle.node_rules.specs.Calls as calls;
+ghost use Rattle.node_rules.specs.Ciphers.{network};
+ghost use Rattle.line_rules.specs.declared.event.TheConstants.{MAX_EVENTS};
+ghost use Rattle.line_rules.specs.Answers as words;
+ghost use Rattle.line_rules.specs.Steps as rules;
+ghost use Rattle.line_rules.specs.Worlds.{node_at};
+ghost use Rattle.line_world.specs.Bounds.{IsBounded};
+ghost use Rattle.line_world.specs.Lines.{world_of};
+ghost use Rattle.line_world.specs.Steps.{Steps};
+
+use crate::line::Line;
+use line_rules::{Admission, Answer, Happenings, StepFault};
+use node_rules::{CoordinatorRefusal, JoinRefusal, LeaveRefusal, RandomFault};
+use plc_base::Rand;
+
+/// The word of an order that was refused.
+pub(crate) fn order_word(reason: CoordinatorRefusal) -> Answer
+    ensures { result ≡ words.order_word reason }
+{
+    match reason {
+        CoordinatorRefusal::Halted => Answer::Halted,
+        CoordinatorRefusal::MetersFull => Answer::MetersFull,
+        CoordinatorRefusal::NotAllowed => Answer::NotAllowed,
+        CoordinatorRefusal::IndexActive => Answer::IndexActive,
+        CoordinatorRefusal::NotHeld => Answer::NotHeld,
+        CoordinatorRefusal::NotIssued => Answer::NotIssued,
+        CoordinatorRefusal::SessionsFull => Answer::SessionsFull,
+        CoordinatorRefusal::NoRandom => Answer::NoRandom,
+        CoordinatorRefusal::WaitingFull => Answer::WaitingFull,
+        CoordinatorRefusal::SeqSpent => Answer::SeqSpent,
+        CoordinatorRefusal::CounterSpent => Answer::CounterSpent,
+        CoordinatorRefusal::Store => Answer::Store,
+    }
+}
+
+fn random_word(given: Result<(), RandomFault>) -> Answer
+    ensures { result ≡ words.random_word given }
+{
+    match given {
+        Ok(()) => Answer::Given,
+        Err(RandomFault::Halted) => Answer::Halted,
+        Err(RandomFault::RandomsFull) => Answer::RandomsFull,
+    }
+}
+
+fn join_word(asked: Result<(), JoinRefusal>) -> Answer
+    ensures { result ≡ words.join_word asked }
+{
+    match asked {
+        Ok(()) => Answer::Asked,
+        Err(JoinRefusal::Halted) => Answer::Halted,
+        Err(JoinRefusal::AlreadyJoined) => Answer::AlreadyJoined,
+    }
+}
+
+fn leave_word(left: Result<(), LeaveRefusal>) -> Answer
+    ensures { result ≡ words.leave_word left }
+{
+    match left {
+        Ok(()) => Answer::Left,
+        Err(LeaveRefusal::Halted) => Answer::Halted,
+        Err(LeaveRefusal::NotJoined) => Answer::NotJoined,
+        Err(LeaveRefusal::Store) => Answer::Store,
+    }
+}
+
+impl Line {
+    /// The number of a meter that is there. Node 0 is none.
+    pub(crate) fn meter_number(&self, node: u32) -> Option<usize>
+        ensures { result ≡ (if node == 0 then None
+            else option_map (λ _. node) (node_at (world_of self.now) node)) }
+    {
+        if node == 0 {
+            return None;
+        }
+        self.node(node)
+    }
+
+    /// The coordinator allows a meter.
+    pub(crate) fn allow(&mut self, node: u32) -> Result<Happenings<'static>, StepFault>
+        requires bounds { IsBounded (world_of self.old) }
+        requires events { self.old.events < MAX_EVENTS }
+        ensures { Steps false (world_of self.old) result (world_of self.new)
+            (rules.allow network (world_of self.old) node) }
+    {
+        if !self.has_begun() {
+            return Err(StepFault::Setup);
+        }
+        let Some(number) = self.meter_number(node) else {
+            return Err(StepFault::Node);
+        };
+        let (eui, psk) = (self.nodes.eui(number), self.nodes.psk(number));
+        match self.nodes.allow(eui, &psk) {
+            Ok(address) => {
+                let mut happened = self.answered(Answer::Allowed);
+                happened.grant = Some(Admission {
+                    node: number as u16,
+                    address,
+                });
+                Ok(happened)
+            }
+            Err(reason) => Ok(self.answered(order_word(reason))),
+        }
+    }
+
+    /// Gives a node a random value.
+    pub(crate) fn rand(&mut self, node: u32, value: Rand) -> Result<Happenings<'static>, StepFault>
+        requires bounds { IsBounded (world_of self.old) }
+        requires events { self.old.events < MAX_EVENTS }
+        ensures { Steps false (world_of self.old) result (world_of self.new)
+            (rules.rand network (world_of self.old) node value) }
+    {
+        if !self.has_begun() {
+            return Err(StepFault::Setup);
+        }
+        let Some(number) = self.node(node) else {
+            return Err(StepFault::Node);
+        };
+        let given = self.nodes.give_random(number, value);
+        Ok(self.answered(random_word(given)))
+    }
+
+    /// A meter begins to join by an agent.
+    pub(crate) fn join(&mut self, node: u32, agent: u32) -> Result<Happenings<'static>, StepFault>
+        requires bounds { IsBounded (world_of self.old) }
+        requires events { self.old.events < MAX_EVENTS }
+        ensures { Steps true (world_of self.old) result (world_of self.new)
+            (rules.join network (world_of self.old) node agent) }
+    {
+        if !self.has_begun() {
+            return Err(StepFault::Setup);
+        }
+        let Some(number) = self.meter_number(node) else {
+            return Err(StepFault::Node);
+        };
+        let Some(agent) = self.node(agent) else {
+            return Err(StepFault::Node);
+        };
+        let Some(address) = self.nodes.address(agent) else {
+            return Ok(self.answered(Answer::NoAddress));
+        };
+        // Each meter has one: a proof takes that from the call.
+        let _psk = self.nodes.psk(number);
+        self.reserve()?;
+        let asked = self.nodes.join(number, address, self.clock, &mut self.out);
+        Ok(self.acted(number, join_word(asked)))
+    }
+
+    /// A meter leaves.
+    pub(crate) fn leave(&mut self, node: u32) -> Result<Happenings<'static>, StepFault>
+        requires bounds { IsBounded (world_of self.old) }
+        requires events { self.old.events < MAX_EVENTS }
+        ensures { Steps false (world_of self.old) result (world_of self.new)
+            (rules.leave network (world_of self.old) node) }
+    {
+        if !self.has_begun() {
+            return Err(StepFault::Setup);
+        }
+        let Some(number) = self.meter_number(node) else {
+            return Err(StepFault::Node);
+        };
+        let left = self.nodes.leave(number);
+        Ok(self.answered(leave_word(left)))
+    }
+}

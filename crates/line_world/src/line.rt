@@ -1,0 +1,27 @@
+//! A line as the program holds it: its world, the memory that is reserved for what flies, and where a node puts what it
+//! gives out.
+use line_flights::{Flights, MadeTags};
+use line_nodes::Nodes;
+use plc_base::Out;
+use std::alloc::Global;
+
+/// A line has at most so many nodes.
+pub(crate) const MAX_NODES: usize = 1000;
+
+/// The nodes of a line, and every frame that ever went out.
+#[derive(Drop)]
+pub(crate) struct Line {
+    pub(crate) alloc: Global,
+    pub(crate) clock: u64,
+    pub(crate) events: u32,
+    pub(crate) running: bool,
+    pub(crate) nodes: Nodes,
+    pub(crate) flights: Flights,
+    pub(crate) made: MadeTags,
+    pub(crate) sends: u32,
+    pub(crate) ups: u32,
+    pub(crate) forged: u32,
+    pub(crate) done: u32,
+    // What the node of the event gave out.
+    pub(crate) out: Out,
+}

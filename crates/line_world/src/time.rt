@@ -1,0 +1,104 @@
+//! Time, losses of power, restarts, and what a node shows.
+ghost use Rattle.std.specs.Prelude.{◌≡◌, ◌<◌, ◌≤◌, true, false};
+ghost use Rattle.node_rules.specs.Calls as calls;
+ghost use Rattle.node_rules.specs.Ciphers.{network};
+ghost use Rattle.line_rules.specs.declared.event.TheConstants.{MAX_EVENTS};
+ghost use Rattle.line_rules.specs.Answers as words;
+ghost use Rattle.line_rules.specs.Steps as rules;
+ghost use Rattle.line_world.specs.Bounds.{IsBounded};
+ghost use Rattle.line_world.specs.Lines.{world_of};
+ghost use Rattle.line_world.specs.Steps.{Steps};
+
+use crate::line::Line;
+use crate::world::Space;
+use line_rules::{Answer, Happenings, StepFault};
+use node_rules::ShownRef;
+
+impl Line {
+    /// The clock goes on by so many seconds, for every node.
+    pub(crate) fn tick(&mut self, seconds: u32) -> Result<Happenings<'static>, StepFault>
+        requires bounds { IsBounded (world_of self.old) }
+        requires events { self.old.events < MAX_EVENTS }
+        ensures { Steps false (world_of self.old) result (world_of self.new)
+            (rules.tick (world_of self.old) seconds) }
+    {
+        if !self.has_begun() {
+            return Err(StepFault::Setup);
+        }
+        self.clock += u64::from(seconds);
+        self.nodes.tick(self.clock);
+        Ok(self.answered(Answer::Ticked))
+    }
+
+    /// A node restarts.
+    pub(crate) fn restart(&mut self, node: u32) -> Result<Happenings<'static>, StepFault>
+        requires bounds { IsBounded (world_of self.old) }
+        requires events { self.old.events < MAX_EVENTS }
+        ensures { Steps false (world_of self.old) result (world_of self.new)
+            (rules.restart network (world_of self.old) node) }
+    {
+        if !self.has_begun() {
+            return Err(StepFault::Setup);
+        }
+        let Some(number) = self.node(node) else {
+            return Err(StepFault::Node);
+        };
+        let answer = self.nodes.restart(number);
+        Ok(self.answered(answer))
+    }
+
+    /// A node will lose power at its nth write from now on.
+    pub(crate) fn cut(
+        &mut self,
+        node: u32,
+        nth: u16,
+        keeps_new: bool,
+    ) -> Result<Happenings<'static>, StepFault>
+        requires bounds { IsBounded (world_of self.old) }
+        requires events { self.old.events < MAX_EVENTS }
+        requires nth { 1 ≤ nth }
+        ensures { Steps false (world_of self.old) result (world_of self.new)
+            (rules.cut network (world_of self.old) node nth keeps_new) }
+    {
+        if !self.has_begun() {
+            return Err(StepFault::Setup);
+        }
+        let Some(number) = self.node(node) else {
+            return Err(StepFault::Node);
+        };
+        self.nodes.cut(number, nth, keeps_new);
+        Ok(self.answered(Answer::Set))
+    }
+
+    /// A node shows what it holds.
+    pub(crate) fn show<'a>(
+        &mut self,
+        node: u32,
+        space: &'a mut Space,
+    ) -> Result<Happenings<'a>, StepFault>
+        requires bounds { IsBounded (world_of self.old) }
+        requires events { self.old.events < MAX_EVENTS }
+        ensures { Steps false (world_of self.old) result (world_of self.new)
+            (rules.show (world_of self.old) node) }
+    {
+        if !self.has_begun() {
+            return Err(StepFault::Setup);
+        }
+        let Some(number) = self.node(node) else {
+            return Err(StepFault::Node);
+        };
+        self.nodes.show(number, &mut space.shown);
+        let happened = self.answered(Answer::Shown);
+        Ok(Happenings {
+            answer: Answer::Shown,
+            forged: false,
+            up: None,
+            grant: None,
+            took: None,
+            done: None,
+            shown: Some(ShownRef::new(&space.shown)),
+            first_flight: happened.first_flight,
+            flights: 0,
+        })
+    }
+}
