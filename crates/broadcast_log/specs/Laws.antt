@@ -5,13 +5,15 @@ use Rattle.plc_base.specs.Keeper.{Records}
 use Rattle.plc_base.specs.Writes.{puts_of}
 use Rattle.plc_base.specs.SlotTables as slots
 use Rattle.plc_base.specs.LeadingPuts.{PutsLead}
+use Rattle.plc_base.specs.Numberings.{EachAbove}
+use Rattle.plc_base.specs.AdmittedNumbers.{Admitted, EachOnce}
 use Rattle.broadcast_log.specs.declared.broadcast.Broadcast.{Broadcast}
 use Rattle.broadcast_log.specs.Grammar.{Spells}
 use Rattle.broadcast_log.specs.Reading.{broadcast_in}
 use Rattle.broadcast_log.specs.NextNumber.{is_spent, number_put}
 use Rattle.broadcast_log.specs.OriginMarks.{marks, room_for, keep_write}
 use Rattle.broadcast_log.specs.Log.{Log, IsKept, numbered_log, admitted_log}
-use Rattle.broadcast_log.specs.Runs.{Admitted, Runs, EachOnce, EachAbove}
+use Rattle.broadcast_log.specs.Runs.{Runs}
 
 -- the broadcast that octets spell is read out of them
 abbrev pub BroadcastsAreRead : Type 0

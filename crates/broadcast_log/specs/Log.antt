@@ -5,10 +5,12 @@ use Rattle.std.specs.FinMap.{get}
 use Rattle.plc_base.specs.Keeper.{Records, Write}
 use Rattle.plc_base.specs.SlotTables as slots
 use Rattle.plc_base.specs.declared.keeper.BadStore.{BadStore}
+use Rattle.plc_base.specs.Numberings.{counting_code, counting_at}
+use Rattle.plc_base.specs.Marks.{table_code}
 use Rattle.broadcast_log.specs.declared.fault.LogFault.{LogFault}
 use Rattle.broadcast_log.specs.declared.fault.LogFault.TheVariants.{NumberSpent, Store, Old, OriginsFull}
-use Rattle.broadcast_log.specs.NextNumber.{Numbering, numbering_code, numbering_at, numbering_in, IsLimitKept, limit_in, limit_slot, number_put, numbered, is_spent}
-use Rattle.broadcast_log.specs.OriginMarks.{Marks, marks_code, marks, at_rest, AreMarksKept, room_for, keep_write, kept_after}
+use Rattle.broadcast_log.specs.NextNumber.{Numbering, numbering_in, IsLimitKept, limit_in, limit_slot, number_put, numbered, is_spent}
+use Rattle.broadcast_log.specs.OriginMarks.{Marks, marks, at_rest, AreMarksKept, room_for, keep_write, kept_after}
 
 -- The number of the next own broadcast, and the marks of the origins in the order of their slots.
 pub record Log : Type 0 where
@@ -18,7 +20,7 @@ pub record Log : Type 0 where
 -- a log is kept as the pair of its fields
 abbrev pub log_code : Coded Log
 log_code =
-    code_by (Numbering × Marks) (coded× numbering_code marks_code)
+    code_by (Numbering × Marks) (coded× counting_code (table_code 0x0300 32))
     (λ l. (l.numbering, l.marks)) (λ p. record { numbering = p.0; marks = p.1 }) (λ _. refl)
 
 -- What the log holds as stored is what the records give.
@@ -45,7 +47,7 @@ IsBad records slot =
 
 -- a log as a new start finds it: at its limit, each mark the stored one
 abbrev pub log_at_rest : Log → Log
-log_at_rest log = record { numbering = numbering_at log.numbering.limit; marks = map at_rest log.marks }
+log_at_rest log = record { numbering = counting_at log.numbering.limit; marks = map at_rest log.marks }
 
 -- a log that was kept is opened again, at rest
 abbrev pub Reopens : Records → Result Log BadStore → Type 0

@@ -1,75 +1,38 @@
--- The number of a node's next broadcast, and what giving it out does.
-use Rattle.std.specs.Prelude.{◌≡◌, ℕ, ◌+◌, ◌≤◌, min, Bool, ◌==◌, if◌then◌else◌, List, Option, Some, None, Result, Ok, Err, refl}
-use Rattle.std.specs.Coded.{Coded, code_by, coded×, coded_ℕ}
-use Rattle.std.specs.FinMap.{get}
+-- The number of a node's next broadcast, and what giving it out does: a numbering (`Numberings` of `plc_base`) whose limit
+-- stands at slot 6, 32 ahead.
+use Rattle.std.specs.Prelude.{ℕ, Bool, List, Option, Result}
 use Rattle.plc_base.specs.Keeper.{Records, Write}
-use Rattle.plc_base.specs.NumberSlots.{number_in, number_write}
-use Rattle.plc_base.specs.declared.number_slot.NumberSlot.{NumberSlot}
+use Rattle.plc_base.specs.Numberings as numbers
 use Rattle.plc_base.specs.declared.keeper.BadStore.{BadStore}
 
 -- The limit that is stored, which no number that was given out reaches, and the number that comes next.
-pub record Numbering : Type 0 where
-  pub limit : ℕ
-  pub next : ℕ
-
--- a numbering is kept as the pair of its fields
-abbrev pub numbering_code : Coded Numbering
-numbering_code =
-    code_by (ℕ × ℕ) (coded× coded_ℕ coded_ℕ)
-    (λ n. (n.limit, n.next)) (λ p. record { limit = p.0; next = p.1 }) (λ _. refl)
-
--- where the limit is stored: 4 octets at slot 6, 0 where none is there
-abbrev pub limit_at : NumberSlot
-limit_at = record { slot = 6; width = 4; first = 0; least = 0 }
+abbrev pub Numbering : Type 0
+Numbering = numbers.Counting
 
 -- the slot of the limit
 abbrev pub limit_slot : ℕ
-limit_slot = limit_at.slot
+limit_slot = 6
 
 -- the limit that the record of the slot gives: 0 where none is there, and no reading where it has not 4 octets
 abbrev pub limit_in : Option (List ℕ) → Option ℕ
-limit_in octets = number_in limit_at octets
-
--- a numbering that goes on at a limit
-abbrev pub numbering_at : ℕ → Numbering
-numbering_at limit = record { limit = limit; next = limit }
-
-abbrev pub numbering_from : Option ℕ → Result Numbering BadStore
-numbering_from None = Err (record { slot = limit_slot })
-numbering_from (Some limit) = Ok (numbering_at limit)
+limit_in octets = numbers.limit_in limit_slot octets
 
 -- the numbering that the records give
 abbrev pub numbering_in : Records → Result Numbering BadStore
-numbering_in records = numbering_from (limit_in (get records limit_slot))
+numbering_in records = numbers.opened limit_slot records
 
 -- The limit is what the records give.
-pub record IsLimitKept (numbering : Numbering) (records : Records) : Type 0 where
-  pub limit : limit_in (get records limit_slot) ≡ Some numbering.limit
-  pub below : numbering.next ≤ numbering.limit
+abbrev pub IsLimitKept : Numbering → Records → Type 0
+IsLimitKept numbering records = numbers.IsKept limit_slot numbering records
 
--- the put of a limit
-abbrev pub limit_write : ℕ → Option Write
-limit_write limit = Some (number_write limit_at limit)
-
--- the next limit
-abbrev pub raised : ℕ → ℕ
-raised limit = min (limit + 32) 4294967295
-
--- whether the next number equals the limit
-abbrev pub is_due : Numbering → Bool
-is_due numbering = numbering.next == numbering.limit
-
--- what is stored before the next number is given out
+-- what is stored before the next number is given out: a higher limit, where the number equals the limit
 abbrev pub number_put : Numbering → Option Write
-number_put numbering = if is_due numbering then limit_write (raised numbering.limit) else None
+number_put numbering = numbers.reserve_write limit_slot 32 numbering 1
 
 -- the numbering after the next number was given out
 abbrev pub numbered : Numbering → Numbering
-numbered numbering = record {
-  limit = if is_due numbering then raised numbering.limit else numbering.limit;
-  next = numbering.next + 1;
-}
+numbered numbering = numbers.reserved 32 numbering 1
 
 -- whether no number is left
 abbrev pub is_spent : Numbering → Bool
-is_spent numbering = numbering.next == 4294967295
+is_spent numbering = numbers.is_spent numbering

@@ -3,14 +3,10 @@ use Rattle.std.specs.Prelude.{◌≡◌, ◌≢◌, ℕ, ◌^◌, ◌<◌, true,
 use Rattle.std.specs.FinMap.{get}
 use Rattle.plc_base.specs.Keeper.{Records, Store, Stores}
 use Rattle.plc_base.specs.SlotTables.{IsGapless, slot_of}
+use Rattle.plc_base.specs.AdmittedNumbers.{Admitted}
 use Rattle.broadcast_log.specs.NextNumber.{limit_slot, is_spent, number_put}
 use Rattle.broadcast_log.specs.OriginMarks.{marks, room_for, keep_write}
 use Rattle.broadcast_log.specs.Log.{Log, opened, numbered_log, admitted_log}
-
--- A number that was admitted of an origin.
-pub record Admitted : Type 0 where
-  pub origin : ℕ
-  pub number : ℕ
 
 -- none of the log's records changed
 pub record LogSlotsStay (old new : Records) : Type 0 where
@@ -34,7 +30,7 @@ pub data Runs : List ℕ → List Admitted → Option Log → Records → Type 0
       → Runs given before (Some log) old.records
       → origin < 0xFFFE → number < 2 ^ 32 → room_for log.marks origin number ≡ Ok (tt {0})
       → Stores old (keep_write log.marks origin number) true new
-      → Runs given (record { origin = origin; number = number } ∷ before) (Some (admitted_log log origin number))
+      → Runs given (record { address = origin; number = number } ∷ before) (Some (admitted_log log origin number))
       new.records
   loses_mark : (given : List ℕ) (before : List Admitted) (log : Log) (origin number : ℕ) (old new : Store)
       → Runs given before (Some log) old.records
@@ -45,28 +41,3 @@ pub data Runs : List ℕ → List Admitted → Option Log → Records → Type 0
       → Runs given before was records → opened records ≡ Ok log → Runs given before (Some log) records
   elsewhere : (given : List ℕ) (before : List Admitted) (was : Option Log) (old new : Records)
       → Runs given before was old → LogSlotsStay old new → Runs given before was new
-
--- each of these is below a number
-abbrev pub AllBelow : ℕ → List ℕ → Type 0
-AllBelow bound [] = Unit {0}
-AllBelow bound (x ∷ xs) = (x < bound) × AllBelow bound xs
-
--- what was admitted of an origin is below a number
-abbrev pub AllEarlier : ℕ → ℕ → List Admitted → Type 0
-AllEarlier origin number [] = Unit {0}
-AllEarlier origin number (a ∷ before) = (a.origin ≡ origin → a.number < number) × AllEarlier origin number before
-
--- none of these is of this origin and this number
-abbrev pub IsNew : Admitted → List Admitted → Type 0
-IsNew a [] = Unit {0}
-IsNew a (b ∷ before) = (b ≢ a) × IsNew a before
-
--- no origin and number was admitted twice
-abbrev pub EachOnce : List Admitted → Type 0
-EachOnce [] = Unit {0}
-EachOnce (a ∷ before) = IsNew a before × EachOnce before
-
--- no number was given out twice: each is above all before it
-abbrev pub EachAbove : List ℕ → Type 0
-EachAbove [] = Unit {0}
-EachAbove (x ∷ given) = AllBelow x given × EachAbove given

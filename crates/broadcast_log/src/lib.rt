@@ -9,8 +9,6 @@ mod broadcast;
 mod fault;
 pub mod laws;
 mod log;
-mod numbering;
-mod origin_marks;
 mod reading;
 #[cfg(test)]
 mod tests;
@@ -18,7 +16,6 @@ mod writing;
 
 pub use broadcast::{Broadcast, BroadcastBuf};
 pub use fault::LogFault;
-pub use log::BroadcastLog;
-pub use origin_marks::OriginMark;
+pub use log::{BroadcastLog, OriginMark};
 pub use reading::read_broadcast;
 pub use writing::write_broadcast;

@@ -3,15 +3,18 @@ ghost use Rattle.std.specs.Prelude.{◌≡◌, ◌+◌, ◌≤◌, Ok, Some, Lis
 ghost use Rattle.std.specs.Bool.{OnTrue};
 ghost use Rattle.plc_base.specs.Keeper.{Stores, OutsideStays, IsOldOrNew};
 ghost use Rattle.plc_base.specs.SlotTables.{IsTable, IsGapless};
+ghost use Rattle.plc_base.specs.Numberings.{AllBelow};
+ghost use Rattle.plc_base.specs.AdmittedNumbers.{Admitted, AllEarlier};
 ghost use Rattle.broadcast_log.specs.OriginMarks.{marks, IsCovered, mark_of, room_for};
 ghost use Rattle.broadcast_log.specs.Log.{Log, IsKept, IsBad, Reopens, opened, next_result, next_write, next_after, numbered_log, admit_result, admit_write, admit_after, admitted_log, is_stored};
-ghost use Rattle.broadcast_log.specs.Runs.{Admitted, Runs, AllBelow, AllEarlier};
+ghost use Rattle.broadcast_log.specs.Runs.{Runs};
 
 use crate::LogFault;
-use crate::numbering::BroadcastNumber;
-use crate::origin_marks::{OriginMark, OriginMarks};
-use plc_base::{BadStore, Keeper, Short};
+use plc_base::{BadStore, Keeper, Mark, MarkTable, Numbering, Short};
 use std::marker::Model;
+
+/// One origin: the number that was last admitted of it, and the mark that is stored, which is no lower.
+pub type OriginMark = Mark<0x0300, 32>;
 
 /// Numbers the broadcasts that a node sends, and hands each broadcast of another node up at most once, over restarts and
 /// losses of power: what it has given out and admitted is stored ahead, at the slots 6 and 0300 to 031F (hexadecimal).
@@ -20,8 +23,8 @@ use std::marker::Model;
 /// log may not be used until it is opened again.
 #[derive(Drop, Debug)]
 pub struct BroadcastLog {
-    numbering: BroadcastNumber,
-    marks: OriginMarks,
+    numbering: Numbering<6, 32>,
+    marks: MarkTable<0x0300, 32>,
 }
 
 impl Model for BroadcastLog {
@@ -48,8 +51,8 @@ impl BroadcastLog {
         // A log that was kept is opened again, at its limit and with each mark the stored one.
         ensures reopened { Reopens (K.store keeper.now).records result }
     {
-        let numbering = BroadcastNumber::open(keeper)?;
-        let marks = OriginMarks::open(keeper)?;
+        let numbering = Numbering::open(keeper)?;
+        let marks = MarkTable::open(keeper)?;
         Ok(BroadcastLog { numbering, marks })
     }
 
@@ -97,7 +100,7 @@ impl BroadcastLog {
         if self.numbering.left() == 0 {
             return Err(LogFault::NumberSpent);
         }
-        let Ok(number) = self.numbering.give(keeper) else {
+        let Ok(number) = self.numbering.reserve(keeper, 1) else {
             return Err(LogFault::Store);
         };
         Ok(number)
@@ -110,7 +113,8 @@ impl BroadcastLog {
     pub fn room(&self, origin: Short, number: u32) -> Result<(), LogFault>
         ensures { result ≡ room_for self.now.marks origin number }
     {
-        self.marks.room(origin, number)
+        self.marks
+            .room(origin, number, LogFault::Old, LogFault::OriginsFull)
     }
 
     /// Admits a broadcast: `number` is then the mark of its origin. Where the origin is new or `number` is above its stored
@@ -137,7 +141,10 @@ impl BroadcastLog {
         ensures either { IsOldOrNew IsKept self.old (admitted_log self.old origin number) (K.store keeper.new).records }
         ensures elsewhere { OutsideStays 0x0300 0x031F (K.store keeper.old) (K.store keeper.new) }
     {
-        match self.marks.room(origin, number) {
+        match self
+            .marks
+            .room(origin, number, LogFault::Old, LogFault::OriginsFull)
+        {
             Ok(()) => self
                 .marks
                 .keep(keeper, origin, number)

@@ -3,12 +3,8 @@ use Rattle.std.specs.Prelude.{◌≡◌, ℕ, ◌^◌, ◌<◌, true, false, Lis
 use Rattle.std.specs.FinMap.{get}
 use Rattle.plc_base.specs.Keeper.{Records, Store, Stores}
 use Rattle.plc_base.specs.SlotTables.{IsGapless, slot_of, opened}
+use Rattle.plc_base.specs.AdmittedNumbers.{Admitted}
 use Rattle.frame_counters.specs.PeerMarks.{Table, peers, room_for, keep_write, kept_after}
-
--- A counter that was admitted of a sender.
-pub record Admitted : Type 0 where
-  pub from : ℕ
-  pub counter : ℕ
 
 -- What was admitted, the last first, since some opening; the marks, none where a put failed and they were not opened again;
 -- and the records.
@@ -19,7 +15,7 @@ pub data Admits : List Admitted → Option Table → Records → Type 0 where
       → Admits before (Some table) old.records
       → from < 0xFFFE → counter < 2 ^ 32 → room_for table from counter ≡ Ok (tt {0})
       → Stores old (keep_write table from counter) true new
-      → Admits (record { from = from; counter = counter } ∷ before) (Some (kept_after table from counter)) new.records
+      → Admits (record { address = from; number = counter } ∷ before) (Some (kept_after table from counter)) new.records
   fails : (before : List Admitted) (table : Table) (from counter : ℕ) (old new : Store)
       → Admits before (Some table) old.records
       → from < 0xFFFE → counter < 2 ^ 32 → room_for table from counter ≡ Ok (tt {0})
@@ -31,8 +27,3 @@ pub data Admits : List Admitted → Option Table → Records → Type 0 where
   elsewhere : (before : List Admitted) (was : Option Table) (old new : Records) → Admits before was old
       → ((place : ℕ) → place < 64 → get new (slot_of peers place) ≡ get old (slot_of peers place))
       → Admits before was new
-
--- what was admitted of a sender is below a counter
-abbrev pub AllEarlier : ℕ → ℕ → List Admitted → Type 0
-AllEarlier from counter [] = Unit {0}
-AllEarlier from counter (a ∷ before) = (a.from ≡ from → a.counter < counter) × AllEarlier from counter before

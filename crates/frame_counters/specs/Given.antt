@@ -2,12 +2,8 @@
 use Rattle.std.specs.Prelude.{◌≡◌, ℕ, zero, suc, ◌+◌, ◌^◌, ◌<◌, ◌≤◌, true, false, List, [], ◌∷◌, ◌++◌, Option, Some, None, Ok}
 use Rattle.std.specs.FinMap.{get}
 use Rattle.plc_base.specs.Keeper.{Records, Store, Stores}
+use Rattle.plc_base.specs.Numberings.{run_of}
 use Rattle.frame_counters.specs.SendCounter.{Counting, opened, limit_slot, reserve_write, reserved}
-
--- so many counters from the first on, the last first
-abbrev pub run_of : ℕ → ℕ → List ℕ
-run_of first zero = []
-run_of first (suc more) = (first + more) ∷ run_of first more
 
 -- What was given out, the last first, since some opening; the counter, none where a put failed and it was not opened again;
 -- and the records.
@@ -26,8 +22,3 @@ pub data Gives : List ℕ → Option Counting → Records → Type 0 where
       → opened records ≡ Ok counting → Gives given (Some counting) records
   elsewhere : (given : List ℕ) (was : Option Counting) (old new : Records) → Gives given was old
       → get new limit_slot ≡ get old limit_slot → Gives given was new
-
--- each of these is below a number
-abbrev pub AllBelow : ℕ → List ℕ → Type 0
-AllBelow bound [] = Unit {0}
-AllBelow bound (x ∷ xs) = (x < bound) × AllBelow bound xs

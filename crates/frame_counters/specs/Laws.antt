@@ -2,7 +2,8 @@
 use Rattle.std.specs.Prelude.{◌≡◌, ◌≢◌, ℕ, ◌+◌, ◌<◌, ◌≤◌, ◌^◌, Ok, Err, None}
 use Rattle.plc_base.specs.Keeper.{Records}
 use Rattle.plc_base.specs.Writes.{puts_of}
-use Rattle.plc_base.specs.SlotTables as slots
+use Rattle.plc_base.specs.Numberings as numbers
+use Rattle.plc_base.specs.Marks as tables
 use Rattle.plc_base.specs.LeadingPuts.{PutsLead}
 use Rattle.frame_counters.specs.declared.fault.PeerFault.TheVariants.{Store}
 use Rattle.frame_counters.specs.SendCounter as counters
@@ -17,9 +18,8 @@ abbrev pub NoReservationChangesNothing : Type 0
 NoReservationChangesNothing = (counting : counters.Counting) → counting.next ≤ counting.limit → IsNoReservation counting
 
 -- A counter is what the records give, and its limit has a record.
-pub record IsCounterIn (counting : counters.Counting) (records : Records) : Type 0 where
-  pub kept : counters.IsKept counting records
-  pub fits : counting.limit < 2 ^ 32
+abbrev pub IsCounterIn : counters.Counting → Records → Type 0
+IsCounterIn counting records = numbers.IsCountingIn counters.limit_slot counting records
 
 -- Whatever becomes of the put of a reservation, some counter is what the records give.
 abbrev pub ReservationsLead : Type 0
@@ -32,9 +32,8 @@ abbrev pub RoomIsNoPut : Type 0
 RoomIsNoPut = (table : marks.Table) (from counter : ℕ) → marks.room_for table from counter ≢ Err Store
 
 -- Marks are what the records give, each sender at one place.
-pub record AreMarksIn (table : marks.Table) (records : Records) : Type 0 where
-  pub kept : marks.IsKept table records
-  pub sound : slots.IsTable marks.peers table
+abbrev pub AreMarksIn : marks.Table → Records → Type 0
+AreMarksIn table records = tables.AreMarksIn 0x0100 64 table records
 
 -- Whatever becomes of the put for an admitted counter, some marks are what the records give.
 abbrev pub AdmissionsLead : Type 0

@@ -1,104 +1,80 @@
--- The marks of the senders, and what the calls on them do.
-use Rattle.std.specs.Prelude.{◌≡◌, ℕ, ◌+◌, ◌≤◌, min, Bool, true, false, ◌==◌, nat_lt, nat_le, if◌then◌else◌, List, [], ◌∷◌, ◌++◌, length, drop, set, get_or, All, Option, Some, None, Result, Ok, Err, refl}
-use Rattle.std.specs.Option.{option_map, option_map_or}
-use Rattle.std.specs.Coded.{Coded, code_by, coded×, coded_ℕ, coded_list}
-use Rattle.byteorder.specs.Endian.{big_number, big_bytes}
+-- The marks of the senders, and what the calls on them do: a table of marks (`Marks` of `plc_base`) at the slots 0100 to 013F.
+use Rattle.std.specs.Prelude.{◌≡◌, ℕ, Bool, true, false, if◌then◌else◌, List, Option, Some, None, Result, Ok, Err}
+use Rattle.std.specs.Coded.{Coded}
 use Rattle.plc_base.specs.Keeper.{Records, Write}
 use Rattle.plc_base.specs.SlotTables as slots
+use Rattle.plc_base.specs.Marks as marks
+use Rattle.plc_base.specs.declared.marks.Mark.{Mark}
 use Rattle.frame_counters.specs.declared.fault.PeerFault.{PeerFault}
 use Rattle.frame_counters.specs.declared.fault.PeerFault.TheVariants.{Replayed, PeersFull, Store}
-use Rattle.frame_counters.specs.declared.peer_marks.Peer.{Peer}
+
+-- a sender: its address, the counter that was last admitted of it, and the mark that is stored
+abbrev pub Peer : Type 0
+Peer = Mark 0x0100 64
 
 -- the senders in the order of their slots
 abbrev pub Table : Type 0
-Table = List Peer
+Table = marks.Table 0x0100 64
 
 -- a table is kept as the list of its senders' fields
 abbrev pub table_code : Coded Table
-table_code =
-    coded_list (code_by (ℕ × (ℕ × ℕ)) (coded× coded_ℕ (coded× coded_ℕ coded_ℕ)) (λ p. (p.address, (p.mark, p.stored)))
-    (λ t. record { address = t.0; mark = t.1.0; stored = t.1.1 }) (λ _. refl))
-
--- the sender of an address and a mark, which is the stored one
-abbrev pub peer_of : ℕ → ℕ → Option Peer
-peer_of address stored =
-    if nat_lt address 0xFFFE
-    then Some (record { address = address; mark = stored; stored = stored })
-    else None
+table_code = marks.table_code 0x0100 64
 
 -- the sender that a record gives: an address in 2 octets and the stored mark in 4
 abbrev pub peer_in : List ℕ → Option Peer
-peer_in octets = if length octets == 6 then peer_of (big_number 2 octets) (big_number 4 (drop 2 octets)) else None
+peer_in octets = marks.mark_in 0x0100 64 octets
 
 -- the record of a sender
 abbrev pub octets_of : Peer → List ℕ
-octets_of peer = big_bytes 2 peer.address ++ big_bytes 4 peer.stored
+octets_of peer = marks.octets_of 0x0100 64 peer
 
 -- a sender as a new start finds it
 abbrev pub at_rest : Peer → Peer
-at_rest peer = record peer { mark = peer.stored }
+at_rest peer = marks.at_rest 0x0100 64 peer
 
 -- how the senders are stored
 abbrev pub peers : slots.Layout Peer
-peers = record {
-  first = 0x0100;
-  slots = 64;
-  read = λ _ octets. peer_in octets;
-  octets = λ _ peer. octets_of peer;
-  storable = λ _. true;
-  rest = at_rest;
-  key = λ peer. peer.address;
-}
+peers = marks.layout 0x0100 64
 
 -- no mark is above the stored one
 abbrev pub IsCovered : Table → Type 0
-IsCovered table = All (λ peer. peer.mark ≤ peer.stored) table
+IsCovered table = marks.IsCovered 0x0100 64 table
 
 -- What the table holds as stored is what the records give, and no record stands behind them.
 abbrev pub IsKept : Table → Records → Type 0
-IsKept table records = slots.IsStored peers table records
+IsKept table records = marks.IsKept 0x0100 64 table records
 
 -- the place of a sender in the table
 abbrev pub place_of : Table → ℕ → Option ℕ
-place_of table address = slots.place_of peers table address
+place_of table address = marks.place_of 0x0100 64 table address
 
 -- the sender at a place of the table
 abbrev pub peer_at : Table → ℕ → Peer
-peer_at table place = get_or table place (record { address = 0; mark = 0; stored = 0 })
+peer_at table place = marks.mark_at 0x0100 64 table place
 
 -- the mark of a sender, if it is held
 abbrev pub mark_of : Table → ℕ → Option ℕ
-mark_of table from = option_map (λ place. (peer_at table place).mark) (place_of table from)
+mark_of table from = marks.mark_of 0x0100 64 table from
 
 -- whether a counter is admitted, and why not: of a held sender it is to be above the mark, and a new one needs a slot
 abbrev pub room_for : Table → ℕ → ℕ → Result (Unit {0}) PeerFault
-room_for table from counter =
-    option_map_or (λ place. if nat_le counter (peer_at table place).mark then Err Replayed else Ok tt)
-    (place_of table from) (if length table == 64 then Err PeersFull else Ok tt)
+room_for table from counter = marks.room_for 0x0100 64 Replayed PeersFull table from counter
 
 -- a sender whose mark is stored anew, ahead of the counter
 abbrev pub peer_ahead : ℕ → ℕ → Peer
-peer_ahead from counter = record { address = from; mark = counter; stored = min (counter + 63) 4294967295 }
+peer_ahead from counter = marks.mark_ahead 0x0100 64 from counter
 
 -- the sender at a place with a higher mark
 abbrev pub advanced : Peer → ℕ → ℕ → Peer
-advanced peer from counter =
-    if nat_le counter peer.stored then record peer { mark = counter } else peer_ahead from counter
+advanced peer from counter = marks.advanced 0x0100 64 peer from counter
 
 -- what is stored before a counter is kept: nothing, where it is not above the stored mark
 abbrev pub keep_write : Table → ℕ → ℕ → Option Write
-keep_write table from counter =
-    option_map_or
-    (λ place. if nat_le counter (peer_at table place).stored
-    then None
-    else Some (slots.entry_write peers place (peer_ahead from counter)))
-    (place_of table from) (Some (slots.entry_write peers (length table) (peer_ahead from counter)))
+keep_write table from counter = marks.keep_write 0x0100 64 table from counter
 
 -- the table after a counter was kept
 abbrev pub kept_after : Table → ℕ → ℕ → Table
-kept_after table from counter =
-    option_map_or (λ place. set table place (advanced (peer_at table place) from counter))
-    (place_of table from) (table ++ peer_ahead from counter ∷ [])
+kept_after table from counter = marks.kept_after 0x0100 64 table from counter
 
 -- `admit` is described in three functions: what it answers, which put it makes and what the table is afterwards; done
 -- says that no put failed
@@ -126,19 +102,3 @@ is_stored (Ok u) = true
 is_stored (Err Replayed) = true
 is_stored (Err PeersFull) = true
 is_stored (Err Store) = false
-
--- what a record gives rests already
-pub peer_in-rests : (octets : List ℕ) (peer : Peer) → peer_in octets ≡ Some peer → at_rest peer ≡ peer
-peer_in-rests octets peer e = by_length (length octets == 6) e
-  where
-    by_address : (b : Bool) (address stored : ℕ)
-        → (if b then Some (record { address = address; mark = stored; stored = stored }) else None) ≡ Some peer
-        → at_rest peer ≡ peer
-    by_address true address stored h = cc
-    by_address false address stored h = cc
-
-    by_length : (b : Bool)
-        → (if b then peer_of (big_number 2 octets) (big_number 4 (drop 2 octets)) else None) ≡ Some peer
-        → at_rest peer ≡ peer
-    by_length true h = by_address _ _ _ h
-    by_length false h = cc

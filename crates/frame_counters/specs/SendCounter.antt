@@ -1,28 +1,25 @@
--- The counter of the frames that a node sends, and what its calls do to it.
-use Rattle.std.specs.Prelude.{◌≡◌, ◌⊎◌, ℕ, ◌+◌, ◌≤◌, min, Bool, true, false, ◌==◌, nat_lt, if◌then◌else◌, List, Option, Some, None, unwrap_or, Result, Ok, Err, refl}
-use Rattle.std.specs.Coded.{Coded, code_by, coded×, coded_ℕ}
-use Rattle.std.specs.FinMap.{get}
+-- The counter of the frames that a node sends, and what its calls do to it: a numbering (`Numberings` of `plc_base`) whose
+-- limit stands at slot 2, 1,024 ahead.
+use Rattle.std.specs.Prelude.{ℕ, Bool, true, false, if◌then◌else◌, List, Option, None, Result, Ok, Err}
+use Rattle.std.specs.Coded.{Coded}
 use Rattle.plc_base.specs.Keeper.{Records, Write}
-use Rattle.plc_base.specs.NumberSlots.{number_in, stored_number, number_write}
+use Rattle.plc_base.specs.Numberings as numbers
 use Rattle.plc_base.specs.declared.number_slot.NumberSlot.{NumberSlot}
 use Rattle.plc_base.specs.declared.keeper.BadStore.{BadStore}
 use Rattle.frame_counters.specs.declared.fault.CounterFault.{CounterFault}
 use Rattle.frame_counters.specs.declared.fault.CounterFault.TheVariants.{Spent, Store}
 
 -- The limit that is stored, which no counter that was given out reaches, and the counter that comes next.
-pub record Counting : Type 0 where
-  pub limit : ℕ
-  pub next : ℕ
+abbrev pub Counting : Type 0
+Counting = numbers.Counting
 
 -- a counter's value is kept as the pair of its fields
 abbrev pub counting_code : Coded Counting
-counting_code =
-    code_by (ℕ × ℕ) (coded× coded_ℕ coded_ℕ)
-    (λ c. (c.limit, c.next)) (λ p. record { limit = p.0; next = p.1 }) (λ _. refl)
+counting_code = numbers.counting_code
 
 -- where the limit is stored: 4 octets at slot 2, 0 where none is there
 abbrev pub limit_at : NumberSlot
-limit_at = record { slot = 2; width = 4; first = 0; least = 0 }
+limit_at = numbers.limit_at 2
 
 -- the slot of the limit
 abbrev pub limit_slot : ℕ
@@ -30,59 +27,54 @@ limit_slot = limit_at.slot
 
 -- the limit that the record of the slot gives: 0 where none is there, and no reading where it has not 4 octets
 abbrev pub limit_in : Option (List ℕ) → Option ℕ
-limit_in octets = number_in limit_at octets
+limit_in octets = numbers.limit_in limit_slot octets
 
 -- the limit that the records give
 abbrev pub stored_limit : Records → ℕ
-stored_limit records = unwrap_or (limit_in (get records limit_slot)) 0
+stored_limit records = numbers.stored_limit limit_slot records
 
 -- a counter that goes on at a limit
 abbrev pub counting_at : ℕ → Counting
-counting_at limit = record { limit = limit; next = limit }
+counting_at limit = numbers.counting_at limit
 
 abbrev pub counting_from : Option ℕ → Result Counting BadStore
-counting_from None = Err (record { slot = limit_slot })
-counting_from (Some limit) = Ok (counting_at limit)
+counting_from limit = numbers.counting_from limit_slot limit
 
 -- the counter that the records give
 abbrev pub opened : Records → Result Counting BadStore
-opened records = counting_from (limit_in (get records limit_slot))
+opened records = numbers.opened limit_slot records
 
 -- What the counter holds as stored is what the records give.
-pub record IsKept (counting : Counting) (records : Records) : Type 0 where
-  pub limit : limit_in (get records limit_slot) ≡ Some counting.limit
-  pub below : counting.next ≤ counting.limit
+abbrev pub IsKept : Counting → Records → Type 0
+IsKept counting records = numbers.IsKept limit_slot counting records
 
 -- The limit is that of the records from before, or what the counter holds is what the new records give.
 abbrev pub IsOldLimitOrKept : Counting → Records → Records → Type 0
-IsOldLimitOrKept counting old new = (stored_number limit_at new ≡ stored_number limit_at old) ⊎ IsKept counting new
+IsOldLimitOrKept counting old new = numbers.IsOldLimitOrKept limit_slot counting old new
 
 -- the put of a limit
 abbrev pub limit_write : ℕ → Option Write
-limit_write limit = Some (number_write limit_at limit)
+limit_write limit = numbers.limit_write limit_slot limit
 
 -- the next limit
 abbrev pub raised : ℕ → ℕ
-raised limit = min (limit + 1024) 4294967295
+raised limit = numbers.raised 1024 limit
 
 -- whether so many counters pass the limit
 abbrev pub passes : Counting → ℕ → Bool
-passes counting count = nat_lt counting.limit (counting.next + count)
+passes counting count = numbers.passes counting count
 
 -- what is stored before so many counters are given out
 abbrev pub reserve_write : Counting → ℕ → Option Write
-reserve_write counting count = if passes counting count then limit_write (raised counting.limit) else None
+reserve_write counting count = numbers.reserve_write limit_slot 1024 counting count
 
 -- the counter after so many were given out
 abbrev pub reserved : Counting → ℕ → Counting
-reserved counting count = record {
-  limit = if passes counting count then raised counting.limit else counting.limit;
-  next = counting.next + count;
-}
+reserved counting count = numbers.reserved 1024 counting count
 
 -- whether no counter is left
 abbrev pub is_spent : Counting → Bool
-is_spent counting = counting.next == 4294967295
+is_spent counting = numbers.is_spent counting
 
 -- `take` is described in three functions: what it answers, which put it makes and what the counter is afterwards; done
 -- says that no put failed

@@ -4,75 +4,17 @@ ghost use Rattle.std.specs.Bool.{OnTrue};
 ghost use Rattle.std.specs.Ordering.{nat_cmp};
 ghost use Rattle.plc_base.specs.Keeper.{Stores, OutsideStays, IsOldOrNew};
 ghost use Rattle.plc_base.specs.SlotTables.{IsTable, IsGapless, IsReading, IsBad, Reopens, opened};
-ghost use Rattle.frame_counters.specs.Admitted.{Admitted, Admits, AllEarlier};
-ghost use Rattle.frame_counters.specs.PeerMarks.{Table, peers, IsKept, IsCovered, at_rest, peer_ahead, mark_of, room_for, keep_write, kept_after, admit_result, admit_write, admit_after, is_stored};
+ghost use Rattle.plc_base.specs.AdmittedNumbers.{Admitted, AllEarlier};
+ghost use Rattle.frame_counters.specs.Admitted.{Admits};
+ghost use Rattle.frame_counters.specs.PeerMarks.{Table, peers, IsKept, IsCovered, mark_of, room_for, keep_write, kept_after, admit_result, admit_write, admit_after, is_stored};
 
 use crate::PeerFault;
 use arrayvec::ArrayVec;
-use byteorder::{BigEndian, ByteOrder};
-use plc_base::{BadStore, Failed, Keeper, Record, Short, SlotEntry, SlotTable};
+use plc_base::{BadStore, Failed, Keeper, Mark, MarkTable, Short};
 use std::marker::Model;
 
 /// One sender: the counter that was last admitted of it, and the mark that is stored, which is no lower.
-#[derive(Clone, Copy, Debug, Default)]
-pub struct Peer {
-    /// The sender's short address.
-    pub address: Short,
-    /// The counter that was last admitted.
-    pub mark: u32,
-    /// The mark that is stored.
-    pub stored: u32,
-}
-
-/// The first slot of the senders.
-const FIRST_SLOT: u32 = 0x0100;
-
-/// How far the stored mark is ahead.
-const AHEAD: u32 = 63;
-
-impl SlotEntry for Peer {
-    ghost use Rattle.std.specs.Prelude.{refl};
-    ghost use Rattle.frame_counters.specs.PeerMarks.{peers, peer_in-rests};
-
-    ghost layout = { peers };
-
-    ghost rests = { λ _ octets peer h. peer_in-rests octets peer h };
-
-    ghost keeps_key = { λ _. refl };
-
-    fn key(&self) -> u64 {
-        self.address.key()
-    }
-
-    fn slot(place: usize) -> u32 {
-        FIRST_SLOT + place as u32
-    }
-
-    fn read(_place: usize, octets: &[u8]) -> Option<Peer> {
-        if octets.len() != 6 {
-            return None;
-        }
-        let address = Short::new(BigEndian::read_u16(octets))?;
-        let stored = BigEndian::read_u32(&octets[2..]);
-        Some(Peer {
-            address,
-            mark: stored,
-            stored,
-        })
-    }
-
-    fn record(&self, _place: usize) -> Record {
-        let Peer {
-            address,
-            stored,
-            ..
-        } = *self;
-        let mut octets = [0; 6];
-        BigEndian::write_u16(&mut octets, address.number());
-        BigEndian::write_u32(&mut octets[2..], stored);
-        Record::from_octets(&octets)
-    }
-}
+pub type Peer = Mark<0x0100, 64>;
 
 /// The counter that was last admitted of each sender. The stored marks are ahead of it, so that no counter is admitted
 /// twice, also over losses of power, and most frames cost no put (IEEE 802.15.4-2006, 7.5.8.2.3).
@@ -80,20 +22,19 @@ impl SlotEntry for Peer {
 /// A contract sees the list of the senders in the order of their slots.
 #[derive(Drop, Debug)]
 pub struct PeerMarks {
-    table: SlotTable<Peer, 64>,
+    marks: MarkTable<0x0100, 64>,
 }
 
 impl Model for PeerMarks {
-    ghost use Rattle.frame_counters.specs.Admitted.{Admitted, Admits, AllEarlier};
     ghost use Rattle.frame_counters.specs.PeerMarks.{Table, table_code, IsCovered};
 
     ghost Value = { Table };
 
     ghost coded = { table_code };
 
-    ghost view = { λ m. m.table };
+    ghost view = { λ m. m.marks };
 
-    ghost invariant = { λ m. IsCovered m.table };
+    ghost invariant = { λ m. IsCovered m.marks };
 }
 
 impl PeerMarks {
@@ -110,16 +51,15 @@ impl PeerMarks {
         // Marks that were kept are opened again, each at its stored mark.
         ensures reopened { Reopens peers (K.store keeper.now).records result }
     {
-        let table = SlotTable::open(keeper)?;
-        Ok(PeerMarks { table })
+        let marks = MarkTable::open(keeper)?;
+        Ok(PeerMarks { marks })
     }
 
     /// The mark of a sender, None exactly where it is not held.
     pub fn mark(&self, from: Short) -> Option<u32>
         ensures { result ≡ mark_of self.now from }
     {
-        let place = self.table.place_of(from.key())?;
-        Some(self.table.get(place).mark)
+        self.marks.mark(from)
     }
 
     /// The senders in the order of their slots: no two of one address, at most 64, and no mark above the stored one.
@@ -128,7 +68,7 @@ impl PeerMarks {
         ensures table { IsTable peers self.now }
         ensures covered { IsCovered self.now }
     {
-        self.table.as_slice()
+        self.marks.entries()
     }
 
     /// The senders that are held, in ascending order: no two of one address.
@@ -138,7 +78,7 @@ impl PeerMarks {
         ensures table { IsTable peers self.now }
     {
         let mut senders = ArrayVec::new();
-        for peer in self.table.as_slice() {
+        for peer in self.marks.entries() {
             senders.push(peer.address);
         }
         senders.sort_unstable();
@@ -152,11 +92,8 @@ impl PeerMarks {
     pub fn room(&self, from: Short, counter: u32) -> Result<(), PeerFault>
         ensures { result ≡ room_for self.now from counter }
     {
-        match self.table.place_of(from.key()) {
-            Some(place) if counter <= self.table.get(place).mark => Err(PeerFault::Replayed),
-            None if self.table.is_full() => Err(PeerFault::PeersFull),
-            _ => Ok(()),
-        }
+        self.marks
+            .room(from, counter, PeerFault::Replayed, PeerFault::PeersFull)
     }
 
     /// Makes `counter` the mark of a sender, where there is room for it. Where the sender is new or `counter` is above its
@@ -180,23 +117,7 @@ impl PeerMarks {
         ensures either { IsOldOrNew IsKept self.old (kept_after self.old from counter) (K.store keeper.new).records }
         ensures elsewhere { OutsideStays 0x0100 0x013F (K.store keeper.old) (K.store keeper.new) }
     {
-        match self.table.place_of(from.key()) {
-            Some(place) => {
-                let peer = self.table.get(place);
-                if counter <= peer.stored {
-                    let advanced = Peer {
-                        mark: counter,
-                        ..peer
-                    };
-                    self.table.set_unstored(place, advanced);
-                    Ok(())
-                } else {
-                    self.table
-                        .set_stored(keeper, place, ahead_of(from, counter))
-                }
-            }
-            None => self.table.push_stored(keeper, ahead_of(from, counter)),
-        }
+        self.marks.keep(keeper, from, counter)
     }
 
     /// Admits a counter of a sender: its mark is then `counter`. Where the sender is new or `counter` is above its stored
@@ -229,16 +150,5 @@ impl PeerMarks {
                 .map_err(|_| PeerFault::Store),
             Err(fault) => Err(fault),
         }
-    }
-}
-
-// A sender whose stored mark is ahead of its counter.
-fn ahead_of(from: Short, counter: u32) -> Peer
-    ensures { result ≡ peer_ahead from counter }
-{
-    Peer {
-        address: from,
-        mark: counter,
-        stored: counter.saturating_add(AHEAD),
     }
 }

@@ -3,10 +3,11 @@ ghost use Rattle.std.specs.Prelude.{◌≡◌, ◌+◌, ◌<◌, ◌≤◌, IfOk
 ghost use Rattle.std.specs.Bool.{OnTrue};
 ghost use Rattle.plc_base.specs.Keeper.{Stores, OutsideStays, IsOldOrNew};
 ghost use Rattle.frame_counters.specs.SendCounter.{IsKept, IsOldLimitOrKept, stored_limit, opened, reserve_write, reserved, limit_write, counting_at, take_result, take_write, take_after, is_stored, preset_result};
-ghost use Rattle.frame_counters.specs.Given.{Gives, AllBelow};
+ghost use Rattle.plc_base.specs.Numberings.{AllBelow};
+ghost use Rattle.frame_counters.specs.Given.{Gives};
 
 use crate::CounterFault;
-use plc_base::{BadStore, Failed, Keeper, NumberSlot};
+use plc_base::{BadStore, Failed, Keeper, Numbering};
 use std::marker::Model;
 
 /// Gives out each counter once, also over losses of power: a limit is stored ahead of the counters that are given out,
@@ -15,8 +16,7 @@ use std::marker::Model;
 /// A contract sees the limit and the next counter.
 #[derive(Drop, Debug)]
 pub struct SendCounter {
-    limit: u32,
-    next: u32,
+    numbering: Numbering<2, 1024>,
 }
 
 impl Model for SendCounter {
@@ -27,21 +27,10 @@ impl Model for SendCounter {
 
     ghost coded = { counting_code };
 
-    ghost view = { λ c. record { limit = c.limit; next = c.next } };
+    ghost view = { λ c. c.numbering };
 
-    ghost invariant = { λ c. c.next ≤ c.limit };
+    ghost invariant = { λ c. c.numbering.next ≤ c.numbering.limit };
 }
-
-/// Where the limit is stored.
-const LIMIT: NumberSlot = NumberSlot {
-    slot: 2,
-    width: 4,
-    first: 0,
-    least: 0,
-};
-
-/// How far the limit is stored ahead.
-const STRIDE: u32 = 1024;
 
 impl SendCounter {
     /// The counter that the record at slot 2 gives: the next counter is the stored limit, 0 where none is stored.
@@ -53,15 +42,15 @@ impl SendCounter {
         ensures limit { IfOk result (λ counter. counter.next ≡ stored_limit (K.store keeper.now).records) }
         ensures fits { IfOk result (λ counter. counter.next ≤ 4294967295) }
     {
-        let limit = LIMIT.read(keeper)?;
-        Ok(SendCounter { limit, next: limit })
+        let numbering = Numbering::open(keeper)?;
+        Ok(SendCounter { numbering })
     }
 
     /// How many counters are left: 4,294,967,295 minus the next one.
     pub fn left(&self) -> u32
         ensures { result + self.now.next ≡ 4294967295 }
     {
-        u32::MAX - self.next
+        self.numbering.left()
     }
 
     /// Gives out so many counters in a row, and answers the first. Where they pass the limit, a higher one is stored first.
@@ -84,14 +73,7 @@ impl SendCounter {
         ensures elsewhere { OutsideStays 2 2 (K.store keeper.old) (K.store keeper.new) }
         ensures fits { self.new.next ≤ 4294967295 }
     {
-        let number = self.next;
-        if self.limit < number + count {
-            let limit = self.limit.saturating_add(STRIDE);
-            LIMIT.store(keeper, limit)?;
-            self.limit = limit;
-        }
-        self.next = number + count;
-        Ok(number)
+        self.numbering.reserve(keeper, count)
     }
 
     /// Gives out the next counter. Where it equals the limit, the smaller of limit + 1,024 and 4,294,967,295 is stored first.
@@ -130,10 +112,7 @@ impl SendCounter {
             (K.store keeper.new).records }
         ensures elsewhere { OutsideStays 2 2 (K.store keeper.old) (K.store keeper.new) }
     {
-        LIMIT.store(keeper, value)?;
-        self.limit = value;
-        self.next = value;
-        Ok(())
+        self.numbering.set_limit(keeper, value)
     }
 
     /// Stores the limit `value` and sets the next counter to it.

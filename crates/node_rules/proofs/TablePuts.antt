@@ -15,7 +15,7 @@ use Rattle.plc_base.specs.NumberSlots.{number_write}
 use Rattle.plc_base.specs.SlotTables as slots
 use Rattle.plc_base.specs.Writes.{puts_of}
 use Rattle.fragment_buffers.specs.NextTag.{tag_at}
-use Rattle.frame_counters.specs.declared.peer_marks.Peer.{Peer}
+use Rattle.frame_counters.specs.PeerMarks.{Peer}
 use Rattle.frame_counters.specs.PeerMarks as marks
 use Rattle.frame_counters.specs.SendCounter as counter
 use Rattle.group_keys.specs.declared.key_book.BookEntry.{BookEntry}

@@ -3,7 +3,7 @@ use Rattle.std.specs.Prelude.{true, false, [], map, replicate, None}
 use Rattle.std.specs.Option.{option_map, option_map_or, option_and_then}
 use Rattle.plc_base.specs.Grant.{Granted}
 pub use Rattle.plc_base.specs.Orders.{placed_by, ordered_by}
-use Rattle.frame_counters.specs.declared.peer_marks.Peer.{Peer}
+use Rattle.frame_counters.specs.PeerMarks.{Peer}
 use Rattle.routing_set.specs.declared.entry.RoutingEntry.{RoutingEntry}
 use Rattle.node_rules.specs.Memory.{StationMemory, Node, address_of}
 use Rattle.node_rules.specs.declared.shown.Shown.{Shown}

@@ -101,3 +101,26 @@ module _ {M N : Type 0} (Q : M → Records → Type 0) (R : N → Records → Ty
 
   pub leads_map : (back : (m : M) (r : Records) → R (f m) r → Q m r) (m n : M) (ps : List Write) → PutsLead Q m ps n → PutsLead R (f m) ps (f n)
   leads_map back m n ps x = record { run = λ r q. let y = x.run r (back m r q) in (prefixes_map ps r y.0, there n (all_put ps r) y.1) }
+
+-- these writes leave what is said of the records
+abbrev pub Leaves : (Records → Type 0) → List Write → Type 0
+Leaves P [] = Unit {0}
+Leaves P (p ∷ ps) = ((r : Records) → P r → P (insert r p.slot p.octets)) × Leaves P ps
+
+-- the same over a value that holds the one as a part, where the writes leave what is said of the rest
+module _ {M N : Type 0} (Q : M → Records → Type 0) (P : Records → Type 0) (R : N → Records → Type 0) (f : M → N) (there : (m : M) (r : Records) → Q m r → P r → R (f m) r) where
+  prefixes_beside : (ps : List Write) (r : Records) → Leaves P ps → P r → Prefixes Q ps r → Prefixes R ps r
+  prefixes_beside [] r l b x = record { value = f x.value; kept = there x.value r x.kept b }
+  prefixes_beside (p ∷ ps) r l b x = (record { value = f x.0.value; kept = there x.0.value r x.0.kept b }, prefixes_beside ps (insert r p.slot p.octets) l.1 (l.0 r b) x.1)
+
+  left_beside : (ps : List Write) (r : Records) → Leaves P ps → P r → P (all_put ps r)
+  left_beside [] r l b = b
+  left_beside (p ∷ ps) r l b = left_beside ps (insert r p.slot p.octets) l.1 (l.0 r b)
+
+  pub leads_part : (back : (m : M) (r : Records) → R (f m) r → Q m r × P r) (m n : M) (ps : List Write) → Leaves P ps → PutsLead Q m ps n → PutsLead R (f m) ps (f n)
+  leads_part back m n ps l x = record {
+    run = λ r q.
+        let both = back m r q in
+        let y = x.run r both.0 in
+        (prefixes_beside ps r l both.1 y.0, there n (all_put ps r) y.1 (left_beside ps r l both.1));
+  }

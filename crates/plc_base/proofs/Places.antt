@@ -7,6 +7,7 @@ use Rattle.std.proofs.lemmas.List.Elements.{All-take, All-drop}
 use Rattle.byteorder.specs.Endian.{big_bytes, big_number, little_bytes, little_number}
 use Rattle.byteorder.specs.Numbers.{big_number-reads_back, big_from-take, little_number-reads_back, little_from-take, length-bytes_high_first, length-bytes_low_first}
 use Rattle.plc_base.specs.Fields.{AreOctets, after, octet, two, four, little_two, little_four, part, Stands}
+use Rattle.plc_base.specs.OctetLaws.{EachOctetFits}
 use Rattle.plc_base.proofs.NumbersOfOctets.{below, bytes_high_first-big_from, bytes_low_first-little_from}
 
 pub octet_stands : (at : ℕ) (octets : List ℕ) → at + 1 ≤ length octets → (slice_index octets at ≡ octet at octets) × Stands (slice_index octets at ∷ []) at octets
@@ -155,7 +156,7 @@ two_low at octets fits =
     let b : slice_index (drop at octets) 1 < 256 = below (drop at octets) (All-drop (λ x. x < 256) at octets fits) 1 in
     omega arith
 
-pub octet_low : (at : ℕ) (octets : List ℕ) → AreOctets octets → octet at octets < 256
+pub octet_low : EachOctetFits
 unfolding octet
 octet_low at octets fits = below octets fits at
 

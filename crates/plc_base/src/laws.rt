@@ -1,5 +1,6 @@
-//! Laws of tags, of sorted numbers, and of puts one after another. Each is the contract of a function that does nothing.
+//! Laws of tags, of octets, of sorted numbers, and of puts one after another. Each is the contract of a function that does nothing.
 ghost use Rattle.plc_base.specs.Laws.{WritesCompose, WritesStop, APrefixIsWritten, OtherSlotsStay, APutStaysInItsSlot};
+ghost use Rattle.plc_base.specs.OctetLaws.{BigNumbersAreOctets, EachOctetFits, LittleNumbersAreOctets, RestsAreOctets, PartsAreOctets};
 ghost use Rattle.plc_base.specs.Orders.{OneSortedPermutation, SortedNumbersAreOrdered, SortedKeysFindAll};
 ghost use Rattle.plc_base.specs.Tags.{OneSpellingOneTag};
 
@@ -39,4 +40,17 @@ pub fn sorted_numbers_are_ordered<A>()
 /// The sorted keys of a table, looked up one by one, give its entries in the order of their keys.
 pub fn sorted_keys_find_all<A>()
     ensures { SortedKeysFindAll A }
+{}
+
+/// A number in fixed width is octets, its highest octet first or its lowest.
+pub fn numbers_are_octets()
+    ensures big { BigNumbersAreOctets }
+    ensures little { LittleNumbersAreOctets }
+{}
+
+/// An octet of octets is below 256; what follows a place of octets is octets, and so is each part of them.
+pub fn parts_of_octets_are_octets()
+    ensures octet { EachOctetFits }
+    ensures rest { RestsAreOctets }
+    ensures part { PartsAreOctets }
 {}

@@ -1,25 +1,27 @@
 //! A keeper in memory, which loses power when it is told to.
-ghost use Rattle.std.specs.Prelude.{◌≡◌, ◌<◌, ◌≤◌, Some, None, IfOk};
+ghost use Rattle.std.specs.Prelude.{◌≡◌, ◌<◌, ◌≤◌, Some, None, IfOk, vec_len, vec_capacity};
 ghost use Rattle.std.specs.FinMap as map;
 ghost use Rattle.plc_base.specs.Keeper.{Store, IsSlot};
-ghost use Rattle.plc_base.specs.Cells.{place_of};
+ghost use Rattle.plc_base.specs.Cells.{place_of, records_in};
 
 use crate::{Cut, Failed, Keeper, Record};
 use std::alloc::{AllocError, Global};
 use std::marker::Model;
 
-/// A keeper over memory that is allocated once. It tells which loss of power is to come.
+/// A keeper over memory that is reserved once. It tells which loss of power is to come.
 ///
-/// A contract sees its records as a finite map from slot to octets. A get and a put take the same time at each slot.
+/// A contract sees its records as a finite map from slot to octets. A get takes the same time at each slot, and so does a put, but for the cells
+/// below its slot, which are made once.
 #[derive(Drop)]
 pub struct MemKeeper {
+    // Up to the highest slot that was written: all were reserved, and memory that is not used yet costs nothing.
     cells: Vec<Option<Record>>,
     faults: u64,
     cut: Option<Cut>,
 }
 
 impl Model for MemKeeper {
-    ghost use Rattle.std.specs.Prelude.{◌≡◌, Some, vec_len};
+    ghost use Rattle.std.specs.Prelude.{◌≤◌, Some, vec_len, vec_capacity};
     ghost use Rattle.plc_base.specs.Keeper.{Store, store_code};
     ghost use Rattle.plc_base.specs.Cells.{records_in};
 
@@ -29,7 +31,7 @@ impl Model for MemKeeper {
 
     ghost view = { λ k. record { records = records_in k.cells.items; faults = k.faults; told = Some k.cut } };
 
-    ghost invariant = { λ k. vec_len k.cells ≡ 1165 };
+    ghost invariant = { λ k. (vec_len k.cells ≤ 1165) × (1165 ≤ vec_capacity k.cells) };
 }
 
 /// How many slots there are.
@@ -51,17 +53,29 @@ fn place_of(slot: u32) -> usize
     place as usize
 }
 
+// Makes the cells up to a place, each without a record.
+fn reach(cells: &mut Vec<Option<Record>>, place: usize)
+    requires place { place < 1165 }
+    requires within { vec_len cells.old ≤ 1165 }
+    requires reserved { 1165 ≤ vec_capacity cells.old }
+    ensures there { place < vec_len cells.new }
+    ensures records { records_in cells.new.items ≡ records_in cells.old.items }
+    ensures within { vec_len cells.new ≤ 1165 }
+    ensures reserved { 1165 ≤ vec_capacity cells.new }
+{
+    while cells.len() <= place {
+        // All cells were reserved.
+        cells.push(None).unwrap();
+    }
+}
+
 impl MemKeeper {
     /// A keeper with no record and no loss of power to come. It fails only for want of memory.
     pub fn new(alloc: Global) -> Result<MemKeeper, AllocError>
         ensures { IfOk result (λ keeper. keeper ≡ record { records = map.empty; faults = 0; told = Some None }) }
     {
-        let mut cells = Vec::with_capacity(alloc, SLOTS)?;
-        for _ in 0..SLOTS {
-            cells.push(None)?;
-        }
         Ok(MemKeeper {
-            cells,
+            cells: Vec::with_capacity(alloc, SLOTS)?,
             faults: 0,
             cut: None,
         })
@@ -82,7 +96,9 @@ impl MemKeeper {
         requires { IsSlot slot }
         ensures { self.new ≡ record self.old { records = map.insert self.old.records slot octets.now } }
     {
-        self.cells[place_of(slot)] = Some(octets.copied());
+        let place = place_of(slot);
+        reach(&mut self.cells, place);
+        self.cells[place] = Some(octets.copied());
     }
 }
 
@@ -90,9 +106,11 @@ impl Keeper for MemKeeper {
     ghost store = { λ k. k };
 
     fn get(&self, slot: u32) -> Option<Record> {
-        self.cells[place_of(slot)]
-            .as_ref()
-            .map(|record| record.copied())
+        let place = place_of(slot);
+        if place >= self.cells.len() {
+            return None;
+        }
+        self.cells[place].as_ref().map(|record| record.copied())
     }
 
     fn put(&mut self, slot: u32, octets: &Record) -> Result<(), Failed> {

@@ -1,5 +1,5 @@
-use Rattle.frame_counters.proofs.Leading.{reservation_leads}
+use Rattle.plc_base.proofs.StoredLimits.{reservations_lead}
 use Rattle.frame_counters.proofs.laws.reservations_lead.Goals as goal
 
 pub returns : goal.returns
-returns c = reservation_leads
+returns c = reservations_lead 2 1024

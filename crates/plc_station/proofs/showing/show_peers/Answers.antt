@@ -2,7 +2,7 @@ use Rattle.std.proofs.Common.{◌≡◌, ℕ, suc, ◌+◌, List, [], ◌∷◌,
 use Rattle.std.specs.Prelude.{slice_get}
 use Rattle.std.proofs.lemmas.List.{take_all}
 use Rattle.std.proofs.lemmas.Option.{slice_get-get_or}
-use Rattle.frame_counters.specs.declared.peer_marks.Peer.{Peer}
+use Rattle.frame_counters.specs.PeerMarks.{Peer}
 use Rattle.frame_counters.specs.PeerMarks.{peers}
 use Rattle.node_rules.specs.Showing.{ordered_by, shown_peer}
 use Rattle.plc_station.proofs.Shows.{is_there, shown_suc, as_many}

@@ -1,5 +1,5 @@
 use Rattle.std.proofs.Common.{◌≡◌, map, take}
-use Rattle.frame_counters.specs.declared.peer_marks.Peer.{Peer}
+use Rattle.frame_counters.specs.PeerMarks.{Peer}
 use Rattle.node_rules.specs.Showing.{ordered_by, shown_peer}
 use Rattle.plc_station.proofs.showing.show_peers.Given as goal
 

@@ -5,7 +5,7 @@ use Rattle.plc_base.proofs.mem_keeper.MemKeeper.write.Goals as goal
 
 pub returns : goal.returns
 returns c =
-    let cells = c.self.inside.cells.items in
-    let within : place_of c.args.slot < length cells = omega (arith, c.place_of.ensures.within) in
+    let cells = c.reach.new.cells.items in
+    let within : place_of c.args.slot < length cells = omega (arith, c.place_of-place.ensures.value, c.reach.ensures.there) in
     let inserted = records_in-set cells c.args.slot c.args.octets.now c.requires within in
-    rw (← c.self.view_is, c.copied.ensures, c.place_of.ensures.value, inserted)
+    rw (← c.self.view_is, c.copied.ensures, c.place_of-place.ensures.value, inserted, c.reach.ensures.records)
