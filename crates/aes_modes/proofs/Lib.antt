@@ -8,3 +8,4 @@ pub mod Chains
 pub mod Written
 pub mod Schedule
 pub mod Opened
+pub mod CipherOctets

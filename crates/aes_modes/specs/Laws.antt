@@ -1,5 +1,8 @@
 -- Laws of the modes, over their definitions alone.
 use Rattle.std.specs.Prelude.{◌≡◌, ◌≢◌, ◌≤◌, ℕ, List, length}
+use Rattle.plc_base.specs.Fields.{AreOctets}
+use Rattle.aes_modes.specs.Cipher.{encrypted}
+use Rattle.aes_modes.specs.Cmac.{cmac}
 use Rattle.aes_modes.specs.Eax.{eax_text, eax_tag}
 use Rattle.aes_modes.specs.Ccm.{ccm_text, ccm_tag}
 
@@ -30,3 +33,29 @@ abbrev pub CcmLengths : Type 0
 CcmLengths =
     (n : ℕ) (key nonce header m : List ℕ) → n ≤ 16
     → (length (ccm_text key nonce m) ≡ length m) × (length (ccm_tag n key nonce header m) ≡ n)
+
+-- # Octets, under keys that are octets
+
+-- an encrypted block, whatever the block
+abbrev pub BlocksAreOctets : Type 0
+BlocksAreOctets = (key block : List ℕ) → AreOctets key → AreOctets (encrypted key block)
+
+-- a CMAC, of whatever text
+abbrev pub CmacsAreOctets : Type 0
+CmacsAreOctets = (key m : List ℕ) → AreOctets key → AreOctets (cmac key m)
+
+-- a text of octets that CCM encrypted or decrypted
+abbrev pub CcmTextsAreOctets : Type 0
+CcmTextsAreOctets = (key nonce m : List ℕ) → AreOctets key → AreOctets m → AreOctets (ccm_text key nonce m)
+
+-- a tag of CCM, of whatever header and text
+abbrev pub CcmTagsAreOctets : Type 0
+CcmTagsAreOctets = (n : ℕ) (key nonce header m : List ℕ) → AreOctets key → AreOctets (ccm_tag n key nonce header m)
+
+-- a text of octets that EAX encrypted or decrypted
+abbrev pub EaxTextsAreOctets : Type 0
+EaxTextsAreOctets = (key nonce m : List ℕ) → AreOctets key → AreOctets m → AreOctets (eax_text key nonce m)
+
+-- a tag of EAX, of whatever header and encrypted text
+abbrev pub EaxTagsAreOctets : Type 0
+EaxTagsAreOctets = (key nonce header c : List ℕ) → AreOctets key → AreOctets (eax_tag key nonce header c)

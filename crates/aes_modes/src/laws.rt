@@ -1,10 +1,10 @@
-//! Laws of the modes: what was sealed opens, and two texts are not sealed alike.
+//! Laws of the modes: what was sealed opens, two texts are not sealed alike, and under keys of octets all is octets.
 //!
 //! The functions without arguments do nothing: each states a law over the definitions as its contract.
 ghost use Rattle.std.specs.Prelude.{◌≡◌, ◌<◌, ◌⊎◌, length, IsOk};
 ghost use Rattle.aes_modes.specs.Eax.{eax_text, eax_tag};
 ghost use Rattle.aes_modes.specs.Ccm.{ccm_tag};
-ghost use Rattle.aes_modes.specs.Laws.{CcmLengths, CcmTextsComeBack, CcmTextsDiffer, EaxLengths, EaxTextsComeBack, EaxTextsDiffer};
+ghost use Rattle.aes_modes.specs.Laws.{BlocksAreOctets, CcmLengths, CcmTagsAreOctets, CcmTextsAreOctets, CcmTextsComeBack, CcmTextsDiffer, CmacsAreOctets, EaxLengths, EaxTagsAreOctets, EaxTextsAreOctets, EaxTextsComeBack, EaxTextsDiffer};
 
 use crate::BadTag;
 use crate::ccm::{ccm_open, ccm_seal};
@@ -74,4 +74,26 @@ pub fn ccm_lengths()
 /// An encrypted text of EAX is as long as the text, and its tag has 16 octets.
 pub fn eax_lengths()
     ensures { EaxLengths }
+{}
+
+/// A block that is encrypted under a key of octets is octets, whatever it was.
+pub fn blocks_are_octets()
+    ensures { BlocksAreOctets }
+{}
+
+/// A CMAC under a key of octets is octets, of whatever text.
+pub fn cmacs_are_octets()
+    ensures { CmacsAreOctets }
+{}
+
+/// Under a key of octets CCM makes octets: an encrypted text of a text of octets, and a tag of anything.
+pub fn ccm_makes_octets()
+    ensures text { CcmTextsAreOctets }
+    ensures tag { CcmTagsAreOctets }
+{}
+
+/// Under a key of octets EAX makes octets: an encrypted text of a text of octets, and a tag of anything.
+pub fn eax_makes_octets()
+    ensures text { EaxTextsAreOctets }
+    ensures tag { EaxTagsAreOctets }
 {}

@@ -4,3 +4,5 @@ pub mod Named
 pub mod Passing
 pub mod Relations
 pub mod Same
+pub mod PacketOctets
+pub mod PacketSizes

@@ -1,13 +1,16 @@
 -- Laws of the four messages, over their definitions alone: what one end makes, the other takes, and both then hold the same.
-use Rattle.std.specs.Prelude.{◌≡◌, ℕ, List, length, None}
+use Rattle.std.specs.Prelude.{◌≡◌, ◌≤◌, ◌<◌, ℕ, List, ◌++◌, length, None}
+use Rattle.plc_base.specs.Fields.{AreOctets}
 use Rattle.plc_base.specs.Grant.{Granted}
 use Rattle.plc_base.specs.declared.address.Eui.{Eui}
 use Rattle.plc_base.specs.declared.key.Rand.{Rand}
-use Rattle.joining_messages.specs.Grants.{IsGranted}
+use Rattle.joining_messages.specs.Grants.{IsGranted, IsPlace}
+use Rattle.joining_messages.specs.Laws.{GrantHasOctets}
 use Rattle.eap_psk.specs.declared.server.Server.{Server}
 use Rattle.eap_psk.specs.declared.peer.Peer.{Peer}
-use Rattle.eap_psk.specs.Keys.{PairKeys, transient_key}
-use Rattle.eap_psk.specs.Messages.{First, Second, Third, Fourth, granting_text}
+use Rattle.eap_psk.specs.Keys.{PairKeys, keys_of, transient_key}
+use Rattle.eap_psk.specs.Messages.{First, Second, Third, Fourth, head, granting_text}
+use Rattle.eap_psk.specs.Sessions.{second_packet, third_packet, fourth_packet}
 use Rattle.eap_psk.specs.Faults.{rand_p_of, first_fault, second_fault, third_fault, fourth_fault}
 use Rattle.eap_psk.specs.Tags.{granting_tag, success_tag}
 
@@ -68,3 +71,48 @@ SuccessTagsAgree =
     (eui eui' : Eui) (i j : ℕ) (rand_s rand_s' rand_p rand_p' : Rand)
     → success_tag eui i rand_s rand_p ≡ success_tag eui' j rand_s' rand_p'
     → (eui ≡ eui') × (rand_s ≡ rand_s') × (rand_p ≡ rand_p')
+
+-- # Octets: of names, random values and keys that are octets the packets of a session are octets
+
+abbrev pub FirstPacketsAreOctets : Type 0
+FirstPacketsAreOctets =
+    (identifier : ℕ) (rand_s id_s : List ℕ) → identifier < 256 → AreOctets rand_s → AreOctets id_s
+    → AreOctets (head 1 identifier 30 0 rand_s ++ id_s)
+
+abbrev pub SecondPacketsAreOctets : Type 0
+SecondPacketsAreOctets =
+    (psk : List ℕ) (identifier : ℕ) (peer : Peer) → AreOctets psk → identifier < 256 → AreOctets peer.eui.0
+    → AreOctets peer.rand_s.0 → AreOctets peer.rand_p.0 → AreOctets (second_packet (keys_of psk) identifier peer)
+
+abbrev pub ThirdPacketsAreOctets : Type 0
+ThirdPacketsAreOctets =
+    (psk : List ℕ) (identifier : ℕ) (peer : Peer) (grant : Granted) → AreOctets psk → identifier < 256
+    → AreOctets peer.rand_s.0 → GrantHasOctets grant → AreOctets (third_packet (keys_of psk) identifier peer grant)
+
+abbrev pub FourthPacketsAreOctets : Type 0
+FourthPacketsAreOctets =
+    (psk : List ℕ) (identifier : ℕ) (peer : Peer) → AreOctets psk → identifier < 256 → AreOctets peer.rand_s.0
+    → AreOctets (fourth_packet (keys_of psk) identifier peer)
+
+-- # Sizes: of random values of at most 16 octets and names of 8 a packet has at most so many octets
+
+abbrev pub FirstPacketsFit : Type 0
+FirstPacketsFit =
+    (identifier : ℕ) (rand_s id_s : List ℕ) → length rand_s ≤ 16 → length id_s ≡ 8
+    → length (head 1 identifier 30 0 rand_s ++ id_s) ≤ 30
+
+abbrev pub SecondPacketsFit : Type 0
+SecondPacketsFit =
+    (keys : PairKeys) (identifier : ℕ) (peer : Peer) → length peer.rand_s.0 ≤ 16 → length peer.rand_p.0 ≤ 16
+    → length peer.eui.0 ≡ 8 → length (second_packet keys identifier peer) ≤ 62
+
+-- with one key or two
+abbrev pub ThirdPacketsFit : Type 0
+ThirdPacketsFit =
+    (keys : PairKeys) (identifier : ℕ) (peer : Peer) (grant : Granted) → length peer.rand_s.0 ≤ 16
+    → IsPlace grant.key0 → IsPlace grant.key1 → length (third_packet keys identifier peer grant) ≤ 105
+
+abbrev pub FourthPacketsFit : Type 0
+FourthPacketsFit =
+    (keys : PairKeys) (identifier : ℕ) (peer : Peer) → length peer.rand_s.0 ≤ 16
+    → length (fourth_packet keys identifier peer) ≤ 43

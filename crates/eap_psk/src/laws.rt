@@ -6,7 +6,7 @@
 //!
 //! [`Server`]: crate::Server
 //! [`Peer`]: crate::Peer
-ghost use Rattle.eap_psk.specs.Laws.{FirstIsTaken, FirstNamesTheSession, SecondIsTaken, ThirdIsTaken, ThirdGrantsOneThing, FourthIsTaken, GrantingTagsAgree, SuccessTagsAgree};
+ghost use Rattle.eap_psk.specs.Laws.{FirstIsTaken, FirstNamesTheSession, SecondIsTaken, ThirdIsTaken, ThirdGrantsOneThing, FourthIsTaken, GrantingTagsAgree, SuccessTagsAgree, FirstPacketsAreOctets, SecondPacketsAreOctets, ThirdPacketsAreOctets, FourthPacketsAreOctets, FirstPacketsFit, SecondPacketsFit, ThirdPacketsFit, FourthPacketsFit};
 
 /// A first message is taken, and is of one session.
 pub fn first_is_taken()
@@ -38,4 +38,20 @@ pub fn granting_tags_agree()
 /// Two equal tags of channels that say success are of one node and of the same random values.
 pub fn success_tags_agree()
     ensures { SuccessTagsAgree }
+{}
+
+/// Of names, random values and keys that are octets, the four packets of a session are octets.
+pub fn packets_are_octets()
+    ensures first { FirstPacketsAreOctets }
+    ensures second { SecondPacketsAreOctets }
+    ensures third { ThirdPacketsAreOctets }
+    ensures fourth { FourthPacketsAreOctets }
+{}
+
+/// Of random values of at most 16 octets and names of 8, the four packets of a session have at most 30, 62, 105 and 43 octets.
+pub fn packets_fit()
+    ensures first { FirstPacketsFit }
+    ensures second { SecondPacketsFit }
+    ensures third { ThirdPacketsFit }
+    ensures fourth { FourthPacketsFit }
 {}

@@ -12,3 +12,4 @@ pub mod Settling
 pub mod Writing
 pub mod Beside
 pub mod Sizes
+pub mod LoadOctets

@@ -1,10 +1,13 @@
--- Laws of cutting and reassembly.
+-- Laws of cutting and reassembly, and of the units of a load.
 use Rattle.std.specs.Prelude.{◌≡◌, ℕ, ◌+◌, ◌<◌, ◌≤◌, Bool, true, false, ◌==◌, List, [], ◌∷◌, ◌++◌, length, get_or, replicate, Some, None, slice_get}
 use Rattle.std.specs.List.{list_any, All, AllPairs}
 use Rattle.block_pool.specs.Pool.{PoolState, IsChain, OthersStay, chain_octets}
+use Rattle.plc_base.specs.Fields.{AreOctets}
 use Rattle.mesh_header.specs.Pieces.{Placed}
+use Rattle.mesh_header.specs.Laws.{SpellsOctets}
 use Rattle.fragment_buffers.specs.Entries.{Entry, Keeps, IsBounded, IsOther, entry_at, blocks_used, told}
 use Rattle.fragment_buffers.specs.Cutting.{pieces_of, piece_of}
+use Rattle.fragment_buffers.specs.Loads.{Load, IsShort, load_octets, units_of}
 use Rattle.fragment_buffers.specs.Reassembly.{Reassembly, PlacedPiece, datagram_of, octet_of, overlap, begun}
 use Rattle.fragment_buffers.specs.Taking.{Held, Whole, blocks, blocks_held, same_name, taken, unexpired}
 
@@ -123,3 +126,10 @@ abbrev pub NewChainsAreOthers : Type 0
 NewChainsAreOthers =
     (p : PoolState) (es : List Entry) (c : ℕ) → IsBounded es → Keeps p es → (IsChain p c → ⊥) → (i : ℕ)
     → i < length es → (entry_at es i).chain ≡ c → ⊥
+
+-- # Loads
+
+-- each unit of a short load of octets spells octets
+abbrev pub LoadsSpellOctets : Type 0
+LoadsSpellOctets =
+    (own to : ℕ) (load : Load) → AreOctets (load_octets load) → IsShort load → All SpellsOctets (units_of own to load)

@@ -1,5 +1,5 @@
 //! Laws of cutting and reassembly. A function here does nothing: its contract is the law.
-ghost use Rattle.fragment_buffers.specs.Laws.{OverlapBeginsAnew, WholeIsOfItsPieces, GapIsInNoPiece, PiecesStayApart, PiecesComeTogether, OtherChainsKeepReassemblies, NewChainsAreOthers};
+ghost use Rattle.fragment_buffers.specs.Laws.{OverlapBeginsAnew, WholeIsOfItsPieces, GapIsInNoPiece, PiecesStayApart, PiecesComeTogether, OtherChainsKeepReassemblies, NewChainsAreOthers, LoadsSpellOctets};
 
 /// A whole reassembly has, at each position, the octet that one of its pieces has there; in one that is not whole some position
 /// lies in no piece.
@@ -31,4 +31,9 @@ pub fn an_overlap_begins_anew()
 pub fn other_chains_keep_reassemblies()
     ensures kept { OtherChainsKeepReassemblies }
     ensures new { NewChainsAreOthers }
+{}
+
+/// Each unit of a short load of octets spells octets.
+pub fn loads_spell_octets()
+    ensures { LoadsSpellOctets }
 {}

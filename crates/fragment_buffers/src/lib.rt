@@ -17,7 +17,8 @@ mod tests;
 
 pub use cutting::{cut_piece, pieces};
 pub use laws::{
-    a_whole_reassembly_is_of_its_pieces, an_overlap_begins_anew, placed_pieces_never_overlap,
+    a_whole_reassembly_is_of_its_pieces, an_overlap_begins_anew, loads_spell_octets,
+    other_chains_keep_reassemblies, placed_pieces_never_overlap,
     the_pieces_of_a_datagram_come_together,
 };
 pub use next_tag::NextTag;

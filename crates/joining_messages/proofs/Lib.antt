@@ -3,3 +3,5 @@ pub mod Spellings
 pub mod GrantLaws
 pub mod Readings
 pub mod GrantReadings
+pub mod JoinOctets
+pub mod JoinRanges

@@ -1,8 +1,8 @@
--- What is read and what is spelled is the same, in both directions.
+-- What is read and what is spelled is the same, in both directions, and what is spelled is octets.
 use Rattle.std.specs.Prelude.{◌≡◌, ℕ, List, Some}
 use Rattle.plc_base.specs.Fields.{AreOctets}
 use Rattle.loadng_messages.specs.declared.message.Message.{Message}
-use Rattle.loadng_messages.specs.Grammar.{Spells}
+use Rattle.loadng_messages.specs.Grammar.{Spells, spelling}
 use Rattle.loadng_messages.specs.Reading.{message_in}
 
 -- the message that octets spell is read out of them
@@ -13,3 +13,7 @@ MessagesAreRead = (m : Message) (octets : List ℕ) → Spells m octets → mess
 abbrev pub ReadMessagesAreSpelled : Type 0
 ReadMessagesAreSpelled =
     (m : Message) (octets : List ℕ) → AreOctets octets → message_in octets ≡ Some m → Spells m octets
+
+-- each message spells octets
+abbrev pub SpellingsAreOctets : Type 0
+SpellingsAreOctets = (m : Message) → AreOctets (spelling m)

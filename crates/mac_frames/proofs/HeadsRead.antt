@@ -15,7 +15,9 @@ use Rattle.mac_frames.specs.declared.head.MacHead.TheVariants.{Sealed, Up, Down}
 use Rattle.mac_frames.specs.Faults.{bits, is_sealed, has_modes}
 use Rattle.mac_frames.specs.Grammar.{IsHead, Frame, header, header_then, low_control, high_control}
 use Rattle.mac_frames.specs.Reading.{ack_in, head_by, head_in, body_in}
+use Rattle.mac_frames.specs.Laws.{FramesAreRead}
 use Rattle.mac_frames.proofs.Headers.{header_then-append, length-header}
+use Rattle.mac_frames.proofs.NoFault.{no_fault}
 
 low_sealed : (ack : Bool) (rest : List ℕ) → (is_sealed (low_control true ack ∷ rest) ≡ true) × (ack_in (low_control true ack ∷ rest) ≡ ack)
 low_sealed true rest = rw (octet_behind [] (low_control true true) rest) (refl, refl)
@@ -109,10 +111,10 @@ head_of (Sealed ack seq pan to from counter index) body h = sealed_read ack seq 
 head_of (Up ack version seq pan to from) body h = up_read ack version seq pan to from body h
 head_of (Down ack version seq pan to from) body h = down_read ack version seq pan to from body h
 
-pub head_read : (head : MacHead) (body octets : List ℕ) → Frame head body octets → head_in octets ≡ head
+head_read : (head : MacHead) (body octets : List ℕ) → Frame head body octets → head_in octets ≡ head
 head_read head body octets f = ap head_in f.spelled ∙ head_of head body f.fields
 
-pub body_read : (head : MacHead) (body octets : List ℕ) → Frame head body octets → body_in octets ≡ body
+body_read : (head : MacHead) (body octets : List ℕ) → Frame head body octets → body_in octets ≡ body
 unfolding body_in
 body_read head body octets f =
     ap (after 15) (f.spelled ∙ header_then-append head body) ∙ ap (λ n. after n (header head ++ body)) (sym (length-header head f.fields)) ∙ after_behind (header head) body
@@ -121,3 +123,10 @@ body_read head body octets f =
 pub places_read : (octets : List ℕ) (r : Result RawFrame (Fault FrameFaultKind)) → IfOk r (λ raw. Frame raw.head raw.body.now octets) → IfOk r (λ raw. (raw.head ≡ head_in octets) × (raw.body.now ≡ body_in octets))
 places_read octets (Ok raw) frame = (sym (head_read raw.head raw.body.now octets frame), sym (body_read raw.head raw.body.now octets frame))
 places_read octets (Err e) frame = tt
+
+front_read : (head : MacHead) (body octets : List ℕ) → Frame head body octets → take 15 octets ≡ header head
+front_read head body octets f =
+    ap (take 15) (f.spelled ∙ header_then-append head body) ∙ ap (λ n. take n (header head ++ body)) (sym (length-header head f.fields)) ∙ take-append_seam (header head) body
+
+pub frame_read : FramesAreRead
+frame_read head body octets f = record { whole = no_fault head body octets f; said = head_read head body octets f; front = front_read head body octets f; rest = body_read head body octets f }

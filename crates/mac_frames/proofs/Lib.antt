@@ -4,3 +4,5 @@ pub mod NoFault
 pub mod Values
 pub mod Opening
 pub mod HeadsRead
+pub mod FrameOctets
+pub mod OpensAgain

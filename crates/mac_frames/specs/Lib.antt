@@ -4,3 +4,4 @@ pub mod Reading
 pub mod Sealing
 pub mod Control
 pub mod Sent
+pub mod Laws

@@ -1,6 +1,9 @@
-//! Laws of frames: what was sealed opens, and is what it was.
+//! Laws of frames: what was sealed opens, and is what it was; frames of octets seal and open to octets.
+//!
+//! The functions without arguments do nothing: each states a law over the definitions as its contract.
 ghost use Rattle.std.specs.Prelude.{◌≡◌, ◌≤◌, length, IsOk};
 ghost use Rattle.mac_frames.specs.Grammar.{IsAllowed, IsSealed};
+ghost use Rattle.mac_frames.specs.Laws.{BodiesAreOctets, FramesAreRead, HeadersAreOctets, OpenedPayloadsAreOctets, SealedBodiesAreLonger, SealedBodiesAreOctets, SealedBodiesOpen};
 
 use crate::head::MacHead;
 use crate::reading::read_frame;
@@ -28,3 +31,31 @@ pub fn seal_and_open(
         Err(_) => unreachable!(),
     }
 }
+
+/// The header of a head of octets is octets.
+pub fn headers_are_octets()
+    ensures { HeadersAreOctets }
+{}
+
+/// Under a key of octets a payload of octets is sealed to octets.
+pub fn sealed_bodies_are_octets()
+    ensures { SealedBodiesAreOctets }
+{}
+
+/// The body of a frame in octets is octets, and so is what a key of octets opens of it.
+pub fn opened_payloads_are_octets()
+    ensures body { BodiesAreOctets }
+    ensures payload { OpenedPayloadsAreOctets }
+{}
+
+/// What a key sealed under a head, the same key opens under this head; a sealed body is four octets longer than
+/// its payload.
+pub fn sealed_bodies_open()
+    ensures opens { SealedBodiesOpen }
+    ensures longer { SealedBodiesAreLonger }
+{}
+
+/// The head and the body of a frame are read out of its octets, which have no fault.
+pub fn frames_are_read()
+    ensures { FramesAreRead }
+{}

@@ -21,3 +21,5 @@ pub mod Rooms
 pub mod Blank
 pub mod StationPuts
 pub mod RingPuts
+pub mod HeardOctets
+pub mod NetworkOpens

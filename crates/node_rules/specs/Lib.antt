@@ -24,3 +24,4 @@ pub mod Tables
 pub mod Home
 pub mod Replies
 pub mod StationSlots
+pub mod OctetLaws

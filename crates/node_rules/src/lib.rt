@@ -5,6 +5,7 @@
 
 mod heard;
 mod laws;
+mod octet_laws;
 mod refusal;
 mod shown;
 mod table_laws;
@@ -19,6 +20,9 @@ pub use laws::{
     commands_are_handed_on, halted_does_nothing, halted_has_no_address, hearing_is_bounded,
     no_cut_no_failure, parts_are_carried_out, plans_follow_puts, plans_give_out_more,
     ringless_has_no_address, the_room_tells_the_refusal, writes_fail_cleanly,
+};
+pub use octet_laws::{
+    the_network_opens_octets, the_network_opens_what_it_seals, unreads_are_octets,
 };
 pub use refusal::{
     CoordinatorRefusal, Dropped, FrameRefusal, Halted, JoinRefusal, LeaveRefusal, LocalRefusal,
