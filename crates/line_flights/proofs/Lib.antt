@@ -1,4 +1,3 @@
 pub mod FlightLists
 pub mod Origins
 pub mod TagSpellings
-mod Octets

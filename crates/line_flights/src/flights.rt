@@ -1,8 +1,7 @@
 //! The flights of a line, and the first of those that are the same.
-ghost use Rattle.std.specs.Prelude.{All, ◌≡◌, ◌+◌, ◌*◌, ◌-◌, ◌<◌, ◌≤◌, ◌++◌, ◌∷◌, [], false, true, max, IsOk, OnOk, OnErr, MatchOption, if◌then◌else◌, length, map, slice_set};
+ghost use Rattle.std.specs.Prelude.{◌≡◌, ◌+◌, ◌*◌, ◌-◌, ◌<◌, ◌≤◌, ◌++◌, ◌∷◌, [], false, true, max, IsOk, OnOk, OnErr, MatchOption, if◌then◌else◌, length, map, slice_set};
 ghost use Rattle.std.specs.Option.{ForSome, option_copied, option_map};
 ghost use Rattle.line_rules.specs.Steps.{flight_by};
-ghost use Rattle.plc_base.specs.Fields.{AreOctets};
 ghost use Rattle.line_rules.specs.Worlds.{Flight, is_forged_frame, note_of};
 ghost use Rattle.line_flights.specs.Flown.{flight_in, not_lost, is_under};
 
@@ -103,13 +102,6 @@ impl Flights {
         ensures { result ≡ length self.now.flights }
     {
         self.log.len()
-    }
-
-    /// Each flight is octets: a proof may take that from a call, which does nothing.
-    pub fn are_octets(&self)
-        ensures { All (λ (f : Flight). AreOctets f.octets) self.now.flights }
-    {
-        self.log.are_octets();
     }
 
     /// Reserves the memory for so many more frames of so many octets together, where less is reserved, and else takes

@@ -1,4 +1,3 @@
 pub mod Ends
 pub mod Lasts
 pub mod Links
-mod Octets

@@ -1,9 +1,5 @@
 -- Octet strings in the order in which they came.
-use Rattle.std.specs.Prelude.{All, ◌≡◌, ◌<◌, ◌≤◌, ◌-◌, ℕ, List, Some, length, slice_get}
-
--- the numbers of a string are below 256
-abbrev pub AreOctets : List ℕ → Type 0
-AreOctets octets = All (λ x. x < 256) octets
+use Rattle.std.specs.Prelude.{◌≡◌, ◌<◌, ◌≤◌, ◌-◌, ℕ, List, Some, length, slice_get}
 
 -- the strings, how many more may be pushed, and how many octets those may have together
 pub record Log : Type 0 where

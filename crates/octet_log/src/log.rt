@@ -2,7 +2,7 @@
 ghost use Rattle.std.specs.Prelude.{All, ◌≡◌, ◌<◌, ◌≤◌, ◌-◌, ◌++◌, ◌∷◌, [], max, Some, IsTrue, ◌↔◌, IsOk, OnOk, OnErr, length, map, take, slice_get};
 ghost use Rattle.std.specs.Option.{ForSome, option_copied};
 ghost use Rattle.octet_log.specs.Keeping.{chain_of};
-ghost use Rattle.octet_log.specs.Logs.{AreOctets, IsLast};
+ghost use Rattle.octet_log.specs.Logs.{IsLast};
 
 use crate::chains::{CHAINS, Chains};
 use crate::strings::Strings;
@@ -59,13 +59,6 @@ impl OctetLog {
         ensures { result ≡ length self.now.strings }
     {
         self.strings.len()
-    }
-
-    /// Each string is octets: a proof may take that from a call, which does nothing.
-    pub fn are_octets(&self)
-        ensures { All AreOctets self.now.strings }
-    {
-        self.strings.are_octets();
     }
 
     /// The string at a place from 0 on: that of a number stands at the place before it.

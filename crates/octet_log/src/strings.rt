@@ -1,7 +1,6 @@
 //! Octet strings in one vector, one after the other.
 ghost use Rattle.std.specs.Prelude.{All, ◌≡◌, ◌<◌, ◌≤◌, ◌-◌, ◌++◌, ◌∷◌, [], max, IsOk, OnOk, OnErr, length, slice_get, slice_index, slice_range};
 ghost use Rattle.std.specs.Option.{option_copied};
-ghost use Rattle.octet_log.specs.Logs.{AreOctets};
 
 use std::alloc::{AllocError, Global};
 use std::marker::Model;
@@ -31,11 +30,6 @@ impl Model for Strings {
     ghost invariant = { λ s. ArePlaced s.octets.items s.ends.items s.places s.room
         (vec_capacity s.ends) (vec_capacity s.octets) };
 }
-
-// What is held as octets is below 256. Nothing is done.
-fn octets_only(octets: &[u8])
-    ensures { AreOctets octets.now }
-{}
 
 // Where the string at a place starts: where the one before it ends.
 fn start_of(ends: &[usize], place: usize) -> usize
@@ -71,13 +65,6 @@ impl Strings {
         ensures { result ≡ length self.now.strings }
     {
         self.ends.len()
-    }
-
-    /// Each string is octets. Nothing is done.
-    pub fn are_octets(&self)
-        ensures { All AreOctets self.now.strings }
-    {
-        octets_only(self.octets.as_slice());
     }
 
     /// The string at a place from 0 on.
