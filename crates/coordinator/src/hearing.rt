@@ -14,7 +14,7 @@ use crate::coordinator::Coordinator;
 use joining_base::{joining_command, read_message};
 use joining_messages::{JoinBody, JoinMessage};
 use node_rules::{Accepted, CoordinatorHeard, Dropped, Heard, Way};
-use plc_base::{Eui, FrameBuf, Keeper, LinkCost, Out};
+use plc_base::{Eui, Keeper, LinkCost, Out};
 
 // Whether a JOIN of a meter may come so.
 fn may_come(way: Way, eui: Eui) -> bool
@@ -91,7 +91,7 @@ impl<K: Keeper + Drop> Coordinator<K> {
     fn hear_joining(
         &mut self,
         way: &Way,
-        octets: &FrameBuf,
+        octets: &[u8],
         now: u64,
         out: &mut Out,
     ) -> Result<CoordinatorHeard, Dropped>
@@ -103,7 +103,7 @@ impl<K: Keeper + Drop> Coordinator<K> {
             result out.new (node_of self.new)) }
         ensures holds { Holds (node_of self.new) }
     {
-        let Some(join) = read_message(octets.octets()) else {
+        let Some(join) = read_message(octets) else {
             return Err(Dropped::BadUnit);
         };
         if !may_come(*way, join.eui) {
@@ -155,9 +155,9 @@ impl<K: Keeper + Drop> Coordinator<K> {
         ensures holds { Holds (node_of self.new) }
     {
         let heard = self.hear_frame(got, cost, note, now, out);
-        match joining_command(heard) {
-            Ok(command) => self.hear_joining(&command.way, &command.body, now, out),
-            Err(other) => heard_by_station(other),
+        match joining_command(&heard) {
+            Some(command) => self.hear_joining(&command.way, command.body.octets(), now, out),
+            None => heard_by_station(heard),
         }
     }
 }

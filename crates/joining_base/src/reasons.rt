@@ -1,59 +1,32 @@
 //! The words for what stands in the way of a packet or of a command, and the joining commands that a station hands on.
-ghost use Rattle.std.specs.Prelude.{◌≡◌, Some, None, MatchResult};
+ghost use Rattle.std.specs.Prelude.{◌≡◌, Some, None, MatchOption};
 ghost use Rattle.node_rules.specs.MemoryDrafts as drafts;
 ghost use Rattle.joining_base.specs.Reasons as reasons;
 
 use eap_psk::EapFault;
 use node_rules::{Dropped, Heard, SendRefusal, Way};
-use plc_base::FrameBuf;
+use plc_base::OctetRef;
 
-/// A joining command that a station hands on, unread.
-#[derive(Debug, Drop)]
-pub struct JoiningCommand {
+/// A joining command that a station hands on, unread. Its octets stay where they are.
+#[derive(Drop)]
+pub struct JoiningCommand<'a> {
     /// Where it comes from, and where its answer goes.
     pub way: Way,
     /// What stands behind the code 02.
-    pub body: FrameBuf,
+    pub body: OctetRef<'a>,
 }
 
-/// The joining command that a station hands on, and else what it made of the frame.
-pub fn joining_command(
-    heard: Result<Heard, Dropped>,
-) -> Result<JoiningCommand, Result<Heard, Dropped>>
-    ensures { MatchResult result (λ u. drafts.unread heard ≡ Some (record { way = u.way; body = u.body }))
-        (λ other. (other ≡ heard) × (drafts.unread heard ≡ None)) }
+/// The joining command that a station hands on, None where it made something else of the frame. Nothing is moved.
+pub fn joining_command(heard: &Result<Heard, Dropped>) -> Option<JoiningCommand<'_>>
+    ensures { MatchOption result (drafts.unread heard.now ≡ None)
+        (λ u. drafts.unread heard.now ≡ Some (record { way = u.way; body = u.body })) }
 {
     match heard {
-        Err(reason) => Err(Err(reason)),
-        Ok(heard) => joining_of(heard),
-    }
-}
-
-// The joining command among what a station heard.
-fn joining_of(heard: Heard) -> Result<JoiningCommand, Result<Heard, Dropped>>
-    ensures { MatchResult result (λ u. drafts.unread (Ok heard) ≡ Some (record { way = u.way; body = u.body }))
-        (λ other. (other ≡ Ok heard) × (drafts.unread (Ok heard) ≡ None)) }
-{
-    match heard {
-        Heard::Joining { way, body } => Ok(JoiningCommand { way, body }),
-        Heard::Up { from, note, octets } => Err(Ok(Heard::Up { from, note, octets })),
-        Heard::Held => Err(Ok(Heard::Held)),
-        Heard::Relayed => Err(Ok(Heard::Relayed)),
-        Heard::Answered => Err(Ok(Heard::Answered)),
-        Heard::Learned => Err(Ok(Heard::Learned)),
-        Heard::Broken => Err(Ok(Heard::Broken)),
-        Heard::Reported => Err(Ok(Heard::Reported)),
-        Heard::Local {
-            from,
-            to_all,
-            code,
-            body,
-        } => Err(Ok(Heard::Local {
-            from,
-            to_all,
-            code,
-            body,
-        })),
+        Ok(Heard::Joining { way, body }) => Some(JoiningCommand {
+            way: *way,
+            body: OctetRef::new(body.octets()),
+        }),
+        _ => None,
     }
 }
 

@@ -240,7 +240,7 @@ impl<K: Keeper + Drop> Meter<K> {
     fn hear_joining(
         &mut self,
         way: Way,
-        body: &FrameBuf,
+        body: &[u8],
         now: u64,
         out: &mut Out,
     ) -> Result<MeterHeard, Dropped>
@@ -254,7 +254,7 @@ impl<K: Keeper + Drop> Meter<K> {
         ensures agrees { Agrees self.new.station }
         ensures psk { self.new.psk ≡ self.old.psk }
     {
-        let Some(join) = read_message(body.octets()) else {
+        let Some(join) = read_message(body) else {
             return Err(Dropped::BadUnit);
         };
         self.hear_join(way, &join, now, out)
@@ -284,9 +284,9 @@ impl<K: Keeper + Drop> Meter<K> {
         ensures psk { self.new.psk ≡ self.old.psk }
     {
         let heard = self.station.hear(got, cost, note, now, out);
-        match joining_command(heard) {
-            Ok(command) => self.hear_joining(command.way, &command.body, now, out),
-            Err(other) => heard_by_station(other),
+        match joining_command(&heard) {
+            Some(command) => self.hear_joining(command.way, command.body.octets(), now, out),
+            None => heard_by_station(heard),
         }
     }
 }

@@ -1,4 +1,4 @@
-use Rattle.std.proofs.Common.{Result, sym, ap, subst, ◌∙◌}
+use Rattle.std.proofs.Common.{Result, sym, subst}
 use Rattle.std.specs.Option.{option_map}
 use Rattle.node_rules.specs.declared.heard.MeterHeard.{MeterHeard}
 use Rattle.node_rules.specs.declared.refusal.Dropped.{Dropped}
@@ -16,7 +16,7 @@ hear_joining-requires-clause-running g c =
     let running = rw (← c.self.view_is) at c.requires.running in
     let m = some_at c.self.inside.station.memory running in
     running_on m.0 c.args.got.now c.args.cost c.args.note c.args.now c.self.inside.station c.hear-heard.new.self c.hear-heard.result c.hear-heard.new.out (at_some _ _ m.0 m.1 c.hear-heard.ensures.carries)
-    c.in-Ok.command.way c.in-Ok.command.body c.in-Ok.ensures
+    c.in-Some.command.way c.in-Some.command.body c.in-Some.ensures
 
 pub hear_joining-requires-clause-came : goal.hear_joining-requires-clause-came
 hear_joining-requires-clause-came g c =
@@ -24,26 +24,26 @@ hear_joining-requires-clause-came g c =
     let up = rw (← c.self.view_is) at c.requires.came in
     let m = some_at c.self.inside.station.memory running in
     came m.0 c.args.got.now c.args.cost c.args.note c.args.now c.self.inside.station c.hear-heard.new.self c.hear-heard.result c.hear-heard.new.out (at_some _ _ m.0 m.1 c.hear-heard.ensures.carries)
-    c.in-Ok.command.way c.in-Ok.command.body c.in-Ok.ensures (at_some _ _ m.0 m.1 up)
+    c.in-Some.command.way c.in-Some.command.body c.in-Some.ensures (at_some _ _ m.0 m.1 up)
 
 pub hear_joining-requires-clause-empty : goal.hear_joining-requires-clause-empty
 hear_joining-requires-clause-empty g c =
     let running = rw (← c.self.view_is) at c.requires.running in
     let m = some_at c.self.inside.station.memory running in
     (at_rest m.0 c.args.got.now c.args.cost c.args.note c.args.now c.self.inside.station c.hear-heard.new.self c.hear-heard.result c.hear-heard.new.out (at_some _ _ m.0 m.1 c.hear-heard.ensures.carries)
-    c.in-Ok.command.way c.in-Ok.command.body c.in-Ok.ensures).out_is
+    c.in-Some.command.way c.in-Some.command.body c.in-Some.ensures).out_is
 
-pub returns-in-Ok-clause-carries : goal.returns-in-Ok-clause-carries
-returns-in-Ok-clause-carries g c =
+pub returns-in-Some-clause-carries : goal.returns-in-Some-clause-carries
+returns-in-Some-clause-carries g c =
     let x : MeterState = record { station = c.self.inside.station; psk = c.self.inside.pair_key; randoms = c.self.inside.randoms; session = option_map session_of c.self.inside.session } in
     rw (← c.self.view_is) (on_node x _ (λ l running.
     heard_joining x c.hear-heard.new.self l c.args.got.now c.args.cost c.args.note c.args.now c.hear-heard.result c.hear-heard.new.out running (at_some _ _ l running c.hear-heard.ensures.carries)
-    c.hear_joining.new.self c.in-Ok.command.way c.in-Ok.command.body c.hear_joining.result c.hear_joining.new.out c.in-Ok.ensures c.hear_joining.ensures.carries))
+    c.hear_joining.new.self c.in-Some.command.way c.in-Some.command.body c.hear_joining.result c.hear_joining.new.out c.in-Some.ensures (rw c.octets.ensures at c.hear_joining.ensures.carries)))
 
-pub returns-in-Err-clause-carries : goal.returns-in-Err-clause-carries
-returns-in-Err-clause-carries g c =
+pub returns-in-None-clause-carries : goal.returns-in-None-clause-carries
+returns-in-None-clause-carries g c =
     let x : MeterState = record { station = c.self.inside.station; psk = c.self.inside.pair_key; randoms = c.self.inside.randoms; session = option_map session_of c.self.inside.session } in
     rw (← c.self.view_is) (on_node x _ (λ l running.
     subst (λ (r : Result MeterHeard Dropped). Carries (node_of x) (meters.hear_meter (identity_of x) (memory_with x l) c.args.got.now c.args.cost c.args.note c.args.now) r c.hear-heard.new.out (node_of (record x { station = c.hear-heard.new.self })))
-    (sym (c.heard_by_station.ensures ∙ ap meters.heard_by_station c.in-Err.ensures.0))
-    (heard_other x c.hear-heard.new.self l c.args.got.now c.args.cost c.args.note c.args.now c.hear-heard.result c.hear-heard.new.out running (at_some _ _ l running c.hear-heard.ensures.carries) c.in-Err.ensures.1)))
+    (sym c.heard_by_station.ensures)
+    (heard_other x c.hear-heard.new.self l c.args.got.now c.args.cost c.args.note c.args.now c.hear-heard.result c.hear-heard.new.out running (at_some _ _ l running c.hear-heard.ensures.carries) c.in-None.ensures)))
