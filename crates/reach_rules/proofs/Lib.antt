@@ -1,0 +1,9 @@
+mod AsWithout
+mod HandingOn
+mod Origins
+mod Commands
+mod CheckedHearing
+mod Once
+mod Computing
+mod ReachScripts
+mod ReachCases

@@ -1,0 +1,36 @@
+-- What becomes of acknowledgements, broadcasts, beacons and path requests: the scripts are computed.
+use Rattle.std.proofs.Common.{refl}
+use Rattle.reach_rules.proofs.Computing.{computed}
+use Rattle.reach_rules.specs.ReachScripts.{ALateNeighbourIsListed, ANeighbourInTimeIsBelieved, WithoutChecksAllAreBelieved, BroadcastsGoOnAndEnd, TheCheapestAgentIsChosen, TheCoordinatorIsAnAgent, APathIsTold, ABrokenPathIsNotTold}
+
+pub a_late_neighbour_is_listed : ALateNeighbourIsListed
+unfolding computed ALateNeighbourIsListed
+a_late_neighbour_is_listed = (refl, refl)
+
+pub a_neighbour_in_time_is_believed : ANeighbourInTimeIsBelieved
+unfolding computed ANeighbourInTimeIsBelieved
+a_neighbour_in_time_is_believed = (refl, refl)
+
+pub without_checks_all_are_believed : WithoutChecksAllAreBelieved
+unfolding computed WithoutChecksAllAreBelieved
+without_checks_all_are_believed = (refl, refl)
+
+pub broadcasts_go_on_and_end : BroadcastsGoOnAndEnd
+unfolding computed BroadcastsGoOnAndEnd
+broadcasts_go_on_and_end = (refl, refl)
+
+pub the_cheapest_agent_is_chosen : TheCheapestAgentIsChosen
+unfolding computed TheCheapestAgentIsChosen
+the_cheapest_agent_is_chosen = (refl, refl, refl, refl)
+
+pub the_coordinator_is_an_agent : TheCoordinatorIsAnAgent
+unfolding computed TheCoordinatorIsAnAgent
+the_coordinator_is_an_agent = (refl, refl, refl)
+
+pub a_path_is_told : APathIsTold
+unfolding computed APathIsTold
+a_path_is_told = (refl, refl)
+
+pub a_broken_path_is_not_told : ABrokenPathIsNotTold
+unfolding computed ABrokenPathIsNotTold
+a_broken_path_is_not_told = (refl, refl)

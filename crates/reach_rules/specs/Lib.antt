@@ -1,0 +1,10 @@
+pub mod ReachingNodes
+pub mod CheckedReplies
+pub mod Broadcasts
+pub mod PathAsking
+pub mod Beacons
+pub mod Receiving
+pub mod Laws
+pub mod SmallLines
+pub mod ReachScripts
+pub mod ReachCases
