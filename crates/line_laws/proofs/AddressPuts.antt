@@ -23,6 +23,7 @@ use Rattle.node_rules.specs.Laws.{all_put, IsWhole, IsCutOff}
 use Rattle.node_rules.proofs.Writing.{clean}
 use Rattle.line_laws.specs.Stores.{IsReadable}
 use Rattle.line_laws.proofs.Made.{Given, RingWord, RingChange, Made, Starts, Ranks, Numbers, Tags, Rings, Idles, Loses, Goes, Sends, Waits, Leaves}
+pub use Rattle.line_laws.specs.Keyed.{RingIn}
 
 -- a ring that is readable is read back
 pub readable_reads : (x : ring.Ring) → IfSome x IsReadable → ring.ring_in (ring.ring_octets x) ≡ Some x
@@ -38,10 +39,6 @@ pub data RingWrite (S : ring.Ring → Type 0) : Write → Type 0 where
 abbrev pub RingWrites : (S : ring.Ring → Type 0) → List Write → Type 0
 RingWrites S [] = Unit {0}
 RingWrites S (w ∷ ws) = RingWrite S w × RingWrites S ws
-
--- of the ring that the records give S holds
-abbrev pub RingIn : (S : ring.Ring → Type 0) → Records → Type 0
-RingIn S r = (x : ring.Ring) → ring.ring_at (get r 1) ≡ Some x → S x
 
 pub writes_append : (S : ring.Ring → Type 0) (ps qs : List Write) → RingWrites S ps → RingWrites S qs → RingWrites S (ps ++ qs)
 writes_append S [] qs h k = k

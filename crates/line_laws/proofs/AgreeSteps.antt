@@ -55,7 +55,7 @@ use Rattle.node_rules.specs.Hearing.{dropped}
 use Rattle.line_laws.specs.Stores.{IsKept}
 use Rattle.line_laws.specs.Sizes.{IsMemorySized}
 use Rattle.line_laws.specs.Owed.{AreOctets, KeepsRanges}
-use Rattle.line_laws.proofs.Readings.{join_ranges}
+use Rattle.joining_messages.proofs.JoinRanges.{read_fits}
 use Rattle.line_laws.proofs.Keeping.{Left}
 use Rattle.line_laws.proofs.Answered.{acts_answered}
 use Rattle.line_laws.proofs.StoreMarks.{accept_is}
@@ -99,9 +99,7 @@ use Rattle.std.proofs.Common.{cond}
 use Rattle.line_laws.proofs.Planned.{planned_failed}
 use Rattle.line_laws.proofs.IssueCoordinator.{coordinator_hears, says_tags, CoordinatorTags}
 use Rattle.line_laws.proofs.AgreeTags.{TagTaken, done_taken}
-
-abbrev pub Confirmed : World → List Pairing → Type 0
-Confirmed w taken = Each (TagTaken w.nodes taken) w.made
+pub use Rattle.line_laws.specs.Agreed.{Confirmed}
 
 -- every node stands where it stood, with its EUI
 pub record Stands (nodes : List Node) (n : ℕ) (x : Node) : Type 0 where
@@ -412,7 +410,7 @@ module _ (ciphers : Ciphers) (fits : KeepsRanges ciphers) (w : World) (ok : Worl
       let kept : IsKept y.role m y.store.records = subst (λ o. Left (IsKept y.role) y.store.records o) here good.kept in
       let session : PeerIs y.eui m.session = subst (λ o. IfSome o (λ (n : Memory). PeerIs y.eui n.session)) here peer in
       (meter_plan y.eui m dropped took_in (λ r. (meter_reception r).took) took_same kept.station.range.ring session _
-      (meter_hears (identity ciphers y psk) m (heard_given got cost note now) kept.station.range.ring session (λ p packet granted are right is. fits.granted psk p packet granted (pair_octets y m psk kept role) are right is) (λ octets join index read e. (join_ranges octets join read).1 index e) got routes.payload refl)).made) in
+      (meter_hears (identity ciphers y psk) m (heard_given got cost note now) kept.station.range.ring session (λ p packet granted are right is. fits.granted psk p packet granted (pair_octets y m psk kept role) are right is) (λ octets join index read e. (read_fits join octets read).index index e) got routes.payload refl)).made) in
       let here : slice_get (slice_set w.nodes number d.node) number ≡ Some d.node = slice_get-set w.nodes number d.node (place_within w.nodes number x there) in
       told_confirmed ciphers (ran w) number x d there (same ∙ eui) taken (one_of (paired number (meter_reception d.answer).took)) c
       (each_weaker (MeterTag y.eui (meter_reception d.answer).took) (TagTaken (slice_set w.nodes number d.node) (taken ++ one_of (paired number (meter_reception d.answer).took)))

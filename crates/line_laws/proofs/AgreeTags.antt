@@ -1,9 +1,8 @@
 -- The tag of a fourth packet names the meter and both random values.
 use Rattle.std.proofs.Common.{◌≡◌, ℕ, true, List, Some, sym, ap, ◌∙◌, subst}
-use Rattle.std.specs.Prelude.{⊤, slice_get}
+use Rattle.std.specs.Prelude.{slice_get}
 use Rattle.std.proofs.lemmas.Bool.{and_parts, eqb-true}
 use Rattle.std.proofs.lemmas.Slice.Eq.{bytes_eq-Decides}
-use Rattle.plc_base.specs.declared.address.Eui.{Eui}
 use Rattle.plc_base.specs.declared.key.Rand.{Rand}
 use Rattle.plc_base.specs.declared.tags.PairTag.{PairTag}
 use Rattle.plc_base.specs.declared.tags.PairTag.TheVariants as tags
@@ -17,6 +16,7 @@ use Rattle.line_rules.specs.Worlds.{Pairing, same_tag}
 use Rattle.line_laws.proofs.IssueWords.{Among, Each, Found, any_found}
 use Rattle.line_laws.proofs.IssueNodes.{AllMade}
 use Rattle.line_laws.proofs.IssueCoordinator.{IsDoneBy}
+pub use Rattle.line_laws.specs.Agreed.{IsTakenBy, TagTaken}
 
 rand_of : List ℕ → Rand
 rand_of octets = record { 0 = octets }
@@ -24,23 +24,6 @@ rand_of octets = record { 0 = octets }
 pub rand_same : (a b : Rand) → a.0 ≡ b.0 → a ≡ b
 unfolding rand_of
 rand_same a b e = ap rand_of e
-
--- What a tag with nonce 1 says of a taking: by the meter of this number, whose EUI it names, with these random values.
-pub record IsTakenBy (nodes : List Node) (taken : List Pairing) (eui : Eui) (rand_p : Rand) (header : List ℕ) : Type 0 where
-  pub number : ℕ
-  pub node : Node
-  pub there : slice_get nodes number ≡ Some node
-  pub names : book.eui_number node.eui ≡ book.eui_number eui
-  pub agreed : Agreed
-  pub chosen : rand_p ≡ agreed.rand_p
-  pub identifier : ℕ
-  pub head : header ≡ fourth_head identifier agreed.rand_s.0
-  pub among : Among (record { node = number; agreed = agreed }) taken
-
-abbrev pub TagTaken : List Node → List Pairing → PairTag → Type 0
-TagTaken nodes taken (tags.MacP eui octets) = ⊤
-TagTaken nodes taken (tags.MacS eui octets) = ⊤
-TagTaken nodes taken (tags.Channel eui rand_p nonce header text) = nonce ≡ 1 → IsTakenBy nodes taken eui rand_p header
 
 -- A joining that was taken by a meter with this EUI, with these random values.
 pub record WasTakenBy (nodes : List Node) (taken : List Pairing) (c : CompletedJoining) : Type 0 where

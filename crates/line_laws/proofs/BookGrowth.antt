@@ -65,10 +65,10 @@ psk_meter x psk = by_role x.role
 
 module _ (ciphers : Ciphers) (fits : KeepsRanges ciphers) (w : World) (ok : WorldOk w) (flown : All FlightFits w.flights) (given : List Issued) (k : Keyed w given) where
   -- the records of the coordinator give a book with each address of the earlier one
-  record BookGrows (y : Node) : Type 0 where
-    book : books.Book
-    kept : IsBookKept book y.store.records
-    grows : Grows k.book book
+  pub record BookGrows (y : Node) : Type 0 where
+    pub book : books.Book
+    pub kept : IsBookKept book y.store.records
+    pub grows : Grows k.book book
 
   good_at : (number : ℕ) (x : Node) → node_at w number ≡ Some x → NodeOk x
   good_at number x there = at_place NodeOk w.nodes number x there ok.nodes
@@ -85,7 +85,7 @@ module _ (ciphers : Ciphers) (fits : KeepsRanges ciphers) (w : World) (ok : Worl
   abbrev own_of : Node → coordinator_rules.CoordinatorIdentity
   own_of c = record { eui = c.eui; ciphers = ciphers }
 
-  quiet_grows : {A : Type 0} (number : ℕ) (x : Node) (halted : A) (plan : Memory → Plan Memory A) → number ≡ 0 → node_at w number ≡ Some x → ((m : Memory) → IsMemorySized m → Quietly m (plan m)) → BookGrows (acts x halted plan).node
+  pub quiet_grows : {A : Type 0} (number : ℕ) (x : Node) (halted : A) (plan : Memory → Plan Memory A) → number ≡ 0 → node_at w number ≡ Some x → ((m : Memory) → IsMemorySized m → Quietly m (plan m)) → BookGrows (acts x halted plan).node
   quiet_grows {A = A} number x halted plan first there q =
       let good = good_at number x there in
       let c = coordinator_at number x first there in
@@ -165,7 +165,7 @@ module _ (ciphers : Ciphers) (fits : KeepsRanges ciphers) (w : World) (ok : Worl
     pub grows : (c : Node) → node_at v 0 ≡ Some c → (b : books.Book) → IsBookKept b c.store.records → Grows k.book b
     pub euis : (n : ℕ) (y : Node) → n < length w.nodes → node_at v n ≡ Some y → (x : Node) × (node_at w n ≡ Some x) × (x.eui ≡ y.eui)
 
-  self_goes : Goes w
+  pub self_goes : Goes w
   self_goes = record {
     grows = λ c there b kept. subst (Grows k.book) (one_book k.book b c.store.records (k.coordinator c there).book_kept kept) (λ u a h. h);
     euis = λ n y lt there. (y, there, refl);
@@ -177,7 +177,7 @@ module _ (ciphers : Ciphers) (fits : KeepsRanges ciphers) (w : World) (ok : Worl
     euis = λ n y lt there. g.euis n y lt (sym (ap (λ ns. slice_get ns n) e) ∙ there);
   }
 
-  told_goes : {A : Type 0} (u v : World) (number : ℕ) (x : Node) (d : NodeStep A) → Goes u → v.nodes ≡ slice_set u.nodes number d.node → node_at u number ≡ Some x → d.node.eui ≡ x.eui → (number ≡ 0 → BookGrows d.node) → Goes v
+  pub told_goes : {A : Type 0} (u v : World) (number : ℕ) (x : Node) (d : NodeStep A) → Goes u → v.nodes ≡ slice_set u.nodes number d.node → node_at u number ≡ Some x → d.node.eui ≡ x.eui → (number ≡ 0 → BookGrows d.node) → Goes v
   told_goes u v number x d g nodes there eui book = record { grows = grows; euis = euis }
     where
       here_is : (y : Node) → node_at v number ≡ Some y → d.node ≡ y

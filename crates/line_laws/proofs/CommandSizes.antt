@@ -1,20 +1,16 @@
 -- What a meter and the coordinator of the network say to each other fits a command, and goes to one node.
-use Rattle.std.proofs.Common.{◌≡◌, ℕ, ◌+◌, ◌≤◌, ◌<◌, List, [], ◌++◌, length, Option, Some, None, subst, arith}
+use Rattle.std.proofs.Common.{◌≡◌, ℕ, ◌≤◌, ◌<◌, length, Option, Some, subst, arith}
 use Rattle.std.specs.Prelude.{All, IfSome, position}
 use Rattle.std.proofs.lemmas.List.{length-append}
 use Rattle.plc_base.specs.Fields.{AreOctets}
-use Rattle.plc_base.specs.Grant.{Granted}
 use Rattle.plc_base.specs.declared.address.Eui.{Eui}
 use Rattle.plc_base.specs.declared.key.Key.{Key}
-use Rattle.plc_base.specs.declared.key.Rand.{Rand}
-use Rattle.aes_modes.proofs.Texts.{length-cmac, length-eax_tag, length-eax_text}
-use Rattle.eap_psk.specs.Keys.{PairKeys, keys_of, mac_p, mac_s, mac_p_text, mac_s_text, nonce_block, channel, channel_text, channel_tag}
-use Rattle.eap_psk.specs.Messages.{head, third_head, fourth_head, granting_text, success_text}
-use Rattle.eap_psk.specs.Sessions.{identifier_of, peer_for, peer_of, tek_of, second_packet, third_packet, fourth_packet}
+use Rattle.eap_psk.proofs.PacketSizes.{first_fits, second_fits, third_fits, fourth_fits}
+use Rattle.eap_psk.specs.Keys.{keys_of}
+use Rattle.eap_psk.specs.Sessions.{identifier_of, peer_for, peer_of}
 use Rattle.eap_psk.specs.declared.peer.Peer.{Peer}
 use Rattle.group_keys.specs.declared.key_book.BookEntry.{BookEntry}
 use Rattle.group_keys.specs.KeyBook as book
-use Rattle.joining_messages.specs.Grants.{IsPlace, key_then}
 use Rattle.joining_messages.specs.Messages.{rest_of}
 use Rattle.joining_messages.specs.declared.message.JoinBody.TheVariants as body
 use Rattle.joining_messages.specs.declared.message.JoinMessage.{JoinMessage}
@@ -27,7 +23,8 @@ use Rattle.node_rules.specs.Memory.{Memory, MeterSession, CoordinatorSession}
 use Rattle.line_laws.specs.Stores.{IsReadable, IsNamed}
 use Rattle.line_laws.proofs.Answered.{booked_low, granted_readable}
 use Rattle.line_laws.proofs.CoordinatorForms.{IsReached, AsHeard, AsSession, AsBooked, IsSaidDown, SaysDecline, SaysChallenge, SaysGrant, SaysAccept, SaysActivate, SaysKick}
-use Rattle.line_laws.proofs.HeardOctets.{WayFits, unread_fits}
+use Rattle.node_rules.specs.OctetLaws.{WayFits}
+use Rattle.line_laws.proofs.HeardOctets.{unread_fits}
 use Rattle.line_laws.proofs.IssueNodes.{place_is}
 use Rattle.line_laws.proofs.Made.{Given}
 use Rattle.line_laws.proofs.MeterForms.{OfOther, Second, Fourth}
@@ -35,7 +32,7 @@ use Rattle.line_laws.proofs.MeterOctets.{part_short, oldest_speaks}
 use Rattle.line_laws.proofs.OctetDrafts.{PeerSpeaks, SessionSpeaks, ServerSpeaks, MemorySpeaks}
 use Rattle.line_laws.proofs.RangeCoordinator.{HasEight, SpeaksWell}
 use Rattle.line_laws.proofs.RangeHeard.{SaysShort}
-use Rattle.line_laws.proofs.Readings.{join_ranges, rest_ranges}
+use Rattle.joining_messages.proofs.JoinRanges.{read_fits}
 use Rattle.line_laws.proofs.StoreBook.{looked_up, stands}
 
 -- # Packets
@@ -43,61 +40,17 @@ use Rattle.line_laws.proofs.StoreBook.{looked_up, stands}
 command_short : (join : JoinMessage) → length join.eui.0 ≡ 8 → length (rest_of join.body) ≤ 365 → length (command_of join) ≤ 375
 command_short join eight rest = let both = length-append join.eui.0 (rest_of join.body) in omega arith
 
-first_short : (meter eui : Eui) (value : Rand) → length value.0 ≤ 16 → length eui.0 ≡ 8 → length (first_packet (server_for meter eui value)) ≤ 365
-first_short meter eui value short eight = let both = length-append (head 1 1 30 0 value.0) eui.0 in omega arith
-
-second_short : (keys : PairKeys) (identifier : ℕ) (peer : Peer) → length peer.rand_s.0 ≤ 16 → length peer.rand_p.0 ≤ 16 → length peer.eui.0 ≡ 8 → length (second_packet keys identifier peer) ≤ 365
-second_short keys identifier peer s p eight =
-    let front : List ℕ = head 2 identifier 62 1 peer.rand_s.0 in
-    let mac : List ℕ = mac_p keys.ak peer.eui.0 peer.id_s.0 peer.rand_s.0 peer.rand_p.0 in
-    let sixteen : length mac ≡ 16 = length-cmac keys.ak (mac_p_text peer.eui.0 peer.id_s.0 peer.rand_s.0 peer.rand_p.0) in
-    let one : length front ≤ 22 = omega arith in
-    omega (arith, length-append front (peer.rand_p.0 ++ (mac ++ peer.eui.0)), length-append peer.rand_p.0 (mac ++ peer.eui.0), length-append mac peer.eui.0)
-
-length-channel : (tek : List ℕ) (nonce : ℕ) (header text : List ℕ) → length (channel tek nonce header text) ≡ 20 + length text
-unfolding channel
-length-channel tek nonce header text =
-    let sealed : List ℕ = channel_text tek nonce text in
-    let tag : List ℕ = channel_tag tek nonce header sealed in
-    omega (arith, length-append tag sealed, length-eax_tag tek (nonce_block nonce) header sealed, length-eax_text tek (nonce_block nonce) text)
-
-places_short : (a b : Option Key) → IsPlace a → IsPlace b → length (key_then 0 a (key_then 1 b [])) ≤ 38
-places_short None None ha hb = omega arith
-places_short None (Some k) ha hb = omega (arith, length-append k.0 [])
-places_short (Some k) None ha hb = omega (arith, length-append k.0 [])
-places_short (Some k) (Some l) ha hb = omega (arith, length-append k.0 (key_then 1 (Some l) []), length-append l.0 [])
-
-third_short : (keys : PairKeys) (identifier : ℕ) (peer : Peer) (granted : Granted) → length peer.rand_s.0 ≤ 16 → IsReadable granted → length (third_packet keys identifier peer granted) ≤ 365
-third_short keys identifier peer granted s readable =
-    let tek : List ℕ = tek_of keys peer.rand_p in
-    let text : List ℕ = granting_text granted in
-    let few : length text ≤ 47 = omega (arith, places_short granted.key0 granted.key1 (place_is granted.key0 readable.key0) (place_is granted.key1 readable.key1)) in
-    let mac : List ℕ = mac_s keys.ak peer.id_s.0 peer.rand_p.0 in
-    let front : List ℕ = third_head identifier peer.rand_s.0 (length text) in
-    let last : List ℕ = channel tek 0 front text in
-    let sixteen : length mac ≡ 16 = length-cmac keys.ak (mac_s_text peer.id_s.0 peer.rand_p.0) in
-    let one : length front ≤ 22 = omega arith in
-    omega (arith, length-append front (mac ++ last), length-append mac last, length-channel tek 0 front text)
-
-fourth_short : (keys : PairKeys) (identifier : ℕ) (peer : Peer) → length peer.rand_s.0 ≤ 16 → length (fourth_packet keys identifier peer) ≤ 365
-fourth_short keys identifier peer s =
-    let tek : List ℕ = tek_of keys peer.rand_p in
-    let front : List ℕ = fourth_head identifier peer.rand_s.0 in
-    let last : List ℕ = channel tek 1 front success_text in
-    let one : length front ≤ 22 = omega arith in
-    omega (arith, length-append front last, length-channel tek 1 front success_text)
-
 -- # A meter
 
 module _ (eui : Eui) (psk : Key) (eight : length eui.0 ≡ 8) (m : Memory) (h : MemorySpeaks m) where
   pub says_short : SaysShort (record { eui = eui; psk = psk; ciphers = network }) m
-  says_short join (OfOther octets other read) = command_short join (join_ranges octets join read).0 (let rest = rest_ranges octets join read in omega arith)
+  says_short join (OfOther octets other read) = command_short join (read_fits join octets read).eui (let rest = (read_fits join octets read).rest in omega arith)
   says_short join (Second packet value here) =
       command_short (message eui (body.Join (network.second psk (identifier_of packet) (peer_for eui value packet)))) eight
-      (second_short (keys_of psk.0) (identifier_of packet) (peer_for eui value packet) (part_short 6 16 packet) (oldest_speaks m value h here).1 eight)
+      (let fits = second_fits (keys_of psk.0) (identifier_of packet) (peer_for eui value packet) (part_short 6 16 packet) (oldest_speaks m value h here).1 eight in omega arith)
   says_short join (Fourth packet s peer there has) =
       let p : PeerSpeaks peer = subst (λ (o : Option Peer). IfSome o PeerSpeaks) has (subst (λ (o : Option MeterSession). IfSome o SessionSpeaks) there h.session) in
-      command_short (message eui (body.Join (network.fourth psk (identifier_of packet) peer))) eight (fourth_short (keys_of psk.0) (identifier_of packet) peer p.2)
+      command_short (message eui (body.Join (network.fourth psk (identifier_of packet) peer))) eight (let fits = fourth_fits (keys_of psk.0) (identifier_of packet) peer p.2 in omega arith)
 
 -- # The coordinator
 
@@ -131,10 +84,12 @@ module _ (eui : Eui) (eight : length eui.0 ≡ 8) (m : Memory) (h : MemorySpeaks
 
   short : (join : JoinMessage) → IsSaidDown HasEight own m join → length (command_of join) ≤ 375
   short join (SaysDecline meter known) = command_short (message meter body.Decline) known (omega arith)
-  short join (SaysChallenge meter value known here) = command_short (message meter (body.Challenge (first_packet (server_for meter eui value)))) known (first_short meter eui value (oldest_speaks m value h here).1 eight)
+  short join (SaysChallenge meter value known here) = command_short (message meter (body.Challenge (first_packet (server_for meter eui value)))) known (let fits = first_fits 1 value.0 eui.0 (oldest_speaks m value h here).1 eight in omega arith)
   short join (SaysGrant s e meter rand_p granted there allowed is) =
       command_short (message s.server.eui (body.Challenge (network.third e.psk s.server rand_p granted))) (named_at meter s there).0
-      (third_short (keys_of e.psk.0) 2 (peer_of s.server rand_p) granted (server_at meter s there).2 (granted_readable m.station.ring m.book s.server.eui granted b.ring b.short is))
+      (let readable = granted_readable m.station.ring m.book s.server.eui granted b.ring b.short is in
+      let fits = third_fits (keys_of e.psk.0) 2 (peer_of s.server rand_p) granted (server_at meter s there).2 (place_is granted.key0 readable.key0) (place_is granted.key1 readable.key1) in
+      omega arith)
   short join (SaysAccept s meter there) = command_short (message s.server.eui (body.Accept 2)) (named_at meter s there).0 (omega arith)
   short join (SaysActivate e meter index allowed) = command_short (message e.eui (body.Activate index)) (entry_at meter e allowed) (omega arith)
   short join (SaysKick e meter allowed) = command_short (message e.eui body.Kick) (entry_at meter e allowed) (omega arith)

@@ -5,7 +5,11 @@ use Rattle.std.specs.Prelude.{if◌then◌else◌, ◌==◌, IfSome}
 use Rattle.std.proofs.lemmas.List.Elements.{All-tail}
 use Rattle.std.proofs.lemmas.Option.{same_Some}
 use Rattle.group_keys.specs.KeyRing as ring
-use Rattle.line_laws.proofs.CipherOctets.{arrived_octets}
+use Rattle.mesh_header.specs.declared.unit.Unit.TheVariants as units
+use Rattle.loadng_messages.proofs.Readings.{message_spelled}
+use Rattle.mesh_header.proofs.UnitOctets.{read_octets as unit_octets}
+use Rattle.joining_messages.proofs.JoinOctets.{read_octets}
+use Rattle.node_rules.proofs.NetworkOpens.{arrived_octets}
 use Rattle.plc_base.specs.Keeper.{Records}
 use Rattle.plc_base.specs.declared.address.Eui.{Eui}
 use Rattle.plc_base.specs.declared.key.Key.{Key}
@@ -28,7 +32,7 @@ use Rattle.node_rules.specs.Drafts.{Ends}
 use Rattle.node_rules.specs.Hearing as station_rules
 use Rattle.node_rules.specs.Hearing.{dropped}
 use Rattle.node_rules.specs.MemoryDrafts.{Unread, unread}
-use Rattle.line_laws.proofs.HeardOctets.{eui_octets, unread_octets}
+use Rattle.line_laws.proofs.HeardOctets.{unread_octets}
 use Rattle.node_rules.specs.MemoryDrafts.{in_memory}
 use Rattle.node_rules.specs.Coordinators as coordinators
 use Rattle.node_rules.specs.NodeSteps.{of_station}
@@ -36,8 +40,7 @@ use Rattle.line_laws.specs.Stores.{IsHeld, IsReadable, IsKept, HasEui, IsPair}
 use Rattle.line_laws.specs.Sizes.{IsMemorySized}
 use Rattle.line_laws.specs.Owed.{AreOctets, KeepsRanges}
 use Rattle.line_laws.proofs.HeadsSaid.{head_ranges}
-use Rattle.line_laws.proofs.RouteRanges.{route_ranges}
-use Rattle.line_laws.proofs.Readings.{join_ranges}
+use Rattle.joining_messages.proofs.JoinRanges.{read_fits}
 use Rattle.line_laws.proofs.Keeping.{leads_beside}
 use Rattle.line_laws.proofs.StoreRanks.{EntryFits}
 use Rattle.line_laws.proofs.StoreFold.{WordFits}
@@ -58,7 +61,7 @@ use Rattle.line_laws.proofs.NodeCalls.{handed_same, RoutesFit, heard_given, call
 
 -- the EUI of a joining message that is heard
 pub heard_euis : (m : Memory) (got : Accepted) (cost note now : ℕ) → RoutesFit got → (u : Unread) (join : JoinMessage) → unread (station_rules.hear m.station got cost note now).answer ≡ Some u → join_in u.body ≡ Some join → HasEui join.eui
-heard_euis m got cost note now routes u join e read = ((join_ranges u.body join read).0, eui_octets u.body join (unread_octets m.station got cost note now u routes.payload e) read)
+heard_euis m got cost note now routes u join e read = ((read_fits join u.body read).eui, (read_octets join u.body (unread_octets m.station got cost note now u routes.payload e) read).eui)
 
 -- a pair key of a line
 abbrev HasPair : Eui → Key → Type 0
@@ -138,7 +141,8 @@ module _ (ciphers : Ciphers) (fits : KeepsRanges ciphers) (octets : List ℕ) (a
   admitted_routes l reads from counter got a = record {
     payload = subst (λ (x : Accepted). AreOctets x.payload) (sym a.got_is) (admitted_octets l reads from counter got a);
     run = λ by all key code body message path unit read.
-        route_ranges a.payload code body message (admitted_octets l reads from counter got a) (ap (λ (x : Accepted). unit_in x.payload) (sym a.got_is) ∙ unit) read;
+        let heard = unit_octets (units.Local code body) a.payload (admitted_octets l reads from counter got a) (ap (λ (x : Accepted). unit_in x.payload) (sym a.got_is) ∙ unit) in
+        (message_spelled message body heard.1 read).0;
   }
 
   plain_routes : (got : Accepted) → IsPlainCame (arrived ciphers octets) got → RoutesFit got

@@ -3,20 +3,20 @@ use Rattle.std.proofs.Common.{◌≡◌, ℕ, ◌≤◌, ◌<◌, Bool, true, fa
 use Rattle.std.specs.Prelude.{IfSome, All, ◌&&◌, nat_lt, is_some, if◌then◌else◌, position}
 use Rattle.std.specs.Option.{option_map, option_map_or, option_and_then}
 use Rattle.std.proofs.lemmas.Option.{same_Some}
-use Rattle.std.proofs.lemmas.List.Elements.{All-nil, All-push, All-set, All-drop, All-filter}
+use Rattle.std.proofs.lemmas.List.Elements.{All-nil, All-tail, All-push, All-set, All-drop, All-filter}
 use Rattle.plc_base.specs.Fields.{AreOctets}
 use Rattle.plc_base.specs.declared.address.Eui.{Eui}
 use Rattle.plc_base.specs.declared.key.Key.{Key}
 use Rattle.plc_base.specs.declared.key.Rand.{Rand}
 use Rattle.plc_base.specs.Grant.{Granted}
 use Rattle.group_keys.specs.declared.key_book.BookEntry.{BookEntry}
+use Rattle.group_keys.specs.Fields.{held_octets}
 use Rattle.group_keys.specs.KeyRing as ring
 use Rattle.group_keys.specs.KeyBook as book
 use Rattle.joining_messages.specs.declared.message.JoinMessage.{JoinMessage}
 use Rattle.joining_messages.specs.declared.message.JoinBody.{JoinBody}
 use Rattle.joining_messages.specs.declared.message.JoinBody.TheVariants as body
 use Rattle.joining_messages.specs.Reading.{join_in}
-use Rattle.eap_psk.specs.Messages.{head}
 use Rattle.eap_psk.specs.Sessions.{rand_p_in, peer_of}
 use Rattle.mesh_header.specs.declared.unit.Unit.{Unit as MeshUnit}
 use Rattle.node_rules.specs.declared.heard.Accepted.{Accepted}
@@ -38,14 +38,18 @@ use Rattle.node_rules.specs.MemoryDrafts.{in_memory, with_memory_by, is_commande
 use Rattle.node_rules.specs.Coordinators.{CoordinatorIdentity, drop_it, is_of, session_of, with_session, without_session, grant_for, says, with_book_entry, declines, opens, challenges, open_session, asked, keys_for, take_second, accepts, take_fourth, take_packet, answered, hear_join, hear_join_in, heard_by, hear_coordinator, orders, allowed_entry, changes, changed, allow, depot_by, depot, rekey, activate_self, challenge_by, challenge_at, challenge, allowed_address, activate_by, activate, kick_goes, kick_by, kick}
 use Rattle.line_laws.specs.Stores.{IsHeld, IsReadable}
 use Rattle.line_laws.proofs.Answered.{booked_low}
-use Rattle.line_laws.proofs.HeardOctets.{WayFits, heard_fits, eui_octets}
+use Rattle.plc_base.proofs.OctetLists.{front}
+use Rattle.joining_messages.specs.Laws.{GrantHasOctets}
+use Rattle.joining_messages.proofs.JoinOctets.{read_octets}
+use Rattle.eap_psk.proofs.PacketOctets.{first_octets, third_octets}
+use Rattle.node_rules.specs.OctetLaws.{WayFits, UnreadFits}
+use Rattle.node_rules.proofs.HeardOctets.{unreads_fit}
 use Rattle.line_laws.proofs.HearingForms.{Handed, MadeOf, hear_is}
 use Rattle.line_laws.proofs.Made.{Given, IsCome, Draws, Activates}
 use Rattle.line_laws.proofs.MeterOctets.{comes_speaking, oldest_speaks}
 use Rattle.line_laws.proofs.NodeCalls.{NoWord, heard_given}
-use Rattle.line_laws.proofs.OctetDrafts.{RandSpeaks, ServerSpeaks, MemorySpeaks, DraftSpeaksIn, PlanSpeaks, UnitSpeaks, choose_speaks, option_speaks, refuses, checked_speaks, sealed_speaks, sealing_speaks, line_speaks, begun_speaks, remembers_speaks, tagged_speaks, entered_speaks, down_speaks, ringed_speaks, commanded_speaks}
+use Rattle.line_laws.proofs.OctetDrafts.{JoinSpeaks, join_speaks, RandSpeaks, ServerSpeaks, MemorySpeaks, DraftSpeaksIn, PlanSpeaks, UnitSpeaks, choose_speaks, option_speaks, refuses, checked_speaks, sealed_speaks, sealing_speaks, line_speaks, begun_speaks, remembers_speaks, tagged_speaks, entered_speaks, down_speaks, ringed_speaks, commanded_speaks}
 use Rattle.line_laws.proofs.Planned.{Planned}
-use Rattle.line_laws.proofs.SpelledOctets.{front, both, JoinSpeaks, join_speaks, head_octets, GrantSpeaks, third_octets}
 use Rattle.line_laws.proofs.StoreBook.{looked_up, stands}
 use Rattle.line_laws.proofs.StoreFold.{WordFits, ring_fits}
 
@@ -53,11 +57,16 @@ use Rattle.line_laws.proofs.StoreFold.{WordFits, ring_fits}
 abbrev pub EntrySpeaks : BookEntry → Type 0
 EntrySpeaks e = AreOctets e.eui.0 × AreOctets e.psk.0
 
+-- a key that is held is octets where its record is
+key_held : (key : Option Key) → AreOctets (held_octets key) → IfSome key (λ k. AreOctets k.0)
+key_held None held = tt
+key_held (Some key) held = All-tail (λ n. n < 256) 1 key.0 held
+
 -- the grant of a meter has the keys of the ring
-grant_speaks : (r : ring.Ring) (address : Option ℕ) (granted : Granted) → IfSome r IsReadable → option_and_then (λ a. option_map (λ (g : Granted). record g { address = a }) r) address ≡ Some granted → GrantSpeaks granted
+grant_speaks : (r : ring.Ring) (address : Option ℕ) (granted : Granted) → IfSome r IsReadable → option_and_then (λ a. option_map (λ (g : Granted). record g { address = a }) r) address ≡ Some granted → GrantHasOctets granted
 grant_speaks r None granted reads e = absurd (cc)
 grant_speaks None (Some a) granted reads e = absurd (cc)
-grant_speaks (Some g) (Some a) granted reads e = subst GrantSpeaks (same_Some (record g { address = a }) granted e) (record { active = reads.grant.index; key0 = reads.key0.1; key1 = reads.key1.1 })
+grant_speaks (Some g) (Some a) granted reads e = subst GrantHasOctets (same_Some (record g { address = a }) granted e) (record { active = let low = reads.grant.index in omega arith; key0 = key_held g.key0 reads.key0.1; key1 = key_held g.key1 reads.key1.1 })
 
 module _ (eui : Eui) (own : AreOctets eui.0) (m : Memory) (h : MemorySpeaks m) (reads : IfSome m.station.ring IsReadable) (booked : All EntrySpeaks m.book) (now : ℕ) where
   abbrev self : CoordinatorIdentity
@@ -111,8 +120,7 @@ module _ (eui : Eui) (own : AreOctets eui.0) (m : Memory) (h : MemorySpeaks m) (
 
   -- the first packet
   first_speaks : (meter : Eui) (value : Rand) → AreOctets meter.0 → RandSpeaks value → JoinSpeaks (message meter (body.Challenge (first_packet (server_for meter eui value))))
-  first_speaks meter value named is = join_speaks meter (body.Challenge (first_packet (server_for meter eui value))) named
-      (both (head 1 1 30 0 value.0) eui.0 (head_octets 1 1 30 0 value.0 (omega arith) (omega arith) (omega arith) is.0) own)
+  first_speaks meter value named is = join_speaks meter (body.Challenge (first_packet (server_for meter eui value))) named (first_octets 1 value.0 eui.0 (omega arith) is.0 own)
 
   declines_is : (way : Way) (meter : Eui) → AreOctets meter.0 → PlanSpeaks (declines m way (message meter body.Decline) now)
   declines_is way meter named = checked_speaks m h _ (λ e. sealed_speaks m h _ _ _ (says_speaks way (message meter body.Decline) (empty_draft m) (join_speaks meter body.Decline named none) begun))
@@ -132,11 +140,11 @@ module _ (eui : Eui) (own : AreOctets eui.0) (m : Memory) (h : MemorySpeaks m) (
 
   -- # Packets
 
-  keys_is : (s : CoordinatorSession) (e : BookEntry) (rand_p : Rand) (granted : Granted) → ServerSpeaks s → EntrySpeaks e → GrantSpeaks granted → PlanSpeaks (keys_for self m s e rand_p granted now)
+  keys_is : (s : CoordinatorSession) (e : BookEntry) (rand_p : Rand) (granted : Granted) → ServerSpeaks s → EntrySpeaks e → GrantHasOctets granted → PlanSpeaks (keys_for self m s e rand_p granted now)
   keys_is s e rand_p granted k pair g = checked_speaks m h _ (λ lacks.
       let t : CoordinatorSession = record s { server = record s.server { rand_p = Some rand_p } } in
       let said : JoinSpeaks (message s.server.eui (body.Challenge (network.third e.psk s.server rand_p granted)))
-      = join_speaks s.server.eui (body.Challenge (network.third e.psk s.server rand_p granted)) k.0 (third_octets e.psk.0 pair.1 (peer_of s.server rand_p) granted k.1 g) in
+      = join_speaks s.server.eui (body.Challenge (network.third e.psk s.server rand_p granted)) k.0 (third_octets e.psk.0 2 (peer_of s.server rand_p) granted pair.1 (omega arith) k.1 g) in
       sealed_speaks m h _ _ _ (says_speaks s.way (message s.server.eui (body.Challenge (network.third e.psk s.server rand_p granted))) _ said
       (tagged_speaks _ _ (with_book_entry (book.issued_entry s.server.eui granted e) (with_memory_by (with_session t) (empty_draft m)))
       (entered_speaks (book.issued_entry s.server.eui granted e) (with_memory_by (with_session t) (empty_draft m)) (answered_speaks t (k.0, k.1, k.2, k.3))))))
@@ -170,9 +178,9 @@ module _ (eui : Eui) (own : AreOctets eui.0) (m : Memory) (h : MemorySpeaks m) (
 
   join_in_is : (octets : List ℕ) (way : Way) (join : Option JoinMessage) → AreOctets octets → WayFits way → join_in octets ≡ join → PlanSpeaks (hear_join_in self m way join now)
   join_in_is octets way None are near read = refuses m h _ _
-  join_in_is octets way (Some join) are near read = choose_speaks (λ may. join_is way join.eui join.body (eui_octets octets join are read) near) (λ other. refuses m h _ _)
+  join_in_is octets way (Some join) are near read = choose_speaks (λ may. join_is way join.eui join.body (read_octets join octets are read).eui near) (λ other. refuses m h _ _)
 
-  heard_by_is : (g : Given) → ((by : ℕ) (all : Bool) (u : MeshUnit) → IsCome g by all u → UnitSpeaks u) → (p : Plan StationMemory (Result Heard Dropped)) (u : Option Unread) → IfSome u (λ (v : Unread). AreOctets v.body × WayFits v.way)
+  heard_by_is : (g : Given) → ((by : ℕ) (all : Bool) (u : MeshUnit) → IsCome g by all u → UnitSpeaks u) → (p : Plan StationMemory (Result Heard Dropped)) (u : Option Unread) → IfSome u UnreadFits
       → Planned alone dropped m.station (Handed g m.station) (MadeOf NoWord g m.station) p → PlanSpeaks (heard_by self m now p u)
   heard_by_is g comes p None b s = line_speaks g comes m h reads heard.Station p s
   heard_by_is g comes p (Some u) b s = join_in_is u.body u.way (join_in u.body) b.0 b.1 refl
@@ -180,7 +188,7 @@ module _ (eui : Eui) (own : AreOctets eui.0) (m : Memory) (h : MemorySpeaks m) (
   pub coordinator_speaks : (got : Accepted) (cost note : ℕ) → AreOctets got.payload → PlanSpeaks (hear_coordinator self m got cost note now)
   coordinator_speaks got cost note are =
       let p = station_rules.hear m.station got cost note now in
-      heard_by_is (heard_given got cost note now) (comes_speaking got cost note now are) p (unread p.answer) (heard_fits m.station got cost note now are) (hear_is NoWord (heard_given got cost note now) m.station got refl)
+      heard_by_is (heard_given got cost note now) (comes_speaking got cost note now are) p (unread p.answer) (unreads_fit m.station got cost note now are) (hear_is NoWord (heard_given got cost note now) m.station got refl)
 
   -- # Orders
 

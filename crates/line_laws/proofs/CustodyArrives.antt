@@ -1,11 +1,10 @@
 -- Octets that arrive, and are not forged, change no datagram: all flights, bodies and pieces stay of their sends, and so is what is handed up.
 use Rattle.std.proofs.Common.{◌≡◌, ℕ, false, List, [], ◌∷◌, map, Option, Some, None, Result, Ok, Err, refl, sym, ◌∙◌, subst, arith}
-use Rattle.std.specs.Prelude.{All, IfSome, slice_set, ⊤}
+use Rattle.std.specs.Prelude.{All, slice_set, ⊤}
 use Rattle.std.proofs.lemmas.Bool.{or_parts}
 use Rattle.std.proofs.lemmas.Option.{same_Some, none-some, slice_get_within, get_or_from_slice_get}
 use Rattle.std.proofs.lemmas.List.Elements.{All-nil, All-cons, All-head, All-tail, All-append}
 use Rattle.plc_base.specs.declared.key.Key.{Key}
-use Rattle.mesh_header.specs.declared.unit.Unit.{Unit as MeshUnit}
 use Rattle.node_rules.specs.declared.heard.Accepted.{Accepted}
 use Rattle.node_rules.specs.declared.heard.Heard.{Heard}
 use Rattle.node_rules.specs.declared.heard.Heard.TheVariants as heard_as
@@ -27,11 +26,10 @@ use Rattle.node_rules.specs.Meters as meters
 use Rattle.node_rules.specs.Coordinators as coordinators
 use Rattle.node_rules.specs.NodeSteps.{NodeStep, acts, of_station, answering}
 use Rattle.line_rules.specs.Steps.{identity, hears, note_by, told, ran, trace_of, happened, flights_of, flight_by, handed_by, heard, arrives}
-use Rattle.line_rules.specs.Worlds.{Flight, Trace, World}
+use Rattle.line_rules.specs.Worlds.{Trace, World}
 use Rattle.line_rules.specs.declared.happenings.Handed.{Handed}
 use Rattle.node_rules.specs.Ciphers.{OpensWhatItSeals}
 use Rattle.line_laws.specs.Letters.{AreFlights}
-use Rattle.line_laws.specs.Places.{unit_of}
 use Rattle.line_laws.specs.Sends.{SentAs, UnitIsOf, UpIsOf}
 use Rattle.line_laws.proofs.StoreMarks.{Accepts, Turned, Plain, Marked, accept_is}
 use Rattle.line_laws.proofs.NodeCalls.{heard_given}
@@ -42,14 +40,7 @@ use Rattle.line_laws.proofs.CustodyWorld.{unit_back}
 use Rattle.line_laws.proofs.CustodyTaking.{TakesHome, taking_true}
 use Rattle.line_laws.proofs.CustodyDeliver.{WhatCame, PlainCame, LetterCame, opening}
 use Rattle.line_laws.proofs.CustodyTrue.{SentIsOf, StationIsTrue, PlanIsTrue, AnswerIsOf, MeterUpIsOf, CoordinatorUpIsOf, HearsTrue, letter_true, plain_true, coordinator_hears_true, DidTrue, acts_true}
-
--- A flight with a note is of the send of that note.
-pub record FlightIsOf (ciphers : Ciphers) (S : ℕ → SentAs → Type 0) (f : Flight) : Type 0 where
-  pub unit : (u : MeshUnit) → unit_of ciphers f ≡ Some u → UnitIsOf S f.note u
-
--- what a node of this address holds is of the sends
-abbrev pub NodeTrue : (ℕ → SentAs → Type 0) → ℕ → Node → Type 0
-NodeTrue S own x = IfSome x.memory (λ (m : Memory). StationIsTrue S own m.station)
+pub use Rattle.line_laws.specs.InCustody.{FlightIsOf, NodeTrue}
 
 -- A datagram that was handed up under a note is that of a send to this address.
 pub record HandedIsOf (S : ℕ → SentAs → Type 0) (own note : ℕ) (octets : List ℕ) : Type 0 where

@@ -40,7 +40,7 @@ use Rattle.line_laws.proofs.CoordinatorForms as coordinator
 use Rattle.line_laws.proofs.CoordinatorForms.{IsReached, IsSaidDown}
 use Rattle.line_laws.proofs.CallForms.{Few, Nothing, send_is, install_is, near_is, random_is}
 use Rattle.line_laws.proofs.NodeCalls.{NoGrant, NoPair, NoEui, NoWord, call_given, near_given, no_some}
-use Rattle.line_laws.proofs.Readings.{join_ranges}
+use Rattle.joining_messages.proofs.JoinRanges.{read_fits}
 use Rattle.line_laws.proofs.StoreFold.{WordFits}
 use Rattle.line_laws.proofs.RangeFold.{InRange}
 use Rattle.line_laws.proofs.RangeFrames.{IsSent}
@@ -152,7 +152,7 @@ module _ (now : ℕ) (x : meters.Identity) (m : Memory) where
   meter_words : (w : RingWord) → RingCause (call_given 0 0 now) x m w → WordFits w
   meter_words w (ToCoordinator join said) = omega arith
   meter_words w (ByPacket granted taken) = absurd (no_some _ taken.came.brought.is)
-  meter_words w (ByOrder index told) = (join_ranges told.octets told.join told.read).1 index told.body
+  meter_words w (ByOrder index told) = (read_fits told.join told.octets told.read).index index told.body
 
   meter_known : (S : ℕ → SentAs → Type 0) (own : ℕ) → Known S (RingCause (call_given 0 0 now) x m) (call_given 0 0 now) own
   meter_known S own = record { comes = λ by u c. absurd (no_some _ c.is); carries = by_cause; installs = by_install }

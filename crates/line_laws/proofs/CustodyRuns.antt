@@ -73,14 +73,9 @@ use Rattle.line_laws.proofs.StoreFold.{WordFits}
 use Rattle.line_laws.proofs.StoreMarks.{accept_is}
 use Rattle.line_laws.proofs.Tellings.{IsBrought, step_is}
 use Rattle.line_laws.proofs.Worlds.{FlightFits, WorldOk, at_place}
+pub use Rattle.line_laws.specs.InCustody.{SentUnder}
 
 -- # Sends by their numbers
-
--- under a note there was the send of this number
-pub record SentUnder (home : ℕ → ℕ) (sent : List Sending) (note : ℕ) (s : SentAs) : Type 0 where
-  pub sending : Sending
-  pub is : send_at sent note ≡ Some sending
-  pub of : sent_as home sending ≡ s
 
 at_number : (sent : List Sending) (note : ℕ) (s : Sending) → send_at sent note ≡ Some s → (0 < note) × (slice_get sent (note - 1) ≡ Some s)
 at_number sent note s = by_test (note == 0) refl

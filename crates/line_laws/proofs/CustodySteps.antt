@@ -72,14 +72,11 @@ use Rattle.line_laws.proofs.StepsOk.{coordinator_acts, read_again}
 use Rattle.line_laws.proofs.TagRuns.{at_end}
 use Rattle.line_laws.proofs.Tellings.{IsAddressed, IsAddressedAt, workshop, IsAsked, AskRandom, AskJoin, AskLeave, AskRekey, AskTurn, AskChallenge, AskActivate, AskKick, IsMade, OfCoordinator, OfMeter, IsPreset, OfCounter, OfNumber, IsBrought, IsStep, Fails, Makes, Rests, Shows, Acts, BreaksLink, SendsFrom, AllowsMeter, Sets, SetsTwo, Provides, TurnsDown, Hears, Loses, Ticks, Restarts, Cuts}
 use Rattle.line_laws.proofs.Worlds.{NodeFits, WorldOk, at_place, within}
+pub use Rattle.line_laws.specs.InCustody.{sent_as}
 
 -- a ring, if there is one, has this address
 abbrev pub AtHome : ℕ → ring.Ring → Type 0
 AtHome own r = IfSome r (λ (g : Granted). g.address ≡ own)
-
--- a send as one from an address to another
-abbrev pub sent_as : (ℕ → ℕ) → Sending → SentAs
-sent_as home s = record { origin = home s.from; to = home s.to; octets = s.datagram; tag = s.tag }
 
 -- the address of a meter in the coordinator's book is that of its home
 pub record HomedAt (home : ℕ → ℕ) (w : World) : Type 0 where
@@ -138,7 +135,7 @@ module _ (ciphers : Ciphers) (opens : OpensWhatItSeals ciphers) (S : ℕ → Sen
     all_fall : (u v : World) → LiveFalls (λ _ f. L f) u v None
     all_fall u v = record { falls = λ f h. h; passes = λ place f e. absurd (no_some place e) }
 
-    ran_at : (w : World) → At w → At (ran w)
+    pub ran_at : (w : World) → At w → At (ran w)
     ran_at w c = record { flights = c.flights; ranged = c.ranged; sent = c.sent; nodes = c.nodes; places = record { at_most = c.places.at_most } }
 
     set_at : (w : World) → At w → At (set_up w)
@@ -156,7 +153,7 @@ module _ (ciphers : Ciphers) (opens : OpensWhatItSeals ciphers) (S : ℕ → Sen
           (custody_after ciphers (λ _ f. L f) n i u v x d.node (flights_of ciphers number d) before [] None 0 node (all_fall u v) (record { kept = omega arith }) (omega arith) (c.at_most n i some));
     }
 
-    told_at : {A : Type 0} (u : World) (number : ℕ) (x : Node) (d : NodeStep A) → At u → slice_get u.nodes number ≡ Some x → DidClean S (home number) x d → At (told ciphers u number d)
+    pub told_at : {A : Type 0} (u : World) (number : ℕ) (x : Node) (d : NodeStep A) → At u → slice_get u.nodes number ≡ Some x → DidClean S (home number) x d → At (told ciphers u number d)
     told_at u number x d c here did = at_of (told ciphers u number d) (told_rest u number x d (rest_of u c) here did.ranged did.fits did.station did.frames) (told_places u number x d c.places here did)
 
 -- what was live may be live no more

@@ -26,8 +26,7 @@ use Rattle.line_rules.specs.Steps.{identity, hears, note_by, forged_by, arrives,
 use Rattle.line_rules.specs.Worlds.{Flight, Trace, World, is_forged_tag}
 use Rattle.line_rules.specs.declared.happenings.Handed.{Handed}
 use Rattle.node_rules.specs.Ciphers.{OpensWhatItSeals}
-use Rattle.line_laws.specs.Letters.{AreFlights}
-use Rattle.line_laws.specs.Places.{IsInCustody, LiveFalls, opened_at}
+use Rattle.line_laws.specs.Places.{LiveFalls, opened_at}
 use Rattle.line_laws.specs.Sends.{SentAs, HeldIsOf}
 use Rattle.line_laws.proofs.Made.{IsCome, Given}
 use Rattle.line_laws.proofs.NodeCalls.{heard_given}
@@ -39,7 +38,8 @@ use Rattle.line_laws.proofs.CustodyWhole.{OneSend}
 use Rattle.line_laws.proofs.CustodyTaking.{TakesHome}
 use Rattle.line_laws.proofs.CustodyTrue.{StationIsTrue, HearsTrue, DidTrue, acts_true}
 use Rattle.line_laws.proofs.CustodyDeliver.{opening, arrival_in_custody}
-use Rattle.line_laws.proofs.CustodyArrives.{FlightIsOf, NodeTrue, HandedIsOf, accepts_true, came_true, arrives_true}
+use Rattle.line_laws.proofs.CustodyArrives.{NodeTrue, HandedIsOf, accepts_true, came_true, arrives_true}
+pub use Rattle.line_laws.specs.InCustody.{Custody}
 
 -- two sends in pieces from one origin under one tag are one send
 abbrev pub TagsDiffer : (ℕ → SentAs → Type 0) → Type 0
@@ -60,14 +60,6 @@ agrees_true S differ own g l comes all = record { name = λ by mesh piece c. eac
           differ r.note g.note h.sent x.sent h.is x.is h.content.long x.content.long (h.from ∙ sym origin ∙ sym x.from) (h.content.tag ∙ sym tag ∙ sym x.content.tag),
       each by mesh piece c held (All-tail (HeldIsOf S own) r held all),
     )
-
--- What holds of a world, its sends and what was handed up: at each node's number its address.
-pub record Custody (ciphers : Ciphers) (live : World → Flight → Bool) (S : ℕ → SentAs → Type 0) (home : ℕ → ℕ) (w : World) (ups : List Handed) : Type 0 where
-  pub flights : AreFlights ciphers w.flights
-  pub ranged : All NodeRanged w.nodes
-  pub sent : All (FlightIsOf ciphers S) w.flights
-  pub nodes : (number : ℕ) (x : Node) → slice_get w.nodes number ≡ Some x → NodeTrue S (home number) x
-  pub places : IsInCustody ciphers live w ups
 
 module _ (ciphers : Ciphers) (opens : OpensWhatItSeals ciphers) (live : World → Flight → Bool) (S : ℕ → SentAs → Type 0) (one : OneSend S) (differ : TagsDiffer S) (home : ℕ → ℕ) (w : World) (before : List Handed) (c : Custody ciphers live S home w before)
     (number : ℕ) (x : Node) (here : slice_get w.nodes number ≡ Some x) (octets : List ℕ) (cost : ℕ) where

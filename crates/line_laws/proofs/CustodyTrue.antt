@@ -32,7 +32,7 @@ use Rattle.node_rules.specs.Laws.{IsWhole, IsCutOff}
 use Rattle.node_rules.specs.NodeSteps.{NodeStep, acts, stays, left_by}
 use Rattle.node_rules.proofs.Writing.{clean}
 use Rattle.line_laws.specs.Letters.{IsLetter}
-use Rattle.line_laws.specs.Sends.{SentAs, UnitIsOf, LoadIsOf, OutIsOf, BodyIsOf, HeldIsOf, UpIsOf}
+use Rattle.line_laws.specs.Sends.{SentAs, UnitIsOf, LoadIsOf, OutIsOf, HeldIsOf, UpIsOf}
 use Rattle.line_laws.proofs.Planned.{Planned, Refuses, Keeps, Ended}
 use Rattle.line_laws.proofs.LetterAccepts.{IsOfLetter}
 use Rattle.line_laws.proofs.Made.{Given, IsCome, RingWord, Carry, Install, Made, Starts, Ranks, Numbers, Tags as TagsOn, Rings, Idles, Loses, Goes, Sends, Waits, Leaves}
@@ -47,18 +47,13 @@ use Rattle.line_laws.proofs.RangeHeard.{comes_of}
 use Rattle.line_laws.proofs.CustodyPlans.{Agrees}
 use Rattle.line_laws.proofs.CustodySame.{Known, made_true}
 use Rattle.line_laws.proofs.CustodyWhole.{OneSend, handed_of}
+pub use Rattle.line_laws.specs.InCustody.{StationIsTrue}
 
 -- a letter is of the send of its note
 abbrev pub SentIsOf : (ℕ → SentAs → Type 0) → Sent → Type 0
 SentIsOf S (Sealed l) = UnitIsOf S l.note l.unit
 SentIsOf S (Up agent from message) = ⊤
 SentIsOf S (Down from message) = ⊤
-
--- What a node of this address holds is of the sends.
-pub record StationIsTrue (S : ℕ → SentAs → Type 0) (own : ℕ) (l : StationMemory) : Type 0 where
-  pub address : (a : ℕ) → address_of l ≡ Some a → a ≡ own
-  pub bodies : All (BodyIsOf S own) l.waiting
-  pub held : All (HeldIsOf S own) l.reassemblies
 
 module _ (S : ℕ → SentAs → Type 0) (own : ℕ) where
   -- what is gathered comes and goes with no word but that a ring goes

@@ -150,7 +150,7 @@ none_new w v e = subst (λ n. All (HasSender v) (drop n v.flights)) e (subst (Al
 
 module _ (ciphers : Ciphers) where
   -- one node told what it did
-  told_senders : {A : Type 0} (w u v : World) (number : ℕ) (x : Node) (d : NodeStep A) → u.flights ≡ w.flights → u.nodes ≡ w.nodes → v.nodes ≡ (told ciphers u number d).nodes → v.flights ≡ (told ciphers u number d).flights → node_at w number ≡ Some x
+  pub told_senders : {A : Type 0} (w u v : World) (number : ℕ) (x : Node) (d : NodeStep A) → u.flights ≡ w.flights → u.nodes ≡ w.nodes → v.nodes ≡ (told ciphers u number d).nodes → v.flights ≡ (told ciphers u number d).flights → node_at w number ≡ Some x
       → AreFrom (node_address d.node) d.frames → ((a : ℕ) → node_address d.node ≡ Some a → a < 0xFFFE) → NewSenders w v
   unfolding told
   told_senders w u v number x d fs ns vn vf there from low =

@@ -35,6 +35,7 @@ use Rattle.line_laws.proofs.Planned.{Planned, Refuses, Keeps, Ended}
 use Rattle.line_laws.proofs.Made.{RingWord, Given, Made, Starts, Ranks, Numbers, Tags, Rings, Idles, Loses, Goes, Sends, Waits, Leaves}
 use Rattle.line_laws.proofs.MadeIn.{MadeIn, Begins, Station, OnStation, Remembers, Tags as TagsIn, Enters, Up as UpIn, Down as DownIn}
 use Rattle.line_laws.proofs.StorePlans.{made_in_counter}
+pub use Rattle.line_laws.specs.Lines.{next_of, frontier}
 
 -- # No write lowers the limit
 
@@ -111,7 +112,7 @@ entry_high floor b e = by_holding (book.holds b e)
     by_holding true = tt
     by_holding false = (Elsewhere (omega arith), tt)
 
-reserve_high : (c : counter.Counting) (count floor : ℕ) → floor ≤ c.limit → c.limit < 2 ^ 32 → High floor (puts_of (counter.reserve_write c count))
+pub reserve_high : (c : counter.Counting) (count floor : ℕ) → floor ≤ c.limit → c.limit < 2 ^ 32 → High floor (puts_of (counter.reserve_write c count))
 reserve_high c count floor low fits = by_due (counter.passes c count)
   where
     by_due : (b : Bool) → High floor (puts_of (if b then counter.limit_write (counter.raised c.limit) else None))
@@ -180,7 +181,7 @@ letters_numbered : (g : Granted) (key : Key) (first last : ℕ) (units : List Ou
 letters_numbered g key first last [] h = omega arith
 letters_numbered g key first last (o ∷ rest) h = (omega arith, letters_numbered g key (first + 1) last rest (omega arith))
 
-sealed_numbered : (r : ring.Ring) (first last : ℕ) (units : List Outgoing) → first + length units ≤ last → Numbered first last (sealed_by r first units)
+pub sealed_numbered : (r : ring.Ring) (first last : ℕ) (units : List Outgoing) → first + length units ≤ last → Numbered first last (sealed_by r first units)
 sealed_numbered None first last units h = omega arith
 sealed_numbered (Some g) first last units h = by_key (sealing_key g)
   where
@@ -242,14 +243,6 @@ plan_rises W L P E g m ends K D same made p (Ended d answer done left) fits =
       with_own_number = plain_numbered d.plain _ m.station.counter.next (d.memory.station.counter.next + length d.units) (made_in_plain W L P E g m d x)
           (subst (λ n. Numbered m.station.counter.next (n + length d.units) (sealed_by d.memory.station.ring n d.units)) (sym next) (sealed_numbered d.memory.station.ring m.station.counter.next (m.station.counter.next + length d.units) d.units (omega arith)));
     }
-
--- the counter that comes next, or what a halted node would go on from
-abbrev pub next_of : Option Memory → Records → ℕ
-next_of None r = counter.stored_limit r
-next_of (Some m) r = m.station.counter.next
-
-abbrev pub frontier : Node → ℕ
-frontier x = next_of x.memory x.store.records
 
 pub same_low : (n : ℕ) → n ≤ n
 same_low n = omega arith

@@ -12,6 +12,7 @@ use Rattle.mesh_header.specs.Grammar.{spelling}
 use Rattle.plc_base.specs.declared.address.TheConstants.{PAN}
 use Rattle.byteorder.specs.Endian.{little_bytes, little_from}
 use Rattle.plc_base.specs.Fields.{octet, little_two, little_four}
+use Rattle.plc_base.proofs.NumbersOfOctets.{below}
 use Rattle.plc_base.proofs.Places.{octet_behind, little_two_behind, little_four_behind}
 use Rattle.plc_base.specs.declared.address.Eui.{Eui}
 use Rattle.joining_messages.specs.declared.message.JoinMessage.{JoinMessage}
@@ -90,25 +91,20 @@ number_low xs low =
     let d : slice_index xs 3 < 256 = low 3 in
     omega arith
 
-pub all_low : (xs : List ℕ) → All (λ x. x < 256) xs → (k : ℕ) → slice_index xs k < 256
-all_low [] all k = omega arith
-all_low (x ∷ xs) all zero = all 0 x (omega arith)
-all_low (x ∷ xs) all (suc k) = all_low xs (λ i d lt. all (suc i) d (omega arith)) k
-
-pub rest_low : (n : ℕ) (xs : List ℕ) → ((k : ℕ) → slice_index xs k < 256) → (k : ℕ) → slice_index (drop n xs) k < 256
+rest_low : (n : ℕ) (xs : List ℕ) → ((k : ℕ) → slice_index xs k < 256) → (k : ℕ) → slice_index (drop n xs) k < 256
 rest_low zero xs low k = low k
 rest_low (suc n) [] low k = omega arith
 rest_low (suc n) (x ∷ xs) low k = rest_low n xs (λ i. low (suc i)) k
 
 four_low : (at : ℕ) (octets : List ℕ) → All (λ x. x < 256) octets → little_four at octets < 2 ^ 32
 unfolding little_four
-four_low at octets all = number_low (drop at octets) (rest_low at octets (all_low octets all))
+four_low at octets all = number_low (drop at octets) (rest_low at octets (below octets all))
 
-pub then_none : {F : Type 0} (a b : Option F) → (a then b) ≡ None → (a ≡ None) × (b ≡ None)
+then_none : {F : Type 0} (a b : Option F) → (a then b) ≡ None → (a ≡ None) × (b ≡ None)
 then_none None b e = (refl, e)
 then_none (Some f) b e = absurd (cc)
 
-pub when_none : {F : Type 0} (f : F) (t : Bool) → (Some f when t) ≡ None → t ≡ false
+when_none : {F : Type 0} (f : F) (t : Bool) → (Some f when t) ≡ None → t ≡ false
 when_none f true e = absurd (cc)
 when_none f false e = refl
 

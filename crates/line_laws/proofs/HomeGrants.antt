@@ -41,7 +41,10 @@ use Rattle.line_laws.proofs.AddressBook.{one_book}
 use Rattle.line_laws.proofs.Answered.{acts_answered}
 use Rattle.line_laws.proofs.BookGrowth.{psk_meter}
 use Rattle.line_laws.proofs.CoordinatorCalls.{accept_ok, accept_failed, accepted_routes, depot_ok, depot_failed}
-use Rattle.line_laws.proofs.HeardOctets.{BodyOctets, unread_octets, join_octets}
+use Rattle.joining_messages.specs.declared.message.JoinBody.{JoinBody}
+use Rattle.joining_messages.specs.Messages.{rest_of}
+use Rattle.joining_messages.proofs.JoinOctets.{read_octets}
+use Rattle.line_laws.proofs.HeardOctets.{unread_octets}
 use Rattle.line_laws.proofs.Homed.{TakenFrom, IsTagged, TakesItsOwn}
 use Rattle.line_laws.proofs.Homes.{homes_of, meter_home}
 use Rattle.line_laws.proofs.IssueCalls.{accept_quietly, depot_coordinator}
@@ -119,7 +122,7 @@ module _ (ciphers : Ciphers) (fits : KeepsRanges ciphers) (w : World) (ok : Worl
       packet_octets : AreOctets t.packet
       packet_octets =
           let body : AreOctets t.unread_is.body = unread_octets m.station got cost (note_by w octets got.path) w.clock t.unread_is (payload_octets got e) t.frame in
-          subst BodyOctets t.challenge (join_octets t.unread_is.body t.join body t.read)
+          subst (λ (b : JoinBody). AreOctets (rest_of b)) t.challenge (read_octets t.join t.unread_is.body body t.read).rest
 
       readable : IsReadable granted
       readable = fits.granted psk t.peer t.packet granted (pair_octets y m psk (node_kept y m did.node here) role) packet_octets t.right t.is

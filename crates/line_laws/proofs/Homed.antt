@@ -1,5 +1,5 @@
 -- The homes of nodes: the address that each has for good, and that a grant which a meter takes has its home.
-use Rattle.std.specs.Prelude.{◌≡◌, ℕ, ◌<◌, false, List, Option, Some, None, Result, Ok, Err}
+use Rattle.std.specs.Prelude.{◌≡◌, ℕ, ◌<◌, false, List, Some, None, Result, Ok, Err}
 use Rattle.std.specs.List.{list_any}
 use Rattle.plc_base.specs.declared.key.Key.{Key}
 use Rattle.plc_base.specs.declared.tags.PairTag.{PairTag}
@@ -31,12 +31,9 @@ use Rattle.line_rules.specs.Steps.{identity, hears, psk_of, note_by}
 use Rattle.line_rules.specs.Worlds.{World, node_at, is_forged_tag}
 use Rattle.line_laws.specs.Owed.{AreOctets}
 use Rattle.line_laws.proofs.IssueWords.{Among}
+pub use Rattle.line_laws.specs.Ranked.{Homes}
 
 -- # Addresses
-
--- A home gives each node the address that is its own, also while it is halted or has left; a node without one never had an address.
-abbrev pub Homes : Type 0
-Homes = ℕ → Option ℕ
 
 -- What the part of addresses says: each address that a node has is its home, and no two nodes have one home.
 pub record Addressed (h : Homes) (w : World) : Type 0 where

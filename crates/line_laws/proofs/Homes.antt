@@ -15,11 +15,7 @@ use Rattle.line_laws.proofs.IssueWorlds.{Keyed}
 use Rattle.line_laws.proofs.Worlds.{WorldOk, within as place_within}
 use Rattle.line_laws.proofs.Homed.{Homes, Addressed}
 use Rattle.line_laws.proofs.Homed as homed
-
--- the home of each node that is there
-unfoldable pub homes_of : books.Book → World → Homes
-homes_of b w i =
-    if i == 0 then option_map (λ (x : Node). 0) (node_at w 0) else option_and_then (λ (x : Node). books.address_of b x.eui) (node_at w i)
+pub use Rattle.line_laws.specs.Ranked.{homes_of}
 
 first_home : (b : books.Book) (w : World) (c : Node) → node_at w 0 ≡ Some c → homes_of b w 0 ≡ Some 0
 unfolding homes_of

@@ -41,12 +41,15 @@ use Rattle.node_rules.specs.Meters.{Hearing, Identity, with_session, drop_it, en
 use Rattle.node_rules.proofs.MemoryDraftShapes.{whole}
 use Rattle.line_laws.specs.Stores.{IsReadable}
 use Rattle.line_laws.specs.Owed.{AreOctets}
-use Rattle.line_laws.proofs.HeardOctets.{BodyOctets, heard_octets, join_octets}
+use Rattle.joining_messages.specs.Messages.{rest_of}
+use Rattle.joining_messages.proofs.JoinOctets.{read_octets}
+use Rattle.line_laws.proofs.HeardOctets.{heard_octets}
 use Rattle.line_laws.proofs.Planned.{Planned, Refuses, Keeps, Ended, checked_planned, choose_planned, sealed_planned, option_planned, sealing_planned}
 use Rattle.line_laws.proofs.Made.{RingWord, RingChange, Drops, Installs, Draws, Activates, Given, Made}
 use Rattle.line_laws.proofs.HearingForms.{Handed, HandsUp, HandsOn, Gathers, Completes, MadeOf, hear_is}
 use Rattle.line_laws.proofs.AddressPuts.{Puts, RingWrites, writes_append, counter_away, made_rung}
 use Rattle.line_laws.proofs.IssueWords.{Among, Here, Later, Each, commanded_leaves, made_tags}
+pub use Rattle.line_laws.specs.Keyed.{PeerIs}
 
 -- the same address and the same keys
 pub record IsSame (g r : Granted) : Type 0 where
@@ -64,10 +67,6 @@ pub data CameBy (eui : Eui) (old : ring.Ring) (opened : List PairTag) (g : Grant
 
 abbrev pub From : Eui → ring.Ring → List PairTag → ring.Ring → Type 0
 From eui old opened x = IfSome x (CameBy eui old opened)
-
--- the peer of a session is the meter
-abbrev pub PeerIs : Eui → Option MeterSession → Type 0
-PeerIs eui session = IfSome session (λ s. IfSome s.peer (λ p. p.eui ≡ eui))
 
 -- which tags a meter makes: the fourth packet's where it took its grant
 pub data MeterTag (eui : Eui) (took : Option Agreed) : PairTag → Type 0 where
@@ -267,27 +266,27 @@ module _ (x : Identity) (m : Memory) (now : ℕ) (reads : IfSome m.station.ring 
   noted_is : Is (ends m (empty_draft m) heard.Noted)
   noted_is = sealed_planned _ _ (start None)
 
-  near_is : (agent : ℕ) (b : JoinBody) → BodyOctets b → Is (hear_near x m agent b now)
+  near_is : (agent : ℕ) (b : JoinBody) → AreOctets (rest_of b) → Is (hear_near x m agent b now)
   near_is agent (body.Challenge eap) are = challenged_is (ByAgent agent) eap are
   near_is agent (body.Accept identifier) are = noted_is
   near_is agent body.Decline are = declined_is agent
   near_is agent _ are = Refuses _
 
-  order_is : (b : JoinBody) → BodyOctets b → ((index : ℕ) → b ≡ body.Activate index → index ≤ 1) → Is (hear_order x m b now)
+  order_is : (b : JoinBody) → AreOctets (rest_of b) → ((index : ℕ) → b ≡ body.Activate index → index ≤ 1) → Is (hear_order x m b now)
   order_is (body.Challenge eap) are told = challenged_is ByCommand eap are
   order_is (body.Accept identifier) are told = noted_is
   order_is body.Kick are told = kicked_is
   order_is (body.Activate index) are told = activated_is index (told index refl)
   order_is _ are told = Refuses _
 
-  join_is : (octets : List ℕ) (way : Way) (join : JoinMessage) → BodyOctets join.body → join_in octets ≡ Some join → Is (hear_join x m way join now)
+  join_is : (octets : List ℕ) (way : Way) (join : JoinMessage) → AreOctets (rest_of join.body) → join_in octets ≡ Some join → Is (hear_join x m way join now)
   join_is octets (Air from) join are read = carry_up_is from join join.body
   join_is octets (Near agent) join are read = choose_planned (λ mine. near_is agent join.body are) (λ other. Refuses _)
   join_is octets (Mesh origin) join are read = choose_planned (λ coordinator. choose_planned (λ mine. order_is join.body are (λ index e. index_fits octets join index read e)) (λ other. carry_down_is join join.body)) (λ other. Refuses _)
 
   join_in_is : (octets : List ℕ) (way : Way) (join : Option JoinMessage) → AreOctets octets → join_in octets ≡ join → Is (hear_join_in x m way join now)
   join_in_is octets way None are read = Refuses _
-  join_in_is octets way (Some join) are read = join_is octets way join (join_octets octets join are read) read
+  join_in_is octets way (Some join) are read = join_is octets way join (read_octets join octets are read).rest read
 
 -- # The station
 

@@ -1,6 +1,6 @@
 -- What holds of the keys of nodes, and that carrying out a plan keeps it.
 use Rattle.std.proofs.Common.{◌≡◌, ⊎_elim, ℕ, ◌+◌, ◌≤◌, Bool, true, false, List, [], ◌++◌, length, Option, Some, None, Result, Ok, Err, refl, sym, ap, ◌∙◌, subst, arith}
-use Rattle.std.specs.Prelude.{⊤, if◌then◌else◌, IfSome, not}
+use Rattle.std.specs.Prelude.{if◌then◌else◌, IfSome, not}
 use Rattle.std.specs.List.{list_any}
 use Rattle.std.specs.Option.{option_map, option_map_or, option_and_then}
 use Rattle.std.proofs.lemmas.Bool.{and_parts, eqb-true}
@@ -16,7 +16,7 @@ use Rattle.plc_base.specs.SlotTables as slots
 use Rattle.group_keys.specs.KeyRing as ring
 use Rattle.group_keys.specs.KeyBook as book
 use Rattle.joining_messages.specs.Grants.{IsGranted, IsPlace, grant_spelling}
-use Rattle.joining_messages.proofs.GrantLaws.{one_grant}
+use Rattle.joining_messages.proofs.GrantReadings.{grant_read}
 use Rattle.eap_psk.specs.Messages.{granting_text}
 use Rattle.eap_psk.specs.Tags.{granting_tag}
 use Rattle.eap_psk.specs.declared.server.Agreed.{Agreed}
@@ -37,7 +37,7 @@ use Rattle.line_rules.specs.Worlds.{Issued, same_tag, is_forged_tag}
 use Rattle.node_rules.specs.NodeSteps.{NodeStep, acts, stays, left_by}
 use Rattle.line_rules.specs.Steps.{issued_at, issued_by, issued_of}
 use Rattle.node_rules.proofs.Writing.{clean}
-use Rattle.line_laws.specs.Stores.{IsHeld, IsReadable, IsBookKept, IsKept}
+use Rattle.line_laws.specs.Stores.{IsHeld, IsReadable, IsKept}
 use Rattle.line_laws.proofs.Keeping.{Left, Leads, carried}
 use Rattle.line_laws.proofs.Nodes.{NodeOk}
 use Rattle.line_laws.proofs.Answered.{granted_readable}
@@ -46,41 +46,9 @@ use Rattle.line_laws.proofs.AddressBook.{Grows, Grown, one_book}
 use Rattle.line_laws.proofs.IssueWords.{Among, Here, Each, Found, among_left, among_right, each_weaker, none_any, any_found}
 use Rattle.line_laws.proofs.IssueMeters.{IsSame, Held, Opened, From, PeerIs, MeterTag, Second, Fourth, MeterPlan}
 use Rattle.line_laws.proofs.IssueCoordinator.{CoordinatorTag, ServerMac, Third}
+pub use Rattle.line_laws.specs.Keyed.{IsGivenTo, GivenAt, GrantOk, RingOk, TextOk, TagOk, MeterOk, Nought, CoordinatorOk}
 
 -- # What was given
-
--- a key was issued to the meter of a number, at an index
-pub record IsGivenTo (given : List Issued) (eui : Eui) (index : ℕ) (key : Key) : Type 0 where
-  pub one : Issued
-  pub among : Among one given
-  pub to : book.eui_number one.eui ≡ book.eui_number eui
-  pub at : one.index ≡ index
-  pub key_is : one.key ≡ key
-
-abbrev pub GivenAt : List Issued → Eui → ℕ → Option Key → Type 0
-GivenAt given eui index None = ⊤
-GivenAt given eui index (Some key) = IsGivenTo given eui index key
-
--- A grant has the book's address of a meter, and only keys that were issued to it.
-pub record GrantOk (b : book.Book) (given : List Issued) (eui : Eui) (g : Granted) : Type 0 where
-  pub address : book.address_of b eui ≡ Some g.address
-  pub key0 : GivenAt given eui 0 g.key0
-  pub key1 : GivenAt given eui 1 g.key1
-
-abbrev pub RingOk : book.Book → List Issued → Eui → ring.Ring → Type 0
-RingOk b given eui r = IfSome r (GrantOk b given eui)
-
--- The text of a made channel tag with nonce 0 is such a grant.
-pub record TextOk (b : book.Book) (given : List Issued) (eui : Eui) (text : List ℕ) : Type 0 where
-  pub granted : Granted
-  pub is : text ≡ granting_text granted
-  pub readable : IsReadable granted
-  pub right : GrantOk b given eui granted
-
-abbrev pub TagOk : book.Book → List Issued → PairTag → Type 0
-TagOk b given (tags.MacP eui octets) = ⊤
-TagOk b given (tags.MacS eui octets) = ⊤
-TagOk b given (tags.Channel eui rand_p nonce header text) = nonce ≡ 0 → TextOk b given eui text
 
 -- # It stays so
 
@@ -111,7 +79,9 @@ pub is_granted : (g : Granted) → IsReadable g → IsGranted g
 is_granted g h = record { address = h.address; active = h.grant; first = place_is g.key0 h.key0; second = place_is g.key1 h.key1 }
 
 text_same : (g h : Granted) → IsReadable g → IsReadable h → granting_text g ≡ granting_text h → g ≡ h
-text_same g h hg hh e = let lists : grant_spelling g ≡ grant_spelling h = cc (e) in one_grant g h (is_granted g hg) (is_granted h hh) lists
+text_same g h hg hh e =
+    let lists : grant_spelling g ≡ grant_spelling h = cc (e) in
+    same_Some g h (sym (grant_read g (grant_spelling g) (is_granted g hg, refl)) ∙ grant_read h (grant_spelling g) (is_granted h hh, lists))
 
 same_number : (b : book.Book) (given : List Issued) (x y : Eui) (g : Granted) → book.eui_number x ≡ book.eui_number y → GrantOk b given x g → GrantOk b given y g
 same_number b given x y g same h = record {
@@ -168,10 +138,6 @@ module _ (b : book.Book) (given : List Issued) (eui : Eui) where
       same_grant b given eui g r same (found_grant i s p r readable (any_found (TagOk b given) (same_tag (granting_tag eui i s p (granting_text r))) made (right _ among) each))
 
 -- # A meter
-
-pub record MeterOk (b : book.Book) (given : List Issued) (x : Node) : Type 0 where
-  pub ring : RingIn (RingOk b given x.eui) x.store.records
-  pub session : IfSome x.memory (λ m. PeerIs x.eui m.session)
 
 -- a meter makes no tag with nonce 0
 meter_tag : (b : book.Book) (given : List Issued) (eui : Eui) (took : Option Agreed) (t : PairTag) → MeterTag eui took t → TagOk b given t
@@ -251,14 +217,6 @@ module _ (b : book.Book) (given : List Issued) where
       by_memory (Some m) there kept session = by_outcome m there kept session
 
 -- # The coordinator
-
-abbrev pub Nought : ring.Ring → Type 0
-Nought x = IfSome x (λ g. g.address ≡ 0)
-
-pub record CoordinatorOk (b : book.Book) (c : Node) : Type 0 where
-  pub role : c.role ≡ Coordinator
-  pub book_kept : IsBookKept b c.store.records
-  pub ring : RingIn Nought c.store.records
 
 -- What a node did as the coordinator: the book has grown, and its tags are of what was issued.
 pub record CoordinatorDid (b : book.Book) (given more : List Issued) (x : Node) {A : Type 0} (d : NodeStep A) : Type 0 where

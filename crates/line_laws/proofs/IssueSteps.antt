@@ -67,7 +67,7 @@ use Rattle.node_rules.specs.Memory.{MeterSession}
 use Rattle.line_laws.specs.Stores.{IsReadable, IsKept, IsBookKept, HasEui, IsPair}
 use Rattle.line_laws.specs.Sizes.{IsMemorySized}
 use Rattle.line_laws.specs.Owed.{AreOctets, KeepsRanges}
-use Rattle.line_laws.proofs.Readings.{join_ranges}
+use Rattle.joining_messages.proofs.JoinRanges.{read_fits}
 use Rattle.line_laws.proofs.Keeping.{Left}
 use Rattle.line_laws.proofs.Nodes.{NodeOk, ring_readable, pair_octets}
 use Rattle.line_laws.proofs.NodeCalls.{RoutesFit, no_some, heard_given}
@@ -147,7 +147,7 @@ module _ (ciphers : Ciphers) (fits : KeepsRanges ciphers) where
   sized_at x m ok there = subst (λ o. IfSome o IsMemorySized) there ok.sized
 
   -- a call that leaves the ring, the session and the book
-  quiet_told : {A : Type 0} (w : World) (given : List Issued) (k : Keyed w given) (number : ℕ) (x : Node) → node_at w number ≡ Some x → NodeOk x → (halted : A) (plan : Memory → Plan Memory A)
+  pub quiet_told : {A : Type 0} (w : World) (given : List Issued) (k : Keyed w given) (number : ℕ) (x : Node) → node_at w number ≡ Some x → NodeOk x → (halted : A) (plan : Memory → Plan Memory A)
       → ((m : Memory) → IsMemorySized m → Quietly m (plan m)) → Keyed (told ciphers w number (acts x halted plan)) given
   quiet_told w given k number x there ok halted plan q = ⊎_elim
       (λ (e : number ≡ 0). subst (Keyed _) (append-nil given) (told_coordinator ciphers w number x (acts x halted plan) there (quiet_did e).eui given [] k e (quiet_did e)))
@@ -436,7 +436,7 @@ module _ (ciphers : Ciphers) (fits : KeepsRanges ciphers) (w : World) (ok : Worl
   meter_hears_did x psk role got cost note now b routes good h each honest =
       meter_acts b given x (Err drops.Store) (λ m. meters.hear_meter (identity ciphers x psk) m got cost note now) w.made good h each (all_made w.made _ honest) (λ r. (meter_reception r).took)
       (λ m here kept session. meter_plan x.eui m dropped took_in (λ r. (meter_reception r).took) took_same kept.station.range.ring session _
-      (meter_hears (identity ciphers x psk) m (heard_given got cost note now) kept.station.range.ring session (λ peer packet granted are right is. fits.granted psk peer packet granted (pair_octets x m psk kept role) are right is) (λ octets join index read e. (join_ranges octets join read).1 index e) got routes.payload refl))
+      (meter_hears (identity ciphers x psk) m (heard_given got cost note now) kept.station.range.ring session (λ peer packet granted are right is. fits.granted psk peer packet granted (pair_octets x m psk kept role) are right is) (λ octets join index read e. (read_fits join octets read).index index e) got routes.payload refl))
 
   coordinator_hears_did : (x : Node) (got : Accepted) (cost note now : ℕ) (b : book.Book) → RoutesFit got → NodeOk x → CoordinatorOk b x
       → let d : NodeStep (Result CoordinatorHeard Dropped) = acts x (Err drops.Store) (λ m. coordinator_rules.hear_coordinator (record { eui = x.eui; ciphers = ciphers }) m got cost note now) in

@@ -12,11 +12,7 @@ use Rattle.node_rules.specs.Joining.{command_of}
 use Rattle.line_laws.specs.Stores.{IsReadable}
 use Rattle.line_laws.proofs.Made.{RingWord, Given, Made, Starts, Ranks, Numbers, Tags, Rings, Idles, Loses, Goes, Sends, Waits, Leaves}
 use Rattle.line_laws.proofs.AddressPuts.{Rung, RingWrites, writes_append, number_away}
-
--- it stands in the list
-pub data Among {A : Type 0} (x : A) : List A → Type 0 where
-  Here : (xs : List A) → Among x (x ∷ xs)
-  Later : (y : A) (xs : List A) → Among x xs → Among x (y ∷ xs)
+pub use Rattle.line_laws.specs.Keyed.{Each, Among, Here, Later}
 
 pub among_left : {A : Type 0} (x : A) (xs ys : List A) → Among x xs → Among x (xs ++ ys)
 among_left x xs ys (Here rest) = Here (rest ++ ys)
@@ -25,11 +21,6 @@ among_left x xs ys (Later y rest a) = Later y (rest ++ ys) (among_left x rest ys
 pub among_right : {A : Type 0} (x : A) (xs ys : List A) → Among x ys → Among x (xs ++ ys)
 among_right x [] ys a = a
 among_right x (y ∷ xs) ys a = Later y (xs ++ ys) (among_right x xs ys a)
-
--- each of them
-abbrev pub Each : {A : Type 0} → (A → Type 0) → List A → Type 0
-Each P [] = Unit {0}
-Each P (x ∷ xs) = P x × Each P xs
 
 pub each_append : {A : Type 0} (P : A → Type 0) (xs ys : List A) → Each P xs → Each P ys → Each P (xs ++ ys)
 each_append P [] ys h k = k

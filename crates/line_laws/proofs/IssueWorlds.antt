@@ -1,13 +1,13 @@
 -- The parts of addresses and of issued keys, and that what a node does keeps them.
 use Rattle.std.proofs.Common.{◌≡◌, ◌≢◌, ⊎_elim, ℕ, List, [], ◌++◌, length, Some, refl, sym, ap, ◌∙◌, subst, arith}
-use Rattle.std.specs.Prelude.{⊤, slice_get, slice_set}
+use Rattle.std.specs.Prelude.{slice_get, slice_set}
 use Rattle.std.proofs.lemmas.Bool.{cases_eq}
 use Rattle.std.proofs.lemmas.List.{length-set}
 use Rattle.std.proofs.lemmas.Option.{same_Some}
 use Rattle.plc_base.proofs.SlotTables.{slice_get-set, slice_get-set_other}
 use Rattle.group_keys.specs.KeyBook as books
 use Rattle.node_rules.specs.Ciphers.{Ciphers}
-use Rattle.node_rules.specs.Memory.{Role, Coordinator, Meter, Node}
+use Rattle.node_rules.specs.Memory.{Node}
 use Rattle.line_rules.specs.Worlds.{World, Issued, node_at}
 use Rattle.node_rules.specs.NodeSteps.{NodeStep}
 use Rattle.line_rules.specs.Steps.{told}
@@ -15,24 +15,7 @@ use Rattle.line_rules.specs.Events.{IsEui}
 use Rattle.line_laws.proofs.Worlds.{within as place_within}
 use Rattle.line_laws.proofs.IssueWords.{Each, each_append, each_weaker}
 use Rattle.line_laws.proofs.IssueNodes.{TagOk, MeterOk, MeterDid, CoordinatorOk, CoordinatorDid, ring_later, tag_later}
-
-abbrev pub IsMeter : Role → Type 0
-IsMeter Coordinator = ⊥
-IsMeter (Meter psk) = ⊤
-
--- The book's addresses are those of the stored rings; each key of a meter was issued to it; and the grants of made tags are such.
-pub record Keyed (w : World) (given : List Issued) : Type 0 where
-  -- the book that the coordinator's records give
-  pub book : books.Book
-  pub coordinator : (c : Node) → node_at w 0 ≡ Some c → CoordinatorOk book c
-  pub meters : (n : ℕ) (x : Node) → n ≢ 0 → node_at w n ≡ Some x → MeterOk book given x
-  pub made : Each (TagOk book given) w.made
-  pub roles : (n : ℕ) (x : Node) → n ≢ 0 → node_at w n ≡ Some x → IsMeter x.role
-  -- the EUIs of two nodes differ
-  pub apart : (i j : ℕ) (x y : Node) → node_at w i ≡ Some x → node_at w j ≡ Some y → books.eui_number x.eui ≡ books.eui_number y.eui → i ≡ j
-  pub still : w.nodes ≡ [] → w.made ≡ []
-  -- an EUI is 8 octets
-  pub named : (n : ℕ) (x : Node) → node_at w n ≡ Some x → IsEui x.eui
+pub use Rattle.line_laws.specs.Keyed.{IsMeter, Keyed}
 
 -- the same nodes and tags
 pub same_keyed : (w v : World) (given : List Issued) → Keyed w given → v.nodes ≡ w.nodes → v.made ≡ w.made → Keyed v given

@@ -1,5 +1,5 @@
 -- A plan that keeps a memory with its records keeps it whatever becomes of its writes.
-use Rattle.std.proofs.Common.{◌≡◌, ⊎_elim, Bool, true, false, List, [], ◌∷◌, ◌++◌, Option, Some, None, refl, sym, ap, ◌∙◌, subst}
+use Rattle.std.proofs.Common.{◌≡◌, ⊎_elim, Bool, true, false, List, [], ◌∷◌, ◌++◌, Option, refl, sym, ap, ◌∙◌, subst}
 use Rattle.std.specs.Prelude.{if◌then◌else◌}
 use Rattle.std.specs.FinMap.{insert}
 use Rattle.plc_base.specs.declared.keeper.Cut.{Cut}
@@ -7,27 +7,23 @@ use Rattle.plc_base.specs.Keeper.{Records, Write}
 use Rattle.node_rules.specs.Plans.{Plan, carry_out}
 use Rattle.node_rules.specs.Laws.{all_put, IsWhole, IsCutOff}
 use Rattle.node_rules.proofs.Writing.{clean}
+pub use Rattle.line_laws.specs.Lines.{Reads, Left}
 
 pub all_put-append : (ps qs : List Write) (r : Records) → all_put (ps ++ qs) r ≡ all_put qs (all_put ps r)
 all_put-append [] qs r = refl
 all_put-append (p ∷ ps) qs r = all_put-append ps qs (insert r p.slot p.octets)
 
 module _ {M : Type 0} (Q : M → Records → Type 0) where
-  -- some memory is what the records give
-  pub record Reads (r : Records) : Type 0 where
-    pub memory : M
-    pub kept : Q memory r
-
   -- so it is after each front of the writes
   abbrev pub Fronts : List Write → Records → Type 0
-  Fronts [] r = Reads r
-  Fronts (p ∷ ps) r = Reads r × Fronts ps (insert r p.slot p.octets)
+  Fronts [] r = Reads Q r
+  Fronts (p ∷ ps) r = Reads Q r × Fronts ps (insert r p.slot p.octets)
 
   -- these writes lead from one memory to the other
   pub record Leads (m : M) (ps : List Write) (n : M) : Type 0 where
     pub run : (r : Records) → Q m r → Fronts ps r × Q n (all_put ps r)
 
-  first_front : (ps : List Write) (r : Records) → Fronts ps r → Reads r
+  first_front : (ps : List Write) (r : Records) → Fronts ps r → Reads Q r
   first_front [] r f = f
   first_front (p ∷ ps) r f = f.0
 
@@ -50,34 +46,29 @@ module _ {M : Type 0} (Q : M → Records → Type 0) where
   }
 
   -- after each front some memory is what the records give
-  pub front_reads : (ps front rest : List Write) (r : Records) → ps ≡ front ++ rest → Fronts ps r → Reads (all_put front r)
+  pub front_reads : (ps front rest : List Write) (r : Records) → ps ≡ front ++ rest → Fronts ps r → Reads Q (all_put front r)
   front_reads ps front rest r e f = at_front front rest r (subst (λ ws. Fronts ws r) e f)
     where
-      at_front : (front rest : List Write) (r : Records) → Fronts (front ++ rest) r → Reads (all_put front r)
+      at_front : (front rest : List Write) (r : Records) → Fronts (front ++ rest) r → Reads Q (all_put front r)
       at_front [] rest r f = first_front rest r f
       at_front (p ∷ front) rest r f = at_front front rest (insert r p.slot p.octets) f.1
 
-  -- the memory that is left is what the records give; where a write failed, some memory is
-  abbrev pub Left : Records → Option M → Type 0
-  Left r None = Reads r
-  Left r (Some m) = Q m r
-
   pub carried : {A : Type 0} (r : Records) (cut : Option Cut) (p : Plan M A) (m : M) → Q m r → Leads m p.puts p.memory
-      → Left (carry_out r cut p).records (carry_out r cut p).memory
+      → Left Q (carry_out r cut p).records (carry_out r cut p).memory
   carried {A = A} r cut p m q f = ⊎_elim whole cut_off (clean r cut p)
     where
-      whole : IsWhole r cut p (carry_out r cut p) → Left (carry_out r cut p).records (carry_out r cut p).memory
+      whole : IsWhole r cut p (carry_out r cut p) → Left Q (carry_out r cut p).records (carry_out r cut p).memory
       whole w = rw (w.left, w.memory) (f.run r q).1
 
       append_one : (front : List Write) (one : Write) (rest : List Write) → (front ++ one ∷ []) ++ rest ≡ front ++ one ∷ rest
       append_one [] one rest = refl
       append_one (x ∷ front) one rest = ap (λ ws. x ∷ ws) (append_one front one rest)
 
-      by_kind : (b : Bool) (front rest : List Write) (one : Write) → p.puts ≡ front ++ one ∷ rest → Reads (if b then all_put (front ++ one ∷ []) r else all_put front r)
+      by_kind : (b : Bool) (front rest : List Write) (one : Write) → p.puts ≡ front ++ one ∷ rest → Reads Q (if b then all_put (front ++ one ∷ []) r else all_put front r)
       by_kind true front rest one e = front_reads p.puts (front ++ one ∷ []) rest r (e ∙ sym (append_one front one rest)) (f.run r q).0
       by_kind false front rest one e = front_reads p.puts front (one ∷ rest) r e (f.run r q).0
 
-      cut_off : IsCutOff r cut p (carry_out r cut p) → Left (carry_out r cut p).records (carry_out r cut p).memory
+      cut_off : IsCutOff r cut p (carry_out r cut p) → Left Q (carry_out r cut p).records (carry_out r cut p).memory
       cut_off c = rw (c.left, c.memory) (by_kind c.by.keeps_new c.front c.rest c.write c.split)
 
   -- what the kept memory says may be used

@@ -1,6 +1,6 @@
 -- What a letter spells is read back: its sender, its unit and its route message; and so it is of letters in their ranges.
-use Rattle.std.specs.Prelude.{◌≡◌, ℕ, ◌+◌, ◌≤◌, Bool, false, All, List, Some, Ok}
-use Rattle.std.proofs.Common.{sym, ap, ◌∙◌, subst}
+use Rattle.std.specs.Prelude.{◌≡◌, ℕ, ◌+◌, ◌≤◌, false, All, List, Some, Ok}
+use Rattle.std.proofs.Common.{refl, sym, ap, ◌∙◌, subst}
 use Rattle.std.proofs.lemmas.Option.{same_Some}
 use Rattle.std.proofs.lemmas.List.Elements.{All-weaker}
 use Rattle.plc_base.specs.declared.key.Key.{Key}
@@ -10,14 +10,12 @@ use Rattle.mesh_header.specs.Grammar.{spelling}
 use Rattle.mesh_header.specs.Reading.{unit_in}
 use Rattle.mesh_header.specs.declared.unit.Unit.TheVariants as units
 use Rattle.loadng_messages.specs.Grammar as messages
-use Rattle.loadng_messages.specs.Reading.{message_in}
-use Rattle.loadng_messages.specs.declared.message.Message.{Message}
 use Rattle.loadng_messages.proofs.Readings.{message_read}
 use Rattle.node_rules.specs.declared.heard.Accepted.{Accepted}
 use Rattle.node_rules.specs.Calls as calls
 use Rattle.node_rules.specs.Ciphers.{Ciphers, OpensWhatItSeals, network}
 use Rattle.node_rules.specs.Coordinators as coordinator_rules
-use Rattle.node_rules.specs.Frames.{Letter, Sent, Sealed, Up, Down, Arrived, arrived, arrived_with, head_of, spelled}
+use Rattle.node_rules.specs.Frames.{Letter, Sent, Sealed, Up, Down, Arrived, arrived_with, head_of}
 use Rattle.node_rules.specs.Memory.{Memory, Meter, Node, node_address}
 use Rattle.node_rules.specs.Meters as meters
 use Rattle.node_rules.specs.NodeSteps.{of_station}
@@ -29,19 +27,11 @@ use Rattle.line_rules.specs.Worlds.{World, node_at}
 use Rattle.line_laws.specs.Letters.{IsLetter, IsRoute}
 use Rattle.line_laws.specs.Owed.{AreOctets}
 use Rattle.line_laws.proofs.LetterAccepts.{from_of}
-use Rattle.line_laws.proofs.LetterSeals.{network_opens, letter_arrives, letter_opens, letter_unit}
+use Rattle.node_rules.proofs.NetworkOpens.{network_opens_again}
+use Rattle.line_laws.proofs.LetterSeals.{letter_arrives, letter_opens, letter_unit}
 use Rattle.line_laws.proofs.RangeFrames.{IsSent}
 use Rattle.line_laws.proofs.RangePlans.{RangeOk}
-
--- What a letter spells is read back: the address and the unit of who opens it under its key, and its route message.
-pub record LetterRead (ciphers : Ciphers) (letter : Letter) : Type 0 where
-  pub opens : (a : Arrived) (ack : Bool) (seq pan to from counter index : ℕ) (payload : List ℕ)
-      → arrived ciphers (spelled ciphers (Sealed letter)).octets ≡ Some a
-      → a.head ≡ heads.Sealed ack seq pan to from counter index
-      → a.opened letter.key ≡ Some payload → (from ≡ letter.from) × (unit_in payload ≡ Some letter.unit)
-  pub messages : (message : Message) → letter.unit ≡ units.Local 1 (messages.spelling message)
-      → (read : Message) × (message_in (messages.spelling message) ≡ Some read)
-      × (messages.spelling message ≡ messages.spelling read) × messages.IsMessage read
+pub use Rattle.line_laws.specs.Ranked.{LetterRead}
 
 -- a plain frame has no letter
 abbrev pub FrameRead : Ciphers → Sent → Type 0
@@ -93,11 +83,12 @@ letter_read ciphers opens l fits = record {
       (sym (ap from_of heads_are), ap unit_in (sym payload_is) ∙ letter_unit ciphers opens l fits);
   messages = λ message is.
       let r : IsRoute (units.Local 1 (messages.spelling message)) = subst IsRoute is fits.route in
-      (r.1.0, message_read r.1.0 (messages.spelling message) (r.1.1, r.1.2), r.1.2, r.1.1);
+      let x = r refl in
+      (x.0, message_read x.0 (messages.spelling message) (x.1, x.2), x.2, x.1);
 }
 
-sent_read : (f : Sent) → IsSent f → FrameRead network f
-sent_read (Sealed l) fits = letter_read network network_opens l fits
+pub sent_read : (f : Sent) → IsSent f → FrameRead network f
+sent_read (Sealed l) fits = letter_read network network_opens_again l fits
 sent_read (Up agent from message) fits = tt
 sent_read (Down from message) fits = tt
 

@@ -76,7 +76,6 @@ pub mod Quiet
 pub mod Frontiers
 pub mod Readings
 pub mod HeadsSaid
-pub mod RouteRanges
 pub mod RangeCoordinator
 pub mod RangeArrives
 pub mod CustodyArrives
@@ -110,12 +109,9 @@ pub mod MarkSteps
 pub mod LiveRuns
 pub mod OnceRuns
 pub mod KeyedAnswers
-pub mod CipherOctets
 pub mod HeardOctets
 pub mod LastFlights
-pub mod NetworkOpens
 pub mod IssuedNamed
-pub mod SpelledOctets
 pub mod OctetDrafts
 pub mod MeterOctets
 pub mod CoordinatorOctets
@@ -132,3 +128,7 @@ pub mod ShutCalls
 pub mod ShutSteps
 pub mod KeysStood
 pub mod KickRuns
+pub mod RestartRuns
+pub mod LaterSeals
+pub mod LaterKeeps
+pub mod LaterEnds

@@ -134,7 +134,7 @@ module _ (w v : World) (follow : Follows w v) (grows : 0 < length w.nodes → Gr
   falls_to : (f : Flight) → live v f ≡ true → live w f ≡ true
   falls_to f e = head_falls (head_in f.octets) e
 
-  none_falls : LiveFalls live w v None
+  pub none_falls : LiveFalls live w v None
   none_falls = record { falls = falls_to; passes = λ place f is there. absurd (none-some place is) }
 
 -- # Books
@@ -162,7 +162,7 @@ module _ (w : World) (given : List Issued) (ok : WorldOk w) (k : Keyed w given) 
   same_book : (c : Node) → node_at w 0 ≡ Some c → book_of w ≡ k.book
   same_book c there = one_book (book_of w) k.book c.store.records (world_book w ok c there) (k.coordinator c there).book_kept
 
-  some_book : 0 < length w.nodes → book_of w ≡ k.book
+  pub some_book : 0 < length w.nodes → book_of w ≡ k.book
   some_book some = let c = first_node w.nodes some in same_book c.node c.there
 
   -- # Homes

@@ -12,7 +12,7 @@ use Rattle.line_rules.specs.Worlds.{World, node_at}
 use Rattle.line_rules.specs.SafeRuns.{HasRoute, HasAddress, Leads, HasNoLoop}
 use Rattle.line_laws.proofs.RankOrder.{beats_trans, beats_not_itself}
 use Rattle.line_laws.proofs.RankSteps.{held_kept}
-use Rattle.line_laws.proofs.RankPlans.{via}
+use Rattle.line_laws.specs.Ranked.{via}
 use Rattle.line_laws.proofs.RouteParts.{RoutingHolds, Nearer}
 use Rattle.line_laws.specs.Loops.{stored}
 use Rattle.line_laws.proofs.Homed.{Homes, Addressed}

@@ -34,7 +34,7 @@ use Rattle.line_laws.proofs.IssueSteps.{step_keyed}
 use Rattle.line_laws.proofs.IssueWorlds.{Keyed}
 use Rattle.line_laws.proofs.Tellings.{step_is}
 use Rattle.line_laws.proofs.Running.{start_ok, taken_good}
-use Rattle.line_laws.proofs.RankSaid.{MessageBacked, UnitBacked, Says, IsWhole, IsPart, IsCarried}
+use Rattle.line_laws.proofs.RankSaid.{MessageBacked, UnitBacked, Says, IsWhole, IsPart, IsCarried, IsOther}
 use Rattle.line_laws.proofs.RouteParts as parts
 use Rattle.line_laws.proofs.RouteParts.{At, Own, Nearer, IsNearer, FlightBacked, IsLetter, GoodRoute, RanksHold, RoutesHold, RoutingHolds, Reached}
 use Rattle.line_laws.proofs.RouteSteps.{StepHolds, Fails, Taken, event_holds}
@@ -69,6 +69,7 @@ module _ (ciphers : Ciphers) (h k : Homes) (grows : Grows h k) (w : World) where
   unit_grows i t u (IsWhole mesh octets) = IsWhole mesh octets
   unit_grows i t u (IsPart mesh piece) = IsPart mesh piece
   unit_grows i t u (IsCarried mesh body) = IsCarried mesh body
+  unit_grows i t u (IsOther code body other) = IsOther code body other
 
   flight_grows : (f : Flight) → FlightBacked ciphers h w f → FlightBacked ciphers k w f
   flight_grows f (parts.IsPlain e) = parts.IsPlain e
@@ -164,17 +165,14 @@ loop_free_from w before o (x ∷ xs) says run = λ honest.
     } in
     (no_loop network h x.after (addressed x.after more g.0 k2) after.holds, after.later, loop_free_from x.after (before ++ x ∷ []) sound xs (All-tail IsEvent x.event (events_of xs) says) run.3)
 
-start_sound : Sound start []
-start_sound = record {
-  ok = start_ok;
-  speaks = start_speaks;
-  ranged = start_ranged;
-  keyed = start_keyed;
-  routes = record {
-    ranks = record { backed = All-nil (FlightBacked network (homes_of start_keyed.book start) start); not_own = λ i x there dest own. absurd (none-some x there) };
-    routes = record { routes = λ i x there dest next e. absurd (none-some x there) };
-  };
+pub start_routes : RoutingHolds network (homes_of start_keyed.book start) start
+start_routes = record {
+  ranks = record { backed = All-nil (FlightBacked network (homes_of start_keyed.book start) start); not_own = λ i x there dest own. absurd (none-some x there) };
+  routes = record { routes = λ i x there dest next e. absurd (none-some x there) };
 }
+
+start_sound : Sound start []
+start_sound = record { ok = start_ok; speaks = start_speaks; ranged = start_ranged; keyed = start_keyed; routes = start_routes }
 
 pub every_run : (entries : List Entry) → IsLineRun network entries → AreLoopFree start entries
 every_run entries r = loop_free_from start [] start_sound entries r.events r.run

@@ -1,6 +1,5 @@
 -- What accepting a frame does to the marks of a node, and what a restart finds of them.
 use Rattle.std.proofs.Common.{◌≡◌, ℕ, ◌<◌, ◌^◌, map, Option, Some, None, Result, Ok, refl, sym, subst}
-use Rattle.std.specs.Prelude.{IfSome}
 use Rattle.std.specs.Option.{option_map_or}
 use Rattle.plc_base.specs.Keeper.{Records, Write}
 use Rattle.plc_base.specs.Writes.{puts_of}
@@ -20,10 +19,7 @@ use Rattle.line_laws.proofs.Keeping.{Leads, leads_beside, leads_one, Left}
 use Rattle.line_laws.proofs.MarkOrder.{Raised, raised_same, raised_trans, rest_raised, kept_covered, kept_raised}
 use Rattle.line_laws.proofs.MarkWrites.{MarksFrom}
 use Rattle.line_laws.proofs.Restarting.{Again, again}
-
--- no mark in memory is above the stored one
-abbrev pub AreCovered : Option Memory → Type 0
-AreCovered o = IfSome o (λ (m : Memory). marks.IsCovered m.station.marks)
+pub use Rattle.line_laws.specs.Lines.{AreCovered}
 
 -- # A counter that is admitted
 

@@ -1,5 +1,5 @@
 -- Marks that rise: what admitting a counter and a restart make of a table, and which counters it admits then.
-use Rattle.std.proofs.Common.{◌≡◌, ◌≢◌, ◌⊎◌, inl, inr, ℕ, ◌+◌, ◌≤◌, ◌<◌, ◌^◌, Bool, true, false, [], ◌∷◌, ◌++◌, length, map, set, Option, Some, None, Ok, Err, refl, sym, ap, ◌∙◌, subst, arith}
+use Rattle.std.proofs.Common.{◌≡◌, ◌≢◌, ◌⊎◌, inl, inr, ℕ, ◌≤◌, ◌<◌, ◌^◌, Bool, true, false, [], ◌∷◌, ◌++◌, length, map, set, Option, Some, None, Ok, Err, refl, sym, ap, ◌∙◌, subst, arith}
 use Rattle.std.specs.Prelude.{if◌then◌else◌, nat_le, nat_lt, ◌==◌, is_some}
 use Rattle.std.specs.Option.{option_map, option_map_or}
 use Rattle.std.proofs.lemmas.Bool.{ltb-true, eq-eqb, ne_eqb, cases_eq}
@@ -9,7 +9,7 @@ use Rattle.std.proofs.lemmas.List.Sums.{position_or_len_is}
 use Rattle.std.proofs.lemmas.List.Elements.{All-push, All-set}
 use Rattle.plc_base.proofs.SlotTables.{found, apart, same_place, place_of-set, place_of-push}
 use Rattle.frame_counters.specs.declared.fault.PeerFault.TheVariants.{Replayed, PeersFull}
-use Rattle.frame_counters.specs.declared.peer_marks.Peer.{Peer}
+use Rattle.frame_counters.specs.PeerMarks.{Peer}
 use Rattle.frame_counters.specs.PeerMarks as marks
 use Rattle.line_laws.specs.Live.{admits}
 

@@ -111,7 +111,7 @@ told_follows w u v number x d f there nodes did = record { at = at }
         (λ (ne : n ≢ number). record { node = l.node; there = other n ne ∙ l.there; role = l.role; eui = l.eui; raised = l.raised })
         (cases_eq n number)
 
-told_nodes : {A : Type 0} (ciphers : Ciphers) (u : World) (number : ℕ) (d : NodeStep A) → (told ciphers u number d).nodes ≡ slice_set u.nodes number d.node
+pub told_nodes : {A : Type 0} (ciphers : Ciphers) (u : World) (number : ℕ) (d : NodeStep A) → (told ciphers u number d).nodes ≡ slice_set u.nodes number d.node
 unfolding told
 told_nodes ciphers u number d = refl
 

@@ -1,5 +1,5 @@
 -- What plans do to the marks: all but accepting a frame leave them, in memory and in the store.
-use Rattle.std.proofs.Common.{◌≡◌, ◌⊎◌, inl, inr, ℕ, ◌+◌, ◌<◌, ◌≤◌, Bool, true, false, List, [], ◌∷◌, ◌++◌, length, Option, Some, None, Result, refl, sym, ap, ◌∙◌, subst, arith}
+use Rattle.std.proofs.Common.{◌≡◌, ◌⊎◌, inl, inr, ℕ, ◌<◌, ◌≤◌, Bool, true, false, List, [], ◌∷◌, ◌++◌, length, Option, Some, None, Result, refl, sym, ap, ◌∙◌, subst, arith}
 use Rattle.std.specs.Prelude.{if◌then◌else◌}
 use Rattle.std.specs.FinMap.{insert}
 use Rattle.plc_base.specs.Keeper.{Records, Write}
@@ -95,7 +95,7 @@ number_away n = by_limit (own_number.passes n)
     by_limit true = (inl (omega arith), tt)
     by_limit false = tt
 
-reserve_away : (c : counter.Counting) (count : ℕ) → AreAway (puts_of (counter.reserve_write c count))
+pub reserve_away : (c : counter.Counting) (count : ℕ) → AreAway (puts_of (counter.reserve_write c count))
 reserve_away c count = by_due (counter.passes c count)
   where
     by_due : (b : Bool) → AreAway (puts_of (if b then counter.limit_write (counter.raised c.limit) else None))

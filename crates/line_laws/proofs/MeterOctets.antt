@@ -16,7 +16,6 @@ use Rattle.joining_messages.specs.declared.message.JoinMessage.{JoinMessage}
 use Rattle.joining_messages.specs.declared.message.JoinBody.{JoinBody}
 use Rattle.joining_messages.specs.declared.message.JoinBody.TheVariants as body
 use Rattle.joining_messages.specs.Reading.{join_in}
-use Rattle.joining_messages.proofs.Readings.{join_spelled}
 use Rattle.eap_psk.specs.Faults.{first_fault}
 use Rattle.eap_psk.specs.Messages.{granting_text}
 use Rattle.eap_psk.specs.Tags.{mac_p_tag, mac_s_tag, granting_tag, success_tag}
@@ -40,16 +39,19 @@ use Rattle.node_rules.specs.Joining.{message}
 use Rattle.node_rules.specs.MemoryDrafts.{goes_down, oldest, without_oldest, Unread, unread, packet_fault, with_memory_by, with_pair_tags, on_station}
 use Rattle.node_rules.specs.Meters.{Identity, with_session, drop_it, ends, leaves, carry_up, carries_down, carry_down, reply_with, reply, replies, take_with, take_by, take, takes, challenged, declined, kicked, activated, hear_near, hear_order, hear_join, hear_join_in, heard_by, hear_meter, joining_ends, join, leaving_ends, leave}
 use Rattle.line_laws.specs.Stores.{IsReadable}
-use Rattle.line_laws.proofs.CipherOctets.{part_octets}
-use Rattle.line_laws.proofs.HeardOctets.{BodyOctets, join_octets, eui_octets, heard_octets}
+use Rattle.plc_base.proofs.OctetLists.{part_octets}
+use Rattle.eap_psk.proofs.PacketOctets.{second_octets, fourth_octets}
+use Rattle.joining_messages.specs.Messages.{rest_of}
+use Rattle.joining_messages.proofs.JoinOctets.{read_octets}
+use Rattle.line_laws.proofs.HeardOctets.{heard_octets}
 use Rattle.line_laws.proofs.HearingForms.{Handed, MadeOf, hear_is}
 use Rattle.line_laws.proofs.Made.{Given, IsCome, Activates}
 use Rattle.line_laws.proofs.MeterForms.{no_fault}
 use Rattle.line_laws.proofs.NodeCalls.{NoWord, heard_given}
-use Rattle.line_laws.proofs.OctetDrafts.{BodySpeaks, RandSpeaks, PeerSpeaks, SessionSpeaks, MemorySpeaks, DraftSpeaksIn, PlanSpeaks, OutSpeaks, PlainSpeaks, UnitSpeaks, unit_speaks, choose_speaks, option_speaks, refuses, checked_speaks, sealed_speaks, sealing_speaks, line_speaks, begun_speaks, remembers_speaks, tagged_speaks, up_speaks, down_speaks, ringed_speaks, commanded_speaks}
+use Rattle.line_laws.proofs.OctetDrafts.{JoinSpeaks, join_speaks, BodySpeaks, RandSpeaks, PeerSpeaks, SessionSpeaks, MemorySpeaks, DraftSpeaksIn, PlanSpeaks, OutSpeaks, PlainSpeaks, UnitSpeaks, unit_speaks, choose_speaks, option_speaks, refuses, checked_speaks, sealed_speaks, sealing_speaks, line_speaks, begun_speaks, remembers_speaks, tagged_speaks, up_speaks, down_speaks, ringed_speaks, commanded_speaks}
 use Rattle.line_laws.proofs.Planned.{Planned}
-use Rattle.line_laws.proofs.Readings.{join_ranges, network_ranges}
-use Rattle.line_laws.proofs.SpelledOctets.{JoinSpeaks, join_speaks, second_octets, fourth_octets}
+use Rattle.joining_messages.proofs.JoinRanges.{read_fits}
+use Rattle.line_laws.proofs.Readings.{network_ranges}
 use Rattle.line_laws.proofs.StoreFold.{WordFits, ring_fits}
 use Rattle.line_laws.proofs.Worlds.{at_place}
 
@@ -57,7 +59,7 @@ use Rattle.line_laws.proofs.Worlds.{at_place}
 
 -- a joining message that was read in octets
 pub read_speaks : (octets : List ℕ) (join : JoinMessage) → AreOctets octets → join_in octets ≡ Some join → JoinSpeaks join
-read_speaks octets join are read = (subst AreOctets (join_spelled join octets are read).1 are, eui_octets octets join are read)
+read_speaks octets join are read = read_octets join octets are read
 
 -- the units of a frame that was accepted
 pub comes_speaking : (got : Accepted) (cost note now : ℕ) → AreOctets got.payload → (by : ℕ) (all : Bool) (u : MeshUnit) → IsCome (heard_given got cost note now) by all u → UnitSpeaks u
@@ -118,7 +120,7 @@ module _ (eui : Eui) (psk : Key) (own : AreOctets eui.0) (pair : AreOctets psk.0
       let peer : Peer = peer_for eui value packet in
       let rand_s : AreOctets peer.rand_s.0 = part_octets 6 16 packet are in
       replies_is course peer (message eui (body.Join (network.second psk (identifier_of packet) peer))) (own, rand_s, part_short 6 16 packet)
-      (join_speaks eui (body.Join (network.second psk (identifier_of packet) peer)) own (second_octets psk.0 pair (identifier_of packet) peer (octet_low 1 packet are) own rand_s (oldest_speaks m value h here).0))))
+      (join_speaks eui (body.Join (network.second psk (identifier_of packet) peer)) own (second_octets psk.0 (identifier_of packet) peer pair (octet_low 1 packet are) own rand_s (oldest_speaks m value h here).0))))
       (refuses m h _ _))
 
   abbrev took : Peer → ℕ → Granted → Draft Memory
@@ -141,7 +143,7 @@ module _ (eui : Eui) (psk : Key) (own : AreOctets eui.0) (pair : AreOctets psk.0
   take_with_is course packet peer None are p right is = refuses m h _ _
   take_with_is course packet peer (Some granted) are p right is =
       takes_is course peer (identifier_of packet) granted (message eui (body.Join (network.fourth psk (identifier_of packet) peer))) p (network_ranges.granted psk peer packet granted pair are right is)
-      (join_speaks eui (body.Join (network.fourth psk (identifier_of packet) peer)) own (fourth_octets psk.0 pair (identifier_of packet) peer (octet_low 1 packet are) p.1))
+      (join_speaks eui (body.Join (network.fourth psk (identifier_of packet) peer)) own (fourth_octets psk.0 (identifier_of packet) peer pair (octet_low 1 packet are) p.1))
 
   take_by_is : (course : Course) (packet : List ℕ) (peer : Option Peer) → AreOctets packet → IfSome peer PeerSpeaks → PlanSpeaks (take_by x m course packet now peer)
   take_by_is course packet None are p = refuses m h _ _
@@ -177,13 +179,13 @@ module _ (eui : Eui) (psk : Key) (own : AreOctets eui.0) (pair : AreOctets psk.0
 
   -- # A joining message
 
-  near_is : (agent : ℕ) (b : JoinBody) → BodyOctets b → PlanSpeaks (hear_near x m agent b now)
+  near_is : (agent : ℕ) (b : JoinBody) → AreOctets (rest_of b) → PlanSpeaks (hear_near x m agent b now)
   near_is agent (body.Challenge eap) are = challenged_is (ByAgent agent) eap are
   near_is agent (body.Accept identifier) are = noted_is
   near_is agent body.Decline are = declined_is agent
   near_is agent _ are = refuses m h _ _
 
-  order_is : (b : JoinBody) → BodyOctets b → ((index : ℕ) → b ≡ body.Activate index → index ≤ 1) → PlanSpeaks (hear_order x m b now)
+  order_is : (b : JoinBody) → AreOctets (rest_of b) → ((index : ℕ) → b ≡ body.Activate index → index ≤ 1) → PlanSpeaks (hear_order x m b now)
   order_is (body.Challenge eap) are low = challenged_is ByCommand eap are
   order_is (body.Accept identifier) are low = noted_is
   order_is body.Kick are low = kicked_is
@@ -192,9 +194,9 @@ module _ (eui : Eui) (psk : Key) (own : AreOctets eui.0) (pair : AreOctets psk.0
 
   join_is : (octets : List ℕ) (way : Way) (join : JoinMessage) → AreOctets octets → join_in octets ≡ Some join → PlanSpeaks (hear_join x m way join now)
   join_is octets (Air from) join are read = carry_up_is from join join.body (read_speaks octets join are read)
-  join_is octets (Near agent) join are read = choose_speaks (λ mine. near_is agent join.body (join_octets octets join are read)) (λ other. refuses m h _ _)
+  join_is octets (Near agent) join are read = choose_speaks (λ mine. near_is agent join.body (read_octets join octets are read).rest) (λ other. refuses m h _ _)
   join_is octets (Mesh origin) join are read = choose_speaks
-      (λ coordinator. choose_speaks (λ mine. order_is join.body (join_octets octets join are read) (join_ranges octets join read).1) (λ other. carry_down_is join join.body (read_speaks octets join are read)))
+      (λ coordinator. choose_speaks (λ mine. order_is join.body (read_octets join octets are read).rest (read_fits join octets read).index) (λ other. carry_down_is join join.body (read_speaks octets join are read)))
       (λ other. refuses m h _ _)
 
   join_in_is : (octets : List ℕ) (way : Way) (join : Option JoinMessage) → AreOctets octets → join_in octets ≡ join → PlanSpeaks (hear_join_in x m way join now)

@@ -39,7 +39,7 @@ use Rattle.node_rules.specs.Laws.{IsLoad}
 use Rattle.line_laws.specs.Stores.{IsHeld, IsReadable, IsStationKept, IsKept}
 use Rattle.line_laws.specs.Sizes.{IsMemorySized}
 use Rattle.line_laws.specs.Owed.{AreOctets, KeepsRanges}
-use Rattle.line_laws.proofs.Readings.{join_ranges}
+use Rattle.joining_messages.proofs.JoinRanges.{read_fits}
 use Rattle.line_laws.proofs.Keeping.{leads_beside}
 use Rattle.line_laws.proofs.Beside.{low_one}
 use Rattle.line_laws.proofs.StoreWords.{limit_kept, number_kept}
@@ -52,7 +52,10 @@ use Rattle.line_laws.proofs.Made.{Made, RingWord, Carry, Install, Given, Offered
 use Rattle.line_laws.proofs.MadeIn.{MadeIn, Station, EntryChange, Allows, Issues, Kicks}
 use Rattle.line_laws.proofs.HearingForms.{Handed, HandsUp, HandsOn, Gathers, Completes}
 use Rattle.line_laws.proofs.MemoryDraftForms.{AnyAnswer, HandedIn, ByStation, MadeBy}
-use Rattle.line_laws.proofs.HeardOctets.{BodyOctets, unread_octets, join_octets}
+use Rattle.joining_messages.specs.declared.message.JoinBody.{JoinBody}
+use Rattle.joining_messages.specs.Messages.{rest_of}
+use Rattle.joining_messages.proofs.JoinOctets.{read_octets}
+use Rattle.line_laws.proofs.HeardOctets.{unread_octets}
 use Rattle.line_laws.proofs.MeterForms.{IsPacket, HandsNothingUp, RingCause, ToCoordinator, ByPacket, ByOrder, meter_is, joins_is, leaves_is}
 use Rattle.line_laws.proofs.CoordinatorForms.{IsGranted}
 use Rattle.line_laws.proofs.CallForms.{Few, Nothing, send_is, install_is, near_is, random_is}
@@ -255,7 +258,7 @@ module _ (role : Role) (m : Memory) (h : IsMemorySized m) where
     packet_octets g packet got are p same =
         let b = p.brought in
         let body : AreOctets p.octets = subst AreOctets b.body (unread_octets m.station b.got g.cost g.note g.now b.handed (subst (λ (a : Accepted). AreOctets a.payload) (sym same) are) b.on) in
-        subst BodyOctets p.challenge (join_octets p.octets p.join body p.read)
+        subst (λ (b : JoinBody). AreOctets (rest_of b)) p.challenge (read_octets p.join p.octets body p.read).rest
 
     pub meter_words : (g : Given) → HeardWell g → (w : RingWord) → RingCause g x m w → WordFits w
     meter_words g well w (ToCoordinator join said) = omega arith
@@ -263,7 +266,7 @@ module _ (role : Role) (m : Memory) (h : IsMemorySized m) where
         let b = taken.came.brought in
         let are = well b.got b.is in
         fits.granted x.psk taken.peer taken.packet granted are.1 (packet_octets g taken.packet b.got are.0 taken.came refl) (ap (λ (c : Ciphers). c.third_fault x.psk taken.peer taken.packet) (sym same) ∙ taken.right) (ap (λ (c : Ciphers). c.granted x.psk taken.peer taken.packet) (sym same) ∙ taken.is)
-    meter_words g well w (ByOrder index told) = (join_ranges told.octets told.join told.read).1 index told.body
+    meter_words g well w (ByOrder index told) = (read_fits told.join told.octets told.read).index index told.body
 
     pub join_ok : (agent now : ℕ) → PlanOk role m (meters.join x m agent now)
     join_ok agent now = bookless_ok role (RingCause (call_given 0 0 now) x m) (meter_words (call_given 0 0 now) (λ got e. absurd (no_some got e))) (call_given 0 0 now) m (call_offers 0 0 now) meters.joining_ends Nothing (λ n answer k. absurd k) (λ n answer k. absurd k) (λ n answer k. absurd k) _

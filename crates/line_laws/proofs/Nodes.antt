@@ -38,6 +38,7 @@ use Rattle.line_laws.proofs.MarkOrder.{Raised, raised_same}
 use Rattle.line_laws.proofs.MarkWrites.{MarksFrom, PlanMarks, plan_marks}
 use Rattle.line_laws.proofs.MarkNodes.{AreCovered, marks_held, marks_from, left_raised, left_covered}
 use Rattle.line_laws.proofs.Frontiers.{Numbered, PlanRises, plan_rises, frontier, acts_rise}
+pub use Rattle.line_laws.specs.Lines.{NodeOk}
 
 -- What a plan keeps.
 pub record PlanFits (role : Role) (m : Memory) {A : Type 0} (p : Plan Memory A) : Type 0 where
@@ -55,12 +56,6 @@ pub record PlanOk (role : Role) (m : Memory) {A : Type 0} (p : Plan Memory A) : 
   pub from : AreFrom (address_of p.memory.station) p.frames
   -- no mark falls
   pub marked : PlanMarks m p
-
--- What holds of a node.
-pub record NodeOk (x : Node) : Type 0 where
-  pub kept : Left (IsKept x.role) x.store.records x.memory
-  pub sized : IfSome x.memory IsMemorySized
-  pub covered : AreCovered x.memory
 
 -- What holds of what a node did.
 pub record DidFits (x : Node) {A : Type 0} (d : NodeStep A) : Type 0 where
@@ -151,7 +146,7 @@ length-letters : (g : Granted) (key : Key) (first : ℕ) (units : List Outgoing)
 length-letters g key first [] = refl
 length-letters g key first (o ∷ rest) = ap suc (length-letters g key (first + 1) rest)
 
-sealed_few : (r : ring.Ring) (first : ℕ) (units : List Outgoing) → length (sealed_by r first units) ≤ length units
+pub sealed_few : (r : ring.Ring) (first : ℕ) (units : List Outgoing) → length (sealed_by r first units) ≤ length units
 sealed_few None first units = omega arith
 sealed_few (Some g) first units = by_key (sealing_key g)
   where

@@ -29,16 +29,9 @@ use Rattle.line_laws.proofs.Tellings.{step_is}
 use Rattle.line_laws.proofs.Homes.{at_length}
 use Rattle.line_laws.proofs.FlightFolds.{NewSenders, SendersIn, senders}
 use Rattle.line_laws.proofs.BookGrowth.{Goes, GoesBy, goes}
+pub use Rattle.line_laws.specs.Keyed.{IsHome, AtHome}
 
 -- # Homes
-
--- an address is that of the node of a number, by the book
-abbrev IsHome : books.Book → World → ℕ → ℕ → Type 0
-IsHome b w n a = (x : Node) → node_at w n ≡ Some x → (n ≡ 0 → a ≡ 0) × (n ≢ 0 → books.address_of b x.eui ≡ Some a)
-
--- the sender field of a flight is the address of its node
-abbrev AtHome : books.Book → World → Flight → Type 0
-AtHome b w f = IfSome (nonce_parts f) (λ (p : NonceParts). IsHome b w f.from p.from)
 
 if_parts : (o : Option NonceParts) (P Q : NonceParts → Type 0) → ((p : NonceParts) → P p → Q p) → IfSome o P → IfSome o Q
 if_parts None P Q f h = tt
@@ -91,7 +84,7 @@ module _ (w v : World) (given more : List Issued) (k : Keyed w given) (kv : Keye
   new_home : (f : Flight) → HasSender v f → AtHome kv.book v f
   new_home f t = if_parts (nonce_parts f) (λ p. HasAddress v f.from p.from) (λ p. IsHome kv.book v f.from p.from) (λ p. home_of f.from p.from) t
 
-  later_homes : KeepsFlights w.flights v.flights → All (λ (f : Flight). f.from < length w.nodes) w.flights → All (AtHome k.book w) w.flights → NewSenders w v → All (AtHome kv.book v) v.flights
+  pub later_homes : KeepsFlights w.flights v.flights → All (λ (f : Flight). f.from < length w.nodes) w.flights → All (AtHome k.book w) w.flights → NewSenders w v → All (AtHome kv.book v) v.flights
   later_homes keeps from home new =
       all_homes (λ f. (f.from < length w.nodes) × AtHome k.book w f) (AtHome kv.book v) old_home w.flights v.flights keeps (all_both (λ (f : Flight). f.from < length w.nodes) (AtHome k.book w) w.flights from home)
       (λ i d lt. new_home (get_or (drop (length w.flights) v.flights) i d) (new i d lt))

@@ -1,10 +1,12 @@
 -- What a doing keeps and sends is octets: the bodies that wait, random values and the ends of joinings; units and plain frames.
-use Rattle.std.proofs.Common.{◌≡◌, ℕ, ◌+◌, ◌≤◌, ◌<◌, Bool, true, false, List, [], ◌∷◌, length, Option, Some, None, Result, Ok, Err, refl, arith}
+use Rattle.std.proofs.Common.{◌≡◌, ℕ, ◌+◌, ◌≤◌, Bool, true, false, List, [], ◌∷◌, length, Option, Some, None, Result, Ok, Err, refl, arith}
 use Rattle.std.specs.Prelude.{if◌then◌else◌, All, IfSome, not, nat_lt}
 use Rattle.std.specs.List.{filter, flat_map}
 use Rattle.std.specs.Option.{option_map_or}
 use Rattle.std.proofs.lemmas.List.Elements.{All-nil, All-cons, All-head, All-tail, All-push, All-append, All-map, All-weaker, All-filter}
+use Rattle.plc_base.specs.declared.address.TheConstants.{PAN}
 use Rattle.plc_base.specs.Fields.{AreOctets}
+use Rattle.plc_base.proofs.OctetLists.{front, remainder}
 use Rattle.plc_base.specs.Grant.{Granted}
 use Rattle.plc_base.specs.declared.address.Eui.{Eui}
 use Rattle.plc_base.specs.declared.key.Key.{Key}
@@ -14,14 +16,25 @@ use Rattle.group_keys.specs.declared.key_book.BookEntry.{BookEntry}
 use Rattle.group_keys.specs.KeyRing as ring
 use Rattle.eap_psk.specs.declared.peer.Peer.{Peer}
 use Rattle.joining_messages.specs.declared.message.JoinMessage.{JoinMessage}
+use Rattle.joining_messages.specs.declared.message.JoinBody.{JoinBody}
 use Rattle.joining_messages.specs.Messages as joining
+use Rattle.joining_messages.specs.Laws as joins
+use Rattle.joining_messages.proofs.JoinOctets.{spelling_octets as join_octets}
+use Rattle.loadng_messages.specs.declared.message.Message.{Message}
 use Rattle.loadng_messages.specs.declared.message.Message.TheVariants.{Rreq, Rrep, Rerr}
+use Rattle.loadng_messages.specs.Grammar as messages
+use Rattle.loadng_messages.proofs.MessageOctets.{message_octets}
 use Rattle.mesh_header.specs.declared.unit.Unit.{Unit as MeshUnit}
 use Rattle.mesh_header.specs.declared.unit.Unit.TheVariants as units
-use Rattle.mesh_header.specs.Grammar.{IsUnit, spelling}
+use Rattle.mesh_header.specs.Grammar.{spelling}
 use Rattle.mesh_header.specs.Reading.{unit_in}
-use Rattle.mesh_header.proofs.Readings.{unit_spelled}
+use Rattle.mesh_header.specs.Laws.{HasOctets, SpellsOctets}
+use Rattle.mesh_header.proofs.UnitOctets.{spelling_octets, read_octets}
+use Rattle.mac_frames.specs.declared.head.MacHead.TheVariants as heads
 use Rattle.mac_frames.specs.Sent.{sealed_body}
+use Rattle.mac_frames.proofs.FrameOctets.{header_octets, sealed_octets}
+use Rattle.fragment_buffers.specs.Loads.{load_octets, IsShort}
+use Rattle.fragment_buffers.proofs.LoadOctets.{load_octets_spelled}
 use Rattle.node_rules.specs.declared.heard.Heard.{Heard}
 use Rattle.node_rules.specs.Ciphers.{network}
 use Rattle.node_rules.specs.Frames.{Letter, Sent, Sealed, Up, Down, head_of, joining_unit, spelled}
@@ -35,13 +48,29 @@ use Rattle.node_rules.specs.Joining.{command_of}
 use Rattle.node_rules.proofs.MemoryDraftShapes.{whole, reading}
 use Rattle.line_laws.specs.Stores.{IsReadable}
 use Rattle.line_laws.proofs.CoordinatorCalls.{ring_key_octets}
-use Rattle.line_laws.proofs.HeardOctets.{WayFits, UnitOctets, unit_octets}
+use Rattle.node_rules.specs.OctetLaws.{WayFits}
 use Rattle.line_laws.proofs.HearingForms.{Handed, HandsUp, HandsOn, Gathers, Completes, MadeOf}
 use Rattle.line_laws.proofs.Made.{Given, IsCome, IsLess, Whole, Part, Carried, Made, Starts, Ranks, Numbers, Tags, Rings, Idles, Loses, Goes, Sends, Waits, Leaves, IsSaid, Seeks, Answers, Relays, Passes, Tells, Forwards}
 use Rattle.line_laws.proofs.NodeCalls.{NoWord}
 use Rattle.line_laws.proofs.Planned.{Planned, Refuses, Keeps, Ended}
-use Rattle.line_laws.proofs.SpelledOctets.{front, SpellsOctets, whole_octets, part_octets, carried_octets, LoadSpeaks, load_units, route_octets, JoinSpeaks, sealed_octets, sealed_head_octets, up_octets, down_octets}
 use Rattle.line_laws.proofs.StoreFold.{ring_fits}
+
+-- # What is said
+
+-- a load of octets, which is short
+abbrev pub LoadSpeaks : Load → Type 0
+LoadSpeaks load = AreOctets (load_octets load) × IsShort load
+
+-- a joining message of octets
+abbrev pub JoinSpeaks : JoinMessage → Type 0
+JoinSpeaks join = joins.HasOctets join
+
+pub join_speaks : (eui : Eui) (b : JoinBody) → AreOctets eui.0 → AreOctets (joining.rest_of b) → JoinSpeaks (record { eui = eui; body = b })
+join_speaks eui b own all = record { eui = own; rest = all }
+
+-- the unit of a route message
+route_octets : (m : Message) → SpellsOctets (units.Local 1 (messages.spelling m))
+route_octets m = spelling_octets (units.Local 1 (messages.spelling m)) (omega arith, message_octets m)
 
 -- # What is kept
 
@@ -101,16 +130,16 @@ pub record DraftSpeaksIn (d : Draft Memory) : Type 0 where
 
 letter_octets : (l : Letter) → l.index ≤ 1 → AreOctets l.key.0 → SpellsOctets l.unit → SentOctets (Sealed l)
 unfolding spelled
-letter_octets l low fits unit = sealed_head_octets l.to l.from l.counter l.index (sealed_body l.key.0 (head_of l) (spelling l.unit)) low (sealed_octets l.key.0 (head_of l) (spelling l.unit) fits unit)
+letter_octets l low fits unit = header_octets (head_of l) (sealed_body l.key.0 (head_of l) (spelling l.unit)) (remainder l.counter, omega arith) (sealed_octets l.key.0 (head_of l) (spelling l.unit) fits unit)
 
 joining_octets : (message : JoinMessage) → JoinSpeaks message → SpellsOctets (joining_unit message)
-joining_octets message h = front 0x40 (2 ∷ joining.spelling message) (omega arith) (front 2 (joining.spelling message) (omega arith) h.0)
+joining_octets message h = spelling_octets (joining_unit message) (omega arith, join_octets message h)
 
 plain_octets : (f : Sent) → PlainSpeaks f → SentOctets f
 unfolding spelled
 plain_octets (Sealed l) h = absurd h
-plain_octets (Up agent from message) h = up_octets agent from (spelling (joining_unit message)) h.0 (joining_octets message h.1)
-plain_octets (Down from message) h = down_octets from message.eui (spelling (joining_unit message)) h.1 (joining_octets message h)
+plain_octets (Up agent from message) h = header_octets (heads.Up true 1 0 PAN agent from) (spelling (joining_unit message)) (omega arith, omega arith, h.0) (joining_octets message h.1)
+plain_octets (Down from message) h = header_octets (heads.Down true 1 0 PAN message.eui from) (spelling (joining_unit message)) (omega arith, omega arith, h.eui) (joining_octets message h)
 
 letters_speak : (g : Granted) (key : Key) (first : ℕ) (us : List Outgoing) → g.active ≤ 1 → AreOctets key.0 → All OutSpeaks us → All SentOctets (letters g key first us)
 letters_speak g key first [] low fits all = All-nil SentOctets
@@ -119,7 +148,7 @@ letters_speak g key first (o ∷ rest) low fits all =
     (letter_octets (record { to = o.to; from = g.address; counter = first; index = g.active; key = key; unit = o.unit; note = o.note }) low fits (All-head OutSpeaks o rest all))
     (letters_speak g key (first + 1) rest low fits (All-tail OutSpeaks o rest all))
 
-sealed_speak : (r : ring.Ring) (first : ℕ) (us : List Outgoing) → IfSome r IsReadable → All OutSpeaks us → All SentOctets (sealed_by r first us)
+pub sealed_speak : (r : ring.Ring) (first : ℕ) (us : List Outgoing) → IfSome r IsReadable → All OutSpeaks us → All SentOctets (sealed_by r first us)
 sealed_speak None first us reads all = All-nil SentOctets
 sealed_speak (Some g) first us reads all = by_key (sealing_key g) refl
   where
@@ -188,24 +217,15 @@ module _ (m : Memory) (h : MemorySpeaks m) where
 
 -- what a unit that came gives to a unit that goes on
 abbrev pub UnitSpeaks : MeshUnit → Type 0
-UnitSpeaks (units.Whole mesh octets) = (mesh.hops < 256) × AreOctets octets
-UnitSpeaks (units.Part mesh piece) = (mesh.hops < 256) × (piece.offset < 256) × AreOctets piece.octets
-UnitSpeaks (units.Carried mesh octets) = (mesh.hops < 256) × AreOctets octets
-UnitSpeaks (units.Local code octets) = Unit {0}
+UnitSpeaks u = HasOctets u
 
 pub unit_speaks : (payload : List ℕ) (u : MeshUnit) → AreOctets payload → unit_in payload ≡ Some u → UnitSpeaks u
-unit_speaks payload u are e = by_unit u (unit_spelled u payload are e).0 (unit_octets payload u are e)
-  where
-    by_unit : (u : MeshUnit) → IsUnit u → UnitOctets u → UnitSpeaks u
-    by_unit (units.Whole mesh octets) f o = (f.0.hops, o)
-    by_unit (units.Part mesh piece) f o = (f.0.hops, f.1.offset, o)
-    by_unit (units.Carried mesh octets) f o = (f.hops, o)
-    by_unit (units.Local code octets) f o = tt
+unit_speaks payload u are e = read_octets u payload are e
 
 less_speaks : (u less : MeshUnit) → IsLess u less → UnitSpeaks u → SpellsOctets less
-less_speaks u less (Whole mesh octets) h = whole_octets (hop_less mesh) octets (let low = h.0 in omega arith) h.1
-less_speaks u less (Part mesh piece) h = part_octets (hop_less mesh) piece (let low = h.0 in omega arith) h.1 h.2
-less_speaks u less (Carried mesh octets) h = carried_octets (hop_less mesh) octets (let low = h.0 in omega arith) h.1
+less_speaks u less (Whole mesh octets) h = spelling_octets (units.Whole (hop_less mesh) octets) (let low = h.0 in omega arith, h.1)
+less_speaks u less (Part mesh piece) h = spelling_octets (units.Part (hop_less mesh) piece) (let low = h.0 in omega arith, h.1, h.2)
+less_speaks u less (Carried mesh octets) h = spelling_octets (units.Carried (hop_less mesh) octets) (let low = h.0 in omega arith, h.1)
 
 -- the units of bodies that leave
 bodies_speak : (own hop : ℕ) (bodies : List Body) → All BodySpeaks bodies → All OutSpeaks (flat_map (λ b. all_go hop b.note (units_of own b.to b.load)) bodies)
@@ -215,7 +235,7 @@ bodies_speak own hop (b ∷ bodies) all =
     (load_goes own b.to hop b.note b.load (All-head BodySpeaks b bodies all)) (bodies_speak own hop bodies (All-tail BodySpeaks b bodies all))
   where
     load_goes : (own to hop note : ℕ) (load : Load) → LoadSpeaks load → All OutSpeaks (all_go hop note (units_of own to load))
-    load_goes own to hop note load h = All-map OutSpeaks (λ unit. record { to = hop; unit = unit; note = note }) (units_of own to load) (λ k u lt. load_units own to load h k u lt)
+    load_goes own to hop note load h = All-map OutSpeaks (λ unit. record { to = hop; unit = unit; note = note }) (units_of own to load) (λ k u lt. load_octets_spelled own to load h.0 h.1 k u lt)
 
 -- # Words of the line
 
@@ -324,7 +344,7 @@ unfolding body_goes
 body_speaks own hop to note load d says s = record {
   ring = s.ring;
   waiting = s.waiting;
-  units = All-append OutSpeaks d.units (all_go hop note (units_of own to load)) s.units (All-map OutSpeaks (λ unit. record { to = hop; unit = unit; note = note }) (units_of own to load) (λ k u lt. load_units own to load says k u lt));
+  units = All-append OutSpeaks d.units (all_go hop note (units_of own to load)) s.units (All-map OutSpeaks (λ unit. record { to = hop; unit = unit; note = note }) (units_of own to load) (λ k u lt. load_octets_spelled own to load says.0 says.1 k u lt));
   plain = s.plain;
 }
 
@@ -343,5 +363,5 @@ commanded_speaks to message now d says s = by_address (address_of d.memory.stati
     by_address : (own : Option ℕ) → DraftSpeaksIn (option_map_or (λ own. on_station (sets_out own to 0 (Command (command_of message)) now) d) own d)
     by_address None = s
     by_address (Some own) =
-        let r = sets_out_speaks own to 0 (Command (command_of message)) now (station_part d) (front 2 (joining.spelling message) (omega arith) says.0, tt) (record { ring = s.ring; waiting = s.memory.waiting; units = s.units; plain = s.plain }) in
+        let r = sets_out_speaks own to 0 (Command (command_of message)) now (station_part d) (front 2 (joining.spelling message) (omega arith) (join_octets message says), tt) (record { ring = s.ring; waiting = s.memory.waiting; units = s.units; plain = s.plain }) in
         record { ring = r.ring; memory = record { waiting = r.waiting; randoms = s.memory.randoms; session = s.memory.session; sessions = s.memory.sessions }; units = r.units; plain = r.plain }

@@ -1,6 +1,6 @@
 -- Octets that arrive, and are not forged, leave flights that are letters in range, and nodes in their ranges.
 use Rattle.std.proofs.Common.{◌≡◌, ℕ, ◌<◌, false, List, Some, Result, Ok, Err, refl, sym, subst, arith}
-use Rattle.std.specs.Prelude.{All, IfSome}
+use Rattle.std.specs.Prelude.{All}
 use Rattle.std.proofs.lemmas.Bool.{or_parts}
 use Rattle.std.proofs.lemmas.List.Elements.{All-append, All-set}
 use Rattle.plc_base.specs.declared.key.Key.{Key}
@@ -32,10 +32,7 @@ use Rattle.line_laws.proofs.RangeHeard.{heard_ranged, plain_ranged, SaysShort, m
 use Rattle.line_laws.proofs.RangeCoordinator.{SpeaksWell, SaysOnly, coordinator_carries, coordinator_words, coordinator_hears_ranged}
 use Rattle.line_laws.proofs.RangeCalls.{accept_ranged}
 use Rattle.line_laws.proofs.CustodyDeliver.{WhatCame, PlainCame, LetterCame, opening}
-
--- a node that is not halted is in its ranges
-abbrev pub NodeRanged : Node → Type 0
-NodeRanged x = IfSome x.memory (λ (m : Memory). IsStationRanged m.station)
+pub use Rattle.line_laws.specs.Ranges.{NodeRanged}
 
 -- What is owed of the words of a joining: what a meter installs is read back, and what it says fits a command; to whom the coordinator speaks.
 pub record JoinsWell (ciphers : Ciphers) (x : Node) (got : Accepted) (cost note now : ℕ) : Type 0 where

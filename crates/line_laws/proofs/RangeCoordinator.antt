@@ -15,7 +15,7 @@ use Rattle.line_laws.proofs.Made.{Given, RingWord, Carry}
 use Rattle.line_laws.proofs.MemoryDraftForms.{HandedIn}
 use Rattle.line_laws.proofs.CoordinatorForms.{IsReached, IsSaidDown, IsGranted, coordinator_is}
 use Rattle.line_laws.proofs.NodeCalls.{heard_given}
-use Rattle.line_laws.proofs.Readings.{join_ranges}
+use Rattle.joining_messages.proofs.JoinRanges.{read_fits}
 use Rattle.line_laws.proofs.StoreFold.{WordFits}
 use Rattle.line_laws.proofs.RangeFold.{InRange}
 use Rattle.line_laws.proofs.RangePlans.{RangeOk, plan_ranged}
@@ -44,7 +44,7 @@ abbrev AnyKey : Eui → Key → Type 0
 AnyKey eui psk = Unit {0}
 
 any_eui : (octets : List ℕ) (join : JoinMessage) → join_in octets ≡ Some join → HasEight join.eui
-any_eui octets join e = (join_ranges octets join e).0
+any_eui octets join e = (read_fits join octets e).eui
 
 pub coordinator_hears_ranged : (own : coordinators.CoordinatorIdentity) (m : Memory) (got : Accepted) (cost note now : ℕ) → InRange (SaysOnly own (heard_given got cost note now) m) (heard_given got cost note now) → IsStationRanged m.station
     → RangeOk (coordinators.hear_coordinator own m got cost note now)

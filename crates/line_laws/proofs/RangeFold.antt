@@ -141,7 +141,7 @@ module _ (W : RingWord → Type 0) (g : Given) (s : Draft StationMemory) (known 
 
   -- a route message to one node or to all
   message_out : (to : ℕ) (m : Message) (note : ℕ) → IsTarget to → messages.IsMessage m → IsOut (record { to = to; unit = units.Local 1 (messages.spelling m); note = note })
-  message_out to m note target fits = record { to = target; unit = message_fit m; route = (refl, (m, fits, refl)) }
+  message_out to m note target fits = record { to = target; unit = message_fit m; route = λ e. (m, fits, refl) }
 
   one : (a : ℕ) → a < 0xFFFE → IsTarget a
   one a h = (omega arith, omega arith)

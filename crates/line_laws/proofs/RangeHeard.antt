@@ -1,6 +1,7 @@
 -- What a node hears of a letter is in the letter's ranges.
 use Rattle.std.proofs.Common.{◌≡◌, ℕ, ◌<◌, ◌≤◌, Bool, false, length, Some, refl, sym, ap, ◌∙◌, subst, arith}
 use Rattle.std.specs.Prelude.{◌==◌}
+use Rattle.std.proofs.lemmas.Bool.{eqb-true}
 use Rattle.std.proofs.lemmas.Option.{same_Some}
 use Rattle.plc_base.specs.declared.key.Key.{Key}
 use Rattle.mesh_header.specs.declared.unit.Unit.{Unit as MeshUnit}
@@ -63,8 +64,9 @@ module _ (l : Letter) (fits : IsLetter l) (from counter : ℕ) (got : Accepted) 
   heard_told by all message t =
       let x = comes_of by all (units.Local t.code t.body) t.came in
       let r : IsRoute (units.Local t.code t.body) = subst IsRoute (sym x.1) fits.route in
-      let read : message_in t.body ≡ Some r.1.0 = message_read r.1.0 t.body (r.1.1, r.1.2) in
-      subst messages.IsMessage (same_Some r.1.0 message (sym read ∙ t.read)) r.1.1
+      let m = r (eqb-true t.code 1 t.first) in
+      let read : message_in t.body ≡ Some m.0 = message_read m.0 t.body (m.1, m.2) in
+      subst messages.IsMessage (same_Some m.0 message (sym read ∙ t.read)) m.1
 
   pub heard_ranged : (W : RingWord → Type 0) → ((to n : ℕ) (load : Load) → W (Carry to n load) → (to < 0xFFFE) × HasRoomInFrames load) → ((w : RingWord) → W w → WordFits w) → InRange W heard
   heard_ranged W carries words = record { comes = heard_fits; told = heard_told; near = λ by e. absurd (cc); carries = carries; words = words }

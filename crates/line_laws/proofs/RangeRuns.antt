@@ -34,7 +34,7 @@ use Rattle.node_rules.specs.Meters as meters
 use Rattle.node_rules.specs.NodeSteps.{NodeStep, acts, stays, answering, changing, of_station}
 use Rattle.node_rules.specs.Plans.{Plan}
 use Rattle.node_rules.specs.StoreReading.{first_grant, blank_station}
-use Rattle.line_laws.specs.Letters.{IsFlight, AreFlights}
+use Rattle.line_laws.specs.Letters.{IsFlight}
 use Rattle.line_laws.specs.Owed.{AreOctets}
 use Rattle.line_laws.specs.Ranges.{HasHop, IsBody, IsStationRanged}
 use Rattle.line_laws.specs.Sizes.{IsMemorySized}
@@ -44,7 +44,7 @@ use Rattle.line_laws.proofs.BookGrowth.{psk_meter}
 use Rattle.line_laws.proofs.CommandSizes.{EntryHasEight, IsBooked, says_short, speaks_well}
 use Rattle.line_laws.proofs.CoordinatorCalls.{accept_ok, accept_failed, accepted_routes, depot_failed}
 use Rattle.line_laws.proofs.FlightFolds.{address_low, came_octets}
-use Rattle.line_laws.proofs.LetterSeals.{network_opens}
+use Rattle.node_rules.proofs.NetworkOpens.{network_opens_again}
 use Rattle.line_laws.proofs.LettersRead.{Reads, CallsRead, plan_reads}
 use Rattle.line_laws.proofs.Made.{Given}
 use Rattle.line_laws.proofs.NodeCalls.{RoutesFit, call_given, heard_given, meter_words, no_some}
@@ -65,12 +65,9 @@ use Rattle.line_laws.proofs.StepsOk.{read_again}
 use Rattle.line_laws.proofs.StoreMarks.{accept_is}
 use Rattle.line_laws.proofs.Tellings.{IsCall, Gives, Joins, Leaves, Sends, Breaks, Nears, Counts, Numbers, Accepts, Provisions, Depots, Allows, Rekeys, Turns, Challenges, Activates, Kicks, IsMade, OfCoordinator, OfMeter, preset_call, IsStep, Fails, Makes, Rests, Shows, Acts, BreaksLink, SendsFrom, AllowsMeter, Sets, SetsTwo, Provides, TurnsDown, Hears, Loses, Ticks, Restarts, Cuts}
 use Rattle.line_laws.proofs.Worlds.{NodeFits, WorldOk, at_place}
+pub use Rattle.line_laws.specs.Ranges.{WorldRanged}
 
 -- # Worlds
-
-pub record WorldRanged (w : World) : Type 0 where
-  pub nodes : All NodeRanged w.nodes
-  pub flights : AreFlights network w.flights
 
 pub start_ranged : WorldRanged start
 start_ranged = record { nodes = All-nil NodeRanged; flights = All-nil (IsFlight network) }
@@ -241,24 +238,24 @@ module _ (w : World) (ok : WorldOk w) (s : WorldSpeaks w) (r : WorldRanged w) wh
     eight = subst (λ eui. length eui.0 ≡ 8) (sym did.eui) (given_at number x there).eui.0
 
     station : (m : Memory) → y.memory ≡ Some m → IsStationRanged m.station
-    station m here = subst (λ o. IfSome o (λ (n : Memory). IsStationRanged n.station)) here (accepts_ranged network network_opens w r.flights number x octets cost (ranged_at number x there)).station
+    station m here = subst (λ o. IfSome o (λ (n : Memory). IsStationRanged n.station)) here (accepts_ranged network network_opens_again w r.flights number x octets cost (ranged_at number x there)).station
 
     pub joins : (note : ℕ) → JoinsWell network y got cost note w.clock
     joins note = joins_well y did.node left.node eight got cost note w.clock routes.payload
 
     module _ (honest : forged_by w octets got.path ≡ false) where
       heard_did : DidRanged (hears network y got cost (note_by w octets got.path) w.clock)
-      heard_did = heard_frames network network_opens w r.flights number x octets cost got is honest (ranged_at number x there) (joins (note_by w octets got.path))
+      heard_did = heard_frames network network_opens_again w r.flights number x octets cost got is honest (ranged_at number x there) (joins (note_by w octets got.path))
 
       meter_read : (psk : Key) (m : Memory) → y.role ≡ Meter psk → y.memory ≡ Some m → Reads network (meters.hear_meter (identity network y psk) m got cost (note_by w octets got.path) w.clock)
       meter_read psk m role here =
           let j = joins (note_by w octets got.path) in
-          plan_reads _ (meter_plan_ranged network network_opens w r.flights number x octets cost y psk m got (note_by w octets got.path) (opening network network_opens w r.flights number x octets cost 1 0 (omega arith) got is honest).what (station m here) (j.short psk role m here) (j.words psk role m here))
+          plan_reads _ (meter_plan_ranged network network_opens_again w r.flights number x octets cost y psk m got (note_by w octets got.path) (opening network network_opens_again w r.flights number x octets cost 1 0 (omega arith) got is honest).what (station m here) (j.short psk role m here) (j.words psk role m here))
 
       coordinator_read : (m : Memory) → y.memory ≡ Some m → Reads network (coordinator_rules.hear_coordinator (record { eui = y.eui; ciphers = network }) m got cost (note_by w octets got.path) w.clock)
       coordinator_read m here =
           let j = joins (note_by w octets got.path) in
-          plan_reads _ (coordinator_plan_ranged network network_opens w r.flights number x octets cost y m got (note_by w octets got.path) (opening network network_opens w r.flights number x octets cost 1 0 (omega arith) got is honest).what (station m here) (j.coordinator m here))
+          plan_reads _ (coordinator_plan_ranged network network_opens_again w r.flights number x octets cost y m got (note_by w octets got.path) (opening network network_opens_again w r.flights number x octets cost 1 0 (omega arith) got is honest).what (station m here) (j.coordinator m here))
 
   -- what every call spells is read back
   pub calls_read : CallsRead network w

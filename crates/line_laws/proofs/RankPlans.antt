@@ -34,6 +34,7 @@ use Rattle.line_laws.proofs.RankWrites.{RankKept, away_leads}
 use Rattle.line_laws.proofs.RankFold.{IsAt, OfferFits, counter_away, made_in_at, made_in_account, made_in_adds}
 use Rattle.line_laws.proofs.RankSaid.{FrameBacked, frame_rises, frames_backed}
 use Rattle.line_laws.specs.Loops.{ranks_in, stored}
+use Rattle.line_laws.specs.Ranked.{via}
 
 -- What a plan does to ranks and routes.
 pub record PlanRanks (At Own : ℕ → Type 0) (C : ℕ → ℕ → Rank → Type 0) (m : Memory) {A : Type 0} (p : Plan Memory A) : Type 0 where
@@ -85,10 +86,6 @@ held_read t r sound kept dest = ap (λ s. routing.held s dest) (ranks_read t r s
 
 pub rank_read : (t : routing.Routing) (r : Records) → IsRouting t → routing.IsKept t r → (dest : ℕ) → routing.rank_of (ranks_in r) dest ≡ routing.rank_of t dest
 rank_read t r sound kept dest = ap (λ s. routing.rank_of s dest) (ranks_read t r sound kept) ∙ ended_ranks (λ _. true) t dest
-
--- the next hop of its valid route to an address, whether it has a ring or not
-unfoldable pub via : Node → ℕ → Option ℕ
-via x dest = option_and_then (λ (m : Memory). routing.next_of m.station.routing dest) x.memory
 
 -- # A node
 

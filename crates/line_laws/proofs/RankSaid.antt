@@ -1,5 +1,5 @@
 -- The ranks that a node says are its own numbers at cost 0, or its kept ranks back them.
-use Rattle.std.proofs.Common.{◌≡◌, ◌⊎◌, inl, inr, ℕ, zero, suc, ◌+◌, ◌<◌, ◌^◌, Bool, true, false, cond, List, [], ◌∷◌, ◌++◌, length, map, set, Option, Some, None, refl, sym, ap, ◌∙◌, subst, arith}
+use Rattle.std.proofs.Common.{◌≡◌, inl, inr, ℕ, zero, suc, ◌+◌, ◌<◌, Bool, true, false, cond, List, [], ◌∷◌, ◌++◌, length, map, set, Option, Some, None, refl, sym, ap, ◌∙◌, subst, arith}
 use Rattle.std.specs.Prelude.{All, if◌then◌else◌, is_some, nat_le, nat_lt, ◌==◌, slice_get}
 use Rattle.std.specs.List.{filter, flat_map, find, position_or_len}
 use Rattle.std.specs.Option.{option_map, option_map_or, option_and_then, option_or}
@@ -9,13 +9,10 @@ use Rattle.plc_base.proofs.SlotTables.{found}
 use Rattle.plc_base.specs.Grant.{Granted}
 use Rattle.plc_base.specs.declared.address.Eui.{Eui}
 use Rattle.plc_base.specs.declared.key.Key.{Key}
-use Rattle.mesh_header.specs.declared.unit.Mesh.{Mesh}
-use Rattle.mesh_header.specs.Pieces.{Placed}
 use Rattle.mesh_header.specs.declared.unit.Unit.{Unit as MeshUnit}
 use Rattle.mesh_header.specs.declared.unit.Unit.TheVariants as units
 use Rattle.loadng_messages.specs.declared.message.Message.{Message}
 use Rattle.loadng_messages.specs.declared.message.Message.TheVariants.{Rreq, Rrep, Rerr}
-use Rattle.loadng_messages.specs.Grammar as messages
 use Rattle.fragment_buffers.specs.Cutting as cutting
 use Rattle.group_keys.specs.KeyRing as ring
 use Rattle.routing_set.specs.declared.rank.Rank.{Rank}
@@ -36,6 +33,7 @@ use Rattle.line_laws.proofs.RankOrder.{at_least_trans}
 use Rattle.line_laws.proofs.RankSteps.{held_kept}
 use Rattle.line_laws.proofs.RankAccount.{offered_account, ended_account}
 use Rattle.line_laws.proofs.RankFold.{IsAt, OfferFits, made_at, made_account, unheard_fits, beside_station, made_in_at, made_in_account}
+pub use Rattle.line_laws.specs.Ranked.{IsSmall, RankBacked, MessageBacked, UnitBacked, Says, IsWhole, IsPart, IsCarried, IsOther}
 
 -- # The rank that was offered last is kept
 
@@ -109,27 +107,6 @@ offered_held r dest rank by now =
 
 -- # What is said
 
--- a rank of two octets each, of an address of two octets
-abbrev pub IsSmall : (number cost origin : ℕ) → Type 0
-IsSmall number cost origin = (number < 2 ^ 16) × (cost < 2 ^ 16) × (origin < 2 ^ 16)
-
--- the rank is the node's own at cost 0, or what is held is that rank or beats it
-abbrev pub RankBacked : (ℕ → Type 0) → routing.Routing → (number cost origin : ℕ) → Type 0
-RankBacked At t number cost origin = (At origin × (cost ≡ 0)) ⊎ (IsAtLeast (routing.held t origin) (record { number = number; cost = cost }) × IsSmall number cost origin)
-
--- a request and a reply offer a rank, an error none
-abbrev pub MessageBacked : (ℕ → Type 0) → routing.Routing → Message → Type 0
-MessageBacked At t (Rreq number cost origin dest) = RankBacked At t number cost origin
-MessageBacked At t (Rrep number cost origin to) = RankBacked At t number cost origin
-MessageBacked At t (Rerr lost to) = Unit {0}
-
--- a route message is backed, and all other units go over the mesh
-pub data UnitBacked (At : ℕ → Type 0) (t : routing.Routing) : MeshUnit → Type 0 where
-  Says : (m : Message) → MessageBacked At t m → UnitBacked At t (units.Local 1 (messages.spelling m))
-  IsWhole : (mesh : Mesh) (octets : List ℕ) → UnitBacked At t (units.Whole mesh octets)
-  IsPart : (mesh : Mesh) (piece : Placed) → UnitBacked At t (units.Part mesh piece)
-  IsCarried : (mesh : Mesh) (body : List ℕ) → UnitBacked At t (units.Carried mesh body)
-
 -- a sealed frame has the own address and a unit that is backed
 abbrev pub FrameBacked : (ℕ → Type 0) → routing.Routing → Sent → Type 0
 FrameBacked At t (Sealed letter) = (At letter.from) × UnitBacked At t letter.unit
@@ -148,6 +125,7 @@ unit_rises At t s u up (Says m h) = Says m (message_rises At t s m up h)
 unit_rises At t s u up (IsWhole mesh octets) = IsWhole mesh octets
 unit_rises At t s u up (IsPart mesh piece) = IsPart mesh piece
 unit_rises At t s u up (IsCarried mesh body) = IsCarried mesh body
+unit_rises At t s u up (IsOther code body other) = IsOther code body other
 
 pub frame_rises : (At : ℕ → Type 0) (t s : routing.Routing) (f : Sent) → ((dest : ℕ) → IsAtLeast (routing.held s dest) (routing.held t dest)) → FrameBacked At t f → FrameBacked At s f
 frame_rises At t s (Sealed letter) up h = (h.0, unit_rises At t s letter.unit up h.1)

@@ -14,10 +14,7 @@ use Rattle.line_rules.specs.Steps.{flight_by}
 use Rattle.line_laws.specs.Owed.{KeepsRanges}
 use Rattle.line_laws.proofs.HeadsSaid.{sealed_counter, up_nonce, down_nonce}
 use Rattle.line_laws.proofs.Frontiers.{Numbered, numbered_le}
-
--- a flight of this node has a counter below a bound
-abbrev pub IsBelow : ℕ → ℕ → Flight → Type 0
-IsBelow number bound f = f.from ≡ number → IfSome (nonce_parts f) (λ p. p.counter < bound)
+pub use Rattle.line_laws.specs.Lines.{IsBelow}
 
 if_some : (o : Option NonceParts) (P Q : NonceParts → Type 0) → ((p : NonceParts) → P p → Q p) → IfSome o P → IfSome o Q
 if_some None P Q f h = tt

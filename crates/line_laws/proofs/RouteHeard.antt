@@ -3,7 +3,7 @@ use Rattle.std.proofs.Common.{◌≡◌, inl, inr, ℕ, ◌≤◌, ◌<◌, ◌^
 use Rattle.std.specs.Prelude.{All, ◌==◌, ◌||◌, slice_index}
 use Rattle.std.specs.List.{list_any}
 use Rattle.std.specs.Option.{option_map_or}
-use Rattle.std.proofs.lemmas.Bool.{eqb-false, and_parts}
+use Rattle.std.proofs.lemmas.Bool.{eqb-false, and_parts, eqb-true}
 use Rattle.std.proofs.lemmas.Option.{same_Some, none-some}
 use Rattle.std.specs.Str.{bytes_eq}
 use Rattle.group_keys.specs.KeyBook.{same_key}
@@ -35,7 +35,7 @@ use Rattle.line_laws.proofs.Made.{Offered, ByRequest, ByReply, ByItself}
 use Rattle.line_laws.proofs.NodeCalls.{RoutesFit, heard_given, heard_offers, no_some}
 use Rattle.line_laws.proofs.RankOrder.{beats_at_least, beats_farther}
 use Rattle.line_laws.proofs.RankFold.{IsAt, OfferFits}
-use Rattle.line_laws.proofs.RankSaid.{RankBacked, MessageBacked, UnitBacked, Says, IsWhole, IsPart, IsCarried}
+use Rattle.line_laws.proofs.RankSaid.{RankBacked, MessageBacked, UnitBacked, Says, IsWhole, IsPart, IsCarried, IsOther}
 use Rattle.line_laws.proofs.RouteParts as parts
 use Rattle.line_laws.proofs.RouteParts.{At, Own, Nearer, IsNearer, FlightBacked, IsLetter}
 use Rattle.line_laws.specs.Loops.{stored}
@@ -146,6 +146,7 @@ module _ (ciphers : Ciphers) (h : Homes) (w : World) (low : (i address : ℕ) �
       by_unit letter node home there reads u is same (IsWhole mesh os) = absurd (cc)
       by_unit letter node home there reads u is same (IsPart mesh piece) = absurd (cc)
       by_unit letter node home there reads u is same (IsCarried mesh bs) = absurd (cc)
+      by_unit letter node home there reads u is same (IsOther c b other) = absurd (other (let code_is : c ≡ code = cc in code_is ∙ eqb-true code 1 first))
 
       by_flight : FlightBacked ciphers h w x.flight → SaidBy h w from message
       by_flight (parts.IsPlain none) = absurd (none-some a.key (sym none ∙ x.key_is))

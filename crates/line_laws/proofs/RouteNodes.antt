@@ -38,10 +38,11 @@ use Rattle.line_laws.specs.Sizes.{IsMemorySized}
 use Rattle.line_laws.proofs.Keeping.{Left}
 use Rattle.line_laws.proofs.Nodes.{NodeOk}
 use Rattle.line_laws.proofs.StepsOk.{blank_ok, blank_kept}
-use Rattle.line_laws.proofs.RankPlans.{rank_read, via, NodeCause, Stood, Came, NodeRanks, acts_ranks}
+use Rattle.line_laws.proofs.RankPlans.{rank_read, NodeCause, Stood, Came, NodeRanks, acts_ranks}
 use Rattle.line_laws.proofs.RankCalls.{begin_ranks}
 use Rattle.line_laws.proofs.RankSaid.{FrameBacked}
 use Rattle.line_laws.specs.Loops.{ranks_in, stored}
+use Rattle.line_laws.specs.Ranked.{via}
 
 -- # Calls
 
@@ -183,9 +184,10 @@ module _ (At Own : ℕ → Type 0) (C : ℕ → ℕ → Rank → Type 0) where
   left_routing role r None k = (k.memory.station.routing, opened_again k.memory.station.routing r k.kept.station.range.routing.entries k.kept.station.routing)
   left_routing role r (Some m) k = (m.station.routing, opened_again m.station.routing r k.station.range.routing.entries k.station.routing)
 
-  pub restarted_ranks : (x : Node) → NodeOk x → NodeRanks At Own C x (restarts x).node []
+  -- a node that restarts has no valid route
+  pub restarted_none : (x : Node) → NodeOk x → (dest next : ℕ) → via (restarts x).node dest ≡ Some next → ⊥
   unfolding via
-  restarted_ranks x ok = same_store x (restarts x).node refl (λ dest next e. absurd (no_route dest next (memory_of x.role x.store.records) refl e))
+  restarted_none x ok dest next e = no_route dest next (memory_of x.role x.store.records) refl e
     where
       no_route : (dest next : ℕ) (o : Result Memory BadStore) → memory_of x.role x.store.records ≡ o → option_and_then (λ (m : Memory). routing.next_of m.station.routing dest) (memory_by o) ≡ Some next → ⊥
       no_route dest next (Err bad) is e = none-some next e
@@ -193,6 +195,9 @@ module _ (At Own : ℕ → Type 0) (C : ℕ → ℕ → Rank → Type 0) where
           let t = left_routing x.role x.store.records x.memory ok.kept in
           let same = memory_station x.role x.store.records (routing.at_rest t.0) t.1 n is in
           none-some next (sym (rested_route t.0 dest) ∙ ap (λ s. routing.next_of s dest) (sym same) ∙ e)
+
+  pub restarted_ranks : (x : Node) → NodeOk x → NodeRanks At Own C x (restarts x).node []
+  restarted_ranks x ok = same_store x (restarts x).node refl (λ dest next e. absurd (restarted_none x ok dest next e))
 
 -- # A new node
 

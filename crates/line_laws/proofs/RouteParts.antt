@@ -6,65 +6,24 @@ use Rattle.std.proofs.lemmas.Option.{same_Some, none-some}
 use Rattle.std.proofs.lemmas.List.Elements.{All-append, All-map, All-weaker}
 use Rattle.plc_base.proofs.SlotTables.{slice_get-set, slice_get-set_other}
 use Rattle.routing_set.specs.declared.rank.Rank.{Rank}
-use Rattle.routing_set.specs.Ranks.{Beats, IsAtLeast}
+use Rattle.routing_set.specs.Ranks.{IsAtLeast}
 use Rattle.routing_set.specs.RoutingSet as routing
 use Rattle.node_rules.specs.Ciphers.{Ciphers}
-use Rattle.node_rules.specs.Frames.{Sent, Sealed, Up, Down, Letter, spelled}
+use Rattle.node_rules.specs.Frames.{Sent, Sealed, Up, Down, spelled}
 use Rattle.node_rules.specs.Memory.{Node}
 use Rattle.line_rules.specs.Worlds.{World, Flight, node_at}
 use Rattle.node_rules.specs.NodeSteps.{NodeStep}
 use Rattle.line_rules.specs.Steps.{told, flights_of, flight_by}
 use Rattle.line_laws.proofs.RankOrder.{at_least_trans, beats_at_least}
-use Rattle.line_laws.proofs.RankSaid.{UnitBacked, unit_rises, FrameBacked}
-use Rattle.line_laws.proofs.RankPlans.{via, NodeCause, Stood, Came, NodeRanks, same_ranks}
+use Rattle.line_laws.proofs.RankSaid.{unit_rises, FrameBacked}
+use Rattle.line_laws.proofs.RankPlans.{NodeCause, Stood, Came, NodeRanks, same_ranks}
 use Rattle.line_laws.specs.Loops.{stored, Later}
-use Rattle.line_laws.proofs.LettersRead.{LetterRead, FrameRead}
+use Rattle.line_laws.proofs.LettersRead.{FrameRead}
 use Rattle.line_laws.proofs.Homed.{Homes}
+use Rattle.line_laws.specs.Ranked.{via}
+pub use Rattle.line_laws.specs.Ranked.{At, Own, Nearer, IsNearer, FlightBacked, IsPlain, IsLetter, GoodRoute, RanksHold, RoutesHold, RoutingHolds}
 
 -- # The parts
-
-abbrev pub At : Homes → ℕ → ℕ → Type 0
-At h i address = h i ≡ Some address
-
--- every address may become that of a node without one
-abbrev pub Own : Homes → ℕ → ℕ → Type 0
-Own h i dest = (h i ≡ Some dest) ⊎ (h i ≡ None)
-
--- The node of an address keeps a stored rank that beats this one.
-pub record Nearer (h : Homes) (w : World) (next dest : ℕ) (rank : Rank) : Type 0 where
-  pub number : ℕ
-  pub node : Node
-  pub home : h number ≡ Some next
-  pub there : node_at w number ≡ Some node
-  pub beats : Beats (routing.held (stored node) dest) rank
-
-abbrev pub IsNearer : Homes → World → ℕ → ℕ → Rank → Type 0
-IsNearer h w next dest rank = (next ≡ dest) ⊎ Nearer h w next dest rank
-
--- A flight is plain, or the spelling of a letter from its sender's address whose rank is the sender's own at cost 0, or backed by what the sender stores.
-pub data FlightBacked (ciphers : Ciphers) (h : Homes) (w : World) (f : Flight) : Type 0 where
-  IsPlain : f.key ≡ None → FlightBacked ciphers h w f
-  IsLetter : (letter : Letter) (x : Node) → f.octets ≡ (spelled ciphers (Sealed letter)).octets → f.key ≡ Some letter.key → h f.from ≡ Some letter.from → node_at w f.from ≡ Some x
-      → UnitBacked (At h f.from) (stored x) letter.unit → LetterRead ciphers letter → FlightBacked ciphers h w f
-
--- A valid route is at a stored rank, and leads to its end or nearer.
-pub record GoodRoute (h : Homes) (w : World) (x : Node) (dest next : ℕ) : Type 0 where
-  pub rank : Rank
-  pub kept : routing.rank_of (stored x) dest ≡ Some rank
-  pub nearer : IsNearer h w next dest rank
-
--- Ranks: flights are backed, and no node keeps a rank of its own address.
-pub record RanksHold (ciphers : Ciphers) (h : Homes) (w : World) : Type 0 where
-  pub backed : All (FlightBacked ciphers h w) w.flights
-  pub not_own : (i : ℕ) (x : Node) → node_at w i ≡ Some x → (dest : ℕ) → Own h i dest → routing.rank_of (stored x) dest ≡ None
-
--- Routes: valid routes lead nearer.
-pub record RoutesHold (h : Homes) (w : World) : Type 0 where
-  pub routes : (i : ℕ) (x : Node) → node_at w i ≡ Some x → (dest next : ℕ) → via x dest ≡ Some next → GoodRoute h w x dest next
-
-pub record RoutingHolds (ciphers : Ciphers) (h : Homes) (w : World) : Type 0 where
-  pub ranks : RanksHold ciphers h w
-  pub routes : RoutesHold h w
 
 -- # Steps
 

@@ -60,7 +60,7 @@ use Rattle.line_laws.proofs.RouteQuiet.{join_read, rekey_quiet, activate_self_qu
 use Rattle.line_laws.proofs.RankTaking.{taking_ranks}
 use Rattle.line_laws.proofs.Worlds.{WorldOk, FlightFits, at_place}
 use Rattle.line_laws.proofs.RankFold.{IsAt}
-use Rattle.line_laws.proofs.RankPlans.{PlanRanks, via, NodeRanks, acts_ranks, ranks_trans}
+use Rattle.line_laws.proofs.RankPlans.{PlanRanks, NodeRanks, acts_ranks, ranks_trans}
 use Rattle.line_laws.proofs.RankCalls.{send_ranks, near_ranks, counter_ranks, number_ranks, broke_ranks, provision_ranks, random_ranks, join_ranks, leave_ranks, coordinator_hears_ranks, allow_ranks, depot_ranks, rekey_ranks, activate_self_ranks, challenge_ranks, activate_ranks, kick_ranks, accept_ranks}
 use Rattle.line_laws.proofs.RouteParts.{At, Own, IsNearer, FlightBacked, IsPlain, IsLetter, RoutingHolds, ComesFrom, From, New, Reached, reach, flight_later, told_step}
 use Rattle.line_laws.proofs.RouteHeard.{SaidRight, accepted_said, said_offers}
@@ -68,6 +68,7 @@ use Rattle.line_laws.proofs.RouteNodes.{acts_frames, acts_memory, same_store, ti
 use Rattle.line_laws.specs.Loops.{stored, Later}
 use Rattle.line_laws.proofs.LettersRead.{FrameRead, Reads, CallsRead}
 use Rattle.line_laws.proofs.Homed.{Homes, Addressed, TakenFrom, IsTagged, HomesFit, DepotFits}
+use Rattle.line_laws.specs.Ranked.{via}
 
 -- # What other parts say
 

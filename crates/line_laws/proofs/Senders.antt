@@ -42,7 +42,7 @@ letters_from : (g : Granted) (key : Key) (first : ℕ) (units : List Outgoing) �
 letters_from g key first [] = tt
 letters_from g key first (o ∷ rest) = (refl, letters_from g key (first + 1) rest)
 
-sealed_from : (r : ring.Ring) (first : ℕ) (units : List Outgoing) → AreFrom (option_map (λ (g : Granted). g.address) r) (sealed_by r first units)
+pub sealed_from : (r : ring.Ring) (first : ℕ) (units : List Outgoing) → AreFrom (option_map (λ (g : Granted). g.address) r) (sealed_by r first units)
 sealed_from None first units = tt
 sealed_from (Some g) first units = by_key (sealing_key g)
   where

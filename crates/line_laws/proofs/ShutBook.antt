@@ -15,6 +15,7 @@ use Rattle.node_rules.specs.Memory.{Memory}
 use Rattle.line_laws.specs.Stores.{IsPair}
 use Rattle.line_laws.proofs.MadeIn.{EntryChange, Allows, Issues, Kicks}
 use Rattle.line_laws.proofs.Worlds.{within}
+pub use Rattle.line_laws.specs.Shut.{Shut}
 
 -- The entry of a meter that is allowed, where it stands.
 pub record Stands (b : books.Book) (number : ℕ) (e : BookEntry) : Type 0 where
@@ -51,25 +52,21 @@ two_flags : (f : Bool) → f ≡ true → f ≡ false → ⊥
 two_flags f a b = let both : true ≡ false = sym a ∙ b in cc (both)
 
 module _ (eui : Eui) where
-  -- no entry of this meter is allowed
-  abbrev pub Shut : books.Book → Type 0
-  Shut b = (place : ℕ) (e : BookEntry) → slice_get b place ≡ Some e → books.eui_number e.eui ≡ books.eui_number eui → e.allowed ≡ false
-
   -- a pair key of another meter
   abbrev pub OfOther : Eui → Key → Type 0
   OfOther u psk = IsPair psk × (books.eui_number u ≢ books.eui_number eui)
 
   -- who is allowed is another one
-  pub allowed_other : (b : books.Book) (u : Eui) (e : BookEntry) → Shut b → books.allowed_one b u ≡ Some e → books.eui_number u ≡ books.eui_number eui → ⊥
+  pub allowed_other : (b : books.Book) (u : Eui) (e : BookEntry) → Shut eui b → books.allowed_one b u ≡ Some e → books.eui_number u ≡ books.eui_number eui → ⊥
   allowed_other b u e shut is same = let s = allowed_there b u e is in two_flags e.allowed s.allowed (shut s.place e s.is (s.named ∙ same))
 
-  pub shut_with : (b : books.Book) (e : BookEntry) → Shut b → (books.eui_number e.eui ≡ books.eui_number eui → e.allowed ≡ false) → Shut (books.with_entry b e)
+  pub shut_with : (b : books.Book) (e : BookEntry) → Shut eui b → (books.eui_number e.eui ≡ books.eui_number eui → e.allowed ≡ false) → Shut eui (books.with_entry b e)
   shut_with b e shut new = by_place (books.place_of b e.eui) refl
     where
       this : (x : BookEntry) → e ≡ x → books.eui_number x.eui ≡ books.eui_number eui → x.allowed ≡ false
       this x same named = ap (λ (y : BookEntry). y.allowed) (sym same) ∙ new (ap (λ (y : BookEntry). books.eui_number y.eui) same ∙ named)
 
-      by_place : (o : Option ℕ) → books.place_of b e.eui ≡ o → Shut (option_map_or (λ place. set b place e) o (b ++ e ∷ []))
+      by_place : (o : Option ℕ) → books.place_of b e.eui ≡ o → Shut eui (option_map_or (λ place. set b place e) o (b ++ e ∷ []))
       by_place None first place x is named = ⊎_elim
           (λ (here : place ≡ length b). this x (same_Some _ _ (sym (slice_get-push b e) ∙ ap (slice_get (b ++ e ∷ [])) (sym here) ∙ is)) named)
           (λ (ne : place ≢ length b). shut place x (sym (slice_get-push_other b place e ne) ∙ is) named)
@@ -80,13 +77,13 @@ module _ (eui : Eui) where
           (cases_eq place at)
 
   -- no change of an entry lets the meter in, as long as it is not allowed
-  pub shut_step : (L : Granted → Type 0) (E : Eui → Type 0) (m : Memory) (b : books.Book) (e : BookEntry) → EntryChange L OfOther E m b e → Shut b → Shut (books.with_entry b e)
+  pub shut_step : (L : Granted → Type 0) (E : Eui → Type 0) (m : Memory) (b : books.Book) (e : BookEntry) → EntryChange L OfOther E m b e → Shut eui b → Shut eui (books.with_entry b e)
   shut_step L E m b e (Allows u psk known other room) shut = shut_with b e shut (λ same. absurd (other.1 (ap books.eui_number (sym (allowed_eui u psk (books.entry_for b u))) ∙ same)))
   shut_step L E m b e (Issues u granted old from held allowed) shut = shut_with b e shut (λ same. absurd (allowed_other b u old shut allowed same))
   shut_step L E m b e (Kicks u old known allowed) shut = shut_with b e shut (λ same. refl)
 
   -- a kick shuts the meter out
-  pub kicked_shut : (b : books.Book) (e : BookEntry) → slots.IsTable books.entries b → books.allowed_one b eui ≡ Some e → Shut (books.with_entry b (books.kicked_entry e.eui e))
+  pub kicked_shut : (b : books.Book) (e : BookEntry) → slots.IsTable books.entries b → books.allowed_one b eui ≡ Some e → Shut eui (books.with_entry b (books.kicked_entry e.eui e))
   kicked_shut b e table is = by_place (books.place_of b e.eui) (ap (slots.place_of books.entries b) s.named ∙ s.first)
     where
       s : Stands b (books.eui_number eui) e
@@ -105,7 +102,7 @@ module _ (eui : Eui) where
           inside : (b : books.Book) (place : ℕ) (x : BookEntry) → slice_get b place ≡ Some x → place < length b
           inside b place x there = within b place x there
 
-      by_place : (o : Option ℕ) → o ≡ Some s.place → Shut (option_map_or (λ place. set b place k) o (b ++ k ∷ []))
+      by_place : (o : Option ℕ) → o ≡ Some s.place → Shut eui (option_map_or (λ place. set b place k) o (b ++ k ∷ []))
       by_place None e place x there named = absurd (cc)
       by_place (Some at) e place x there named = ⊎_elim
           (λ (here : place ≡ at). ap (λ (y : BookEntry). y.allowed) (sym (same_Some _ _ (sym (slice_get-set b at k (found books.entries b (books.eui_number eui) at k (s.first ∙ sym e)).0) ∙ ap (slice_get (set b at k)) (sym here) ∙ there))))

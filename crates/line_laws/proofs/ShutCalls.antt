@@ -41,17 +41,14 @@ use Rattle.line_laws.proofs.Nodes.{NodeOk, waits_little}
 use Rattle.line_laws.proofs.Planned.{Planned, planned_weaker, planned_failed}
 use Rattle.line_laws.proofs.ShutBook.{Shut, OfOther, shut_step, kicked_shut}
 use Rattle.line_laws.proofs.StoreRanks.{EntryFits}
+pub use Rattle.line_laws.specs.Shut.{BookShut}
 
 abbrev AnyPair : Eui → Key → Type 0
 AnyPair u psk = Unit {0}
 
 module _ (eui : Eui) where
-  -- the book that the records of a node give does not allow the meter
-  abbrev pub BookShut : Node → Type 0
-  BookShut y = (b : books.Book) → IsBookKept b y.store.records → Shut eui b
-
-  pub acts_shut : {A : Type 0} (x : Node) (halted : A) (plan : Memory → Plan Memory A) → NodeOk x → x.role ≡ Coordinator → BookShut x
-      → ((m : Memory) → IsMemorySized m → Leads (Grown (Shut eui)) m (plan m).puts (plan m).memory) → BookShut (acts x halted plan).node
+  pub acts_shut : {A : Type 0} (x : Node) (halted : A) (plan : Memory → Plan Memory A) → NodeOk x → x.role ≡ Coordinator → BookShut eui x
+      → ((m : Memory) → IsMemorySized m → Leads (Grown (Shut eui)) m (plan m).puts (plan m).memory) → BookShut eui (acts x halted plan).node
   unfolding acts
   acts_shut {A = A} x halted plan ok role shut f = by_memory x.memory (subst (λ r. Left (IsKept r) x.store.records x.memory) role ok.kept) ok.sized
     where
@@ -59,7 +56,7 @@ module _ (eui : Eui) where
       by_left r None k b kept = subst (Shut eui) (one_book k.memory.book b r k.kept.kept.book kept) k.kept.grows
       by_left r (Some n) k b kept = subst (Shut eui) (one_book n.book b r k.kept.book kept) k.grows
 
-      by_memory : (q : Option Memory) → Left (IsKept Coordinator) x.store.records q → IfSome q IsMemorySized → BookShut (option_map_or (λ m. left_by x (carry_out x.store.records x.store.cut (plan m))) q (stays x halted)).node
+      by_memory : (q : Option Memory) → Left (IsKept Coordinator) x.store.records q → IfSome q IsMemorySized → BookShut eui (option_map_or (λ m. left_by x (carry_out x.store.records x.store.cut (plan m))) q (stays x halted)).node
       by_memory None kept sized = shut
       by_memory (Some m) kept sized =
           let o : Outcome Memory A = carry_out x.store.records x.store.cut (plan m) in

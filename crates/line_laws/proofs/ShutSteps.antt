@@ -56,6 +56,7 @@ use Rattle.line_laws.proofs.ShutCalls.{BookShut, acts_shut, hears_shut, allow_sh
 use Rattle.line_laws.proofs.StoreMarks.{accept_is}
 use Rattle.line_laws.proofs.Tellings.{IsStep, Fails, Makes, Rests, Shows, Acts, BreaksLink, SendsFrom, AllowsMeter, Sets, SetsTwo, Provides, TurnsDown, Hears, Loses, Ticks, Restarts, Cuts, IsAsked, AskRandom, AskJoin, AskLeave, AskRekey, AskTurn, AskChallenge, AskActivate, AskKick, step_is}
 use Rattle.line_laws.proofs.Worlds.{NodeFits, FlightFits, WorldOk, within as place_within, at_place}
+pub use Rattle.line_laws.specs.Shut.{ShutAt}
 
 -- # What holds of a step by its tests
 
@@ -73,14 +74,10 @@ module _ (P : Step → Type 0) (fails : (fault : StepFault) → P (Err fault)) w
   found_one (Some x) f h = h x refl
 
 module _ (eui : Eui) where
-  -- the coordinator's book does not allow the meter
-  abbrev pub ShutAt : World → Type 0
-  ShutAt v = (c : Node) → node_at v 0 ≡ Some c → BookShut eui c
-
-  same_shut : (u v : World) → v.nodes ≡ u.nodes → ShutAt u → ShutAt v
+  pub same_shut : (u v : World) → v.nodes ≡ u.nodes → ShutAt eui u → ShutAt eui v
   same_shut u v e shut c there = shut c (sym (ap (λ ns. slice_get ns 0) e) ∙ there)
 
-  told_shut : {A : Type 0} (u v : World) (number : ℕ) (x : Node) (d : NodeStep A) → ShutAt u → v.nodes ≡ slice_set u.nodes number d.node → node_at u number ≡ Some x → (number ≡ 0 → BookShut eui d.node) → ShutAt v
+  pub told_shut : {A : Type 0} (u v : World) (number : ℕ) (x : Node) (d : NodeStep A) → ShutAt eui u → v.nodes ≡ slice_set u.nodes number d.node → node_at u number ≡ Some x → (number ≡ 0 → BookShut eui d.node) → ShutAt eui v
   told_shut u v number x d shut nodes there book c is = ⊎_elim
       (λ (e : number ≡ 0).
       let same : d.node ≡ c = same_Some _ _ (sym (slice_get-set u.nodes number d.node (place_within u.nodes number x there)) ∙ sym (ap (λ ns. slice_get ns number) nodes) ∙ ap (node_at v) e ∙ is) in
@@ -89,13 +86,13 @@ module _ (eui : Eui) where
       (cases_eq number 0)
 
   abbrev pub ShutBy : Step → Type 0
-  ShutBy (Ok r) = ShutAt r.0
+  ShutBy (Ok r) = ShutAt eui r.0
   ShutBy (Err fault) = Unit {0}
 
   shut_failed : (fault : StepFault) → ShutBy (Err fault)
   shut_failed fault = tt
 
-  module _ (ciphers : Ciphers) (fits : KeepsRanges ciphers) (w : World) (ok : WorldOk w) (flown : All FlightFits w.flights) (shut : ShutAt w) where
+  module _ (ciphers : Ciphers) (fits : KeepsRanges ciphers) (w : World) (ok : WorldOk w) (flown : All FlightFits w.flights) (shut : ShutAt eui w) where
     good_at : (number : ℕ) (x : Node) → node_at w number ≡ Some x → NodeOk x
     good_at number x there = at_place NodeOk w.nodes number x there ok.nodes
 
@@ -111,7 +108,7 @@ module _ (eui : Eui) where
     first_shut : (number : ℕ) (x : Node) → number ≡ 0 → node_at w number ≡ Some x → BookShut eui x
     first_shut number x first there = shut x (ap (slice_get w.nodes) (sym first) ∙ there)
 
-    quiet_shut : {A : Type 0} (number : ℕ) (x : Node) (halted : A) (plan : Memory → Plan Memory A) → node_at w number ≡ Some x → ((m : Memory) → IsMemorySized m → Quietly m (plan m)) → number ≡ 0 → BookShut eui (acts x halted plan).node
+    pub quiet_shut : {A : Type 0} (number : ℕ) (x : Node) (halted : A) (plan : Memory → Plan Memory A) → node_at w number ≡ Some x → ((m : Memory) → IsMemorySized m → Quietly m (plan m)) → number ≡ 0 → BookShut eui (acts x halted plan).node
     quiet_shut number x halted plan there q first = acts_shut eui x halted plan (good_at number x there) (first_role number x first there) (first_shut number x first there) (λ m sized. (q m sized).leads (Shut eui))
 
     asked_shut : (number : ℕ) (x : Node) (A : Type 0) (halted : A) (plan : Memory → Plan Memory A) → node_at w number ≡ Some x → IsAsked ciphers w number x A halted plan → number ≡ 0 → BookShut eui (acts x halted plan).node
@@ -146,7 +143,7 @@ module _ (eui : Eui) where
         by_role (Meter psk) e = absurd (cc)
 
     heard_shut : (event : Event) (number : ℕ) (x : Node) (octets : List ℕ) (cost : ℕ) (got : Accepted) → node_at w number ≡ Some x → IsEvent event → Comes w event number octets → (accepting ciphers x octets).answer ≡ Ok got
-        → ShutAt (heard ciphers w number (accepting ciphers x octets).node octets got cost).0
+        → ShutAt eui (heard ciphers w number (accepting ciphers x octets).node octets got cost).0
     heard_shut event number x octets cost got there says comes is =
         let are = came_octets ciphers fits w ok flown event number octets says comes in
         let plan : Memory → Plan Memory (Result Accepted FrameRefusal) = λ m. of_station m (accept m.station x.eui (arrived ciphers octets)) in

@@ -70,7 +70,7 @@ module _ (Q : Write → Type 0) (away : (w : Write) → w.slot ≢ 4 → Q w) wh
       by_limit true = (away _ (omega arith), tt)
       by_limit false = tt
 
-  counter_away : (c : counter.Counting) (count : ℕ) → Each Q (puts_of (counter.reserve_write c count))
+  pub counter_away : (c : counter.Counting) (count : ℕ) → Each Q (puts_of (counter.reserve_write c count))
   counter_away c count = by_limit (counter.passes c count)
     where
       by_limit : (b : Bool) → Each Q (puts_of (if b then counter.limit_write (counter.raised c.limit) else None))
@@ -143,7 +143,7 @@ module _ (Q : Write → Type 0) (away : (w : Write) → w.slot ≢ 4 → Q w) wh
 abbrev pub Away : Write → Type 0
 Away w = w.slot ≢ 4
 
-away_so : (w : Write) → w.slot ≢ 4 → Away w
+pub away_so : (w : Write) → w.slot ≢ 4 → Away w
 away_so w ne = ne
 
 -- no datagram is sent out

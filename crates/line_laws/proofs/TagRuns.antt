@@ -67,6 +67,7 @@ use Rattle.line_laws.proofs.StoreWords.{tag_reads}
 use Rattle.line_laws.proofs.TagPuts.{Away, TagPut, Elsewhere, Next, carried_puts, away_tags, send_tags, random_away, join_away, leave_away, broke_away, near_away, counter_put_away, number_put_away, provision_away, accept_away, meter_away, coordinator_away, allow_away, depot_away, rekey_away, activate_self_away, challenge_away, activate_away, kick_away}
 use Rattle.line_laws.proofs.Tellings.{IsCall, Gives, Joins, Leaves, Sends, Breaks, Nears, Counts, Numbers, Accepts, Provisions, Depots, Allows, Rekeys, Turns, Challenges, Activates, Kicks, preset_call, IsMade, OfCoordinator, OfMeter, IsStep, Fails, Makes, Rests, Shows, Acts, BreaksLink, SendsFrom, AllowsMeter, Sets, SetsTwo, Provides, TurnsDown, Hears, Loses, Ticks, Restarts, Cuts, step_is}
 use Rattle.line_laws.proofs.Worlds.{FlightFits, WorldOk, at_place, within}
+pub use Rattle.line_laws.specs.Tags.{IsUnder, TagOf, TagsOk}
 
 -- # What the records of a node give
 
@@ -93,11 +94,11 @@ no_some a e = cc
 abbrev TagMoves : Node → Node → Type 0
 TagMoves x y = (t : ℕ) → tag_in (get x.store.records 4) ≡ Ok t → TagNow t y.store.records
 
-abbrev TagStays : Node → Node → Type 0
+abbrev pub TagStays : Node → Node → Type 0
 TagStays x y = (t : ℕ) → tag_in (get x.store.records 4) ≡ Ok t → tag_in (get y.store.records 4) ≡ Ok t
 
 -- a node whose plan leaves the slot alone
-acts_stays : {A : Type 0} (x : Node) (halted : A) (plan : Memory → Plan Memory A) → ((m : Memory) → Each Away (plan m).puts) → TagStays x (acts x halted plan).node
+pub acts_stays : {A : Type 0} (x : Node) (halted : A) (plan : Memory → Plan Memory A) → ((m : Memory) → Each Away (plan m).puts) → TagStays x (acts x halted plan).node
 unfolding acts
 acts_stays {A = A} x halted plan f t is = by_memory x.memory
   where
@@ -412,22 +413,6 @@ module _ (ciphers : Ciphers) (fits : KeepsRanges ciphers) (w : World) (ok : Worl
 
 -- # Runs
 
--- the cut datagrams of a node have tags below this one
-abbrev IsUnder : ℕ → ℕ → Sending → Type 0
-IsUnder number tag s = s.from ≡ number → 375 < length s.datagram → s.tag < tag
-
--- The tag that a node's records give is above those of its sends, and no higher than the count of events.
-record TagOf (sent : List Sending) (number bound : ℕ) (x : Node) : Type 0 where
-  tag : ℕ
-  is : tag_in (get x.store.records 4) ≡ Ok tag
-  few : tag ≤ bound
-  under : All (IsUnder number tag) sent
-
-record TagsOk (w : World) (sent : List Sending) : Type 0 where
-  nodes : (number : ℕ) (x : Node) → node_at w number ≡ Some x → TagOf sent number w.events x
-  homes : All (λ (s : Sending). s.from < length w.nodes) sent
-  pairs : AllPairs TagRises sent
-
 weaker_under : (number low high : ℕ) → low ≤ high → (sent : List Sending) → All (IsUnder number low) sent → All (IsUnder number high) sent
 weaker_under number low high le sent h = All-weaker (IsUnder number low) (IsUnder number high) (λ s f home long. let less = f home long in omega arith) sent h
 
@@ -511,7 +496,7 @@ tags_from ciphers fits w ok flown before k (x ∷ xs) says fly run =
     subst (λ ys. AllPairs TagRises (sends_of ys)) (append_assoc before (x ∷ []) xs)
     (tags_from ciphers fits x.after g.0 (All-head EntryFlies x xs fly) (before ++ x ∷ []) so xs (All-tail IsEvent x.event (events_of xs) says) (All-tail EntryFlies x xs fly) run.3)
 
-start_tags : TagsOk start []
+pub start_tags : TagsOk start []
 start_tags = record {
   nodes = λ number x e. absurd (no_some x e);
   homes = All-nil (λ (s : Sending). s.from < length start.nodes);

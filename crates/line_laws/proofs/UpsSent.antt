@@ -13,7 +13,7 @@ use Rattle.line_laws.proofs.FlightFolds.{came_octets}
 use Rattle.line_laws.proofs.IssueRuns.{Kept, kept, all_of_one, start_keyed}
 use Rattle.line_laws.proofs.IssueSteps.{step_keyed}
 use Rattle.line_laws.proofs.IssueWorlds.{Keyed}
-use Rattle.line_laws.proofs.LetterSeals.{network_opens}
+use Rattle.node_rules.proofs.NetworkOpens.{network_opens_again}
 use Rattle.line_laws.proofs.LiveRuns.{event_falls}
 use Rattle.line_laws.proofs.OctetRuns.{WorldSpeaks, SpeaksIn, event_speaks, start_speaks, every_flight}
 use Rattle.line_laws.proofs.RangeRuns.{WorldRanged, RangedIn, event_ranged, start_ranged, ordered_well, short_at, joins}
@@ -62,5 +62,5 @@ owed_from w before o (x ∷ xs) says run = λ honest.
 
 pub every_up : EveryDatagramWasSent
 every_up entries r =
-    ups_are_sent network network_opens network_ranges live (λ w f e. e) entries r (every_flight entries r)
+    ups_are_sent network network_opens_again network_ranges live (λ w f e. e) entries r (every_flight entries r)
     (owed_from start [] (record { ok = start_ok; speaks = start_speaks; ranged = start_ranged; keyed = start_keyed }) entries r.events r.run)

@@ -6,10 +6,9 @@ use Rattle.std.proofs.lemmas.List.{length-set}
 use Rattle.std.proofs.lemmas.List.Elements.{All-nil, All-set, All-append, All-map}
 use Rattle.std.proofs.lemmas.Option.{same_Some}
 use Rattle.plc_base.proofs.SlotTables.{slice_get-set, slice_get-set_other}
-use Rattle.plc_base.specs.declared.key.Key.{Key}
 use Rattle.node_rules.specs.Ciphers.{Ciphers}
 use Rattle.node_rules.specs.Frames.{spelled}
-use Rattle.node_rules.specs.Memory.{Memory, Coordinator, Meter, Node}
+use Rattle.node_rules.specs.Memory.{Memory, Coordinator, Node}
 use Rattle.line_rules.specs.Worlds.{World, Flight, node_at}
 use Rattle.node_rules.specs.NodeSteps.{NodeStep}
 use Rattle.line_rules.specs.Steps.{told, flights_of, flight_by}
@@ -17,33 +16,11 @@ use Rattle.line_rules.specs.Nonces.{CounterRises}
 use Rattle.frame_counters.proofs.Limits.{stored_limit-kept}
 use Rattle.line_laws.proofs.Frontiers.{next_of, frontier}
 use Rattle.line_laws.proofs.Rising.{IsBelow, Grown, grows}
-use Rattle.line_laws.specs.Stores.{IsKept, HasEui, IsPair}
-use Rattle.line_laws.specs.Owed.{AreOctets, KeepsRanges}
+use Rattle.line_laws.specs.Stores.{IsKept, HasEui}
+use Rattle.line_laws.specs.Owed.{KeepsRanges}
 use Rattle.line_laws.proofs.Keeping.{Left}
 use Rattle.line_laws.proofs.Nodes.{NodeOk, DidFits, DidOk}
-
--- What a line of the script gave of a node.
-pub record NodeFits (x : Node) : Type 0 where
-  pub eui : HasEui x.eui
-  pub psk : (psk : Key) → x.role ≡ Meter psk → IsPair psk
-
-abbrev pub FlightFits : Flight → Type 0
-FlightFits f = AreOctets f.octets
-
--- The counters of the flights rise, and each is below the frontier of its node, which is there.
-pub record Rising (w : World) : Type 0 where
-  pub below : (number : ℕ) (x : Node) → node_at w number ≡ Some x → All (IsBelow number (frontier x)) w.flights
-  pub pairs : AllPairs CounterRises w.flights
-  pub homes : All (λ (f : Flight). f.from < length w.nodes) w.flights
-
--- What holds of a line of nodes.
-pub record WorldOk (w : World) : Type 0 where
-  pub nodes : All NodeOk w.nodes
-  pub fits : All NodeFits w.nodes
-  pub first : (c : Node) → node_at w 0 ≡ Some c → c.role ≡ Coordinator
-  pub count : length w.nodes ≤ 1000
-  pub rising : Rising w
-  pub quiet : w.running ≡ false → w.flights ≡ []
+pub use Rattle.line_laws.specs.Lines.{NodeFits, FlightFits, Rising, WorldOk}
 
 pub at_place : {A : Type 0} (P : A → Type 0) (xs : List A) (k : ℕ) (x : A) → slice_get xs k ≡ Some x → All P xs → P x
 at_place P [] k x e all = absurd (cc)

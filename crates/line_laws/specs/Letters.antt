@@ -11,7 +11,7 @@ use Rattle.loadng_messages.specs.Grammar.{IsMessage}
 use Rattle.loadng_messages.specs.Grammar as messages
 use Rattle.joining_messages.specs.declared.message.JoinMessage.{JoinMessage}
 use Rattle.node_rules.specs.Ciphers.{Ciphers}
-use Rattle.node_rules.specs.Frames.{Letter, Sealed, Up, Down, spelled}
+use Rattle.node_rules.specs.Frames.{Letter, Sent, Sealed, Up, Down, spelled}
 use Rattle.line_rules.specs.Worlds.{Flight}
 
 -- A unit that a sealed frame has room for.
@@ -19,10 +19,10 @@ pub record IsFit (unit : Unit) : Type 0 where
   pub fields : IsUnit unit
   pub size : length (spelling unit) ≤ 381
 
--- a unit without a mesh header is a route message
+-- a command alone of code 01 is a route message
 abbrev pub IsRoute : Unit → Type 0
 IsRoute (units.Local code body) =
-    (code ≡ 1) × ((message : Message) × IsMessage message × (body ≡ messages.spelling message))
+    code ≡ 1 → (message : Message) × IsMessage message × (body ≡ messages.spelling message)
 IsRoute (units.Whole mesh octets) = ⊤
 IsRoute (units.Part mesh piece) = ⊤
 IsRoute (units.Carried mesh body) = ⊤
@@ -59,3 +59,9 @@ pub record IsFlight (ciphers : Ciphers) (f : Flight) : Type 0 where
 -- all the flights are
 abbrev pub AreFlights : Ciphers → List Flight → Type 0
 AreFlights ciphers flights = All (IsFlight ciphers) flights
+
+-- a frame that is not sealed
+abbrev pub IsPlainFrame : Sent → Type 0
+IsPlainFrame (Sealed l) = ⊥
+IsPlainFrame (Up agent from message) = ⊤
+IsPlainFrame (Down from message) = ⊤

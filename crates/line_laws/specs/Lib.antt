@@ -15,3 +15,10 @@ pub mod Kicked
 pub mod Live
 pub mod Once
 pub mod Network
+pub mod Lines
+pub mod Keyed
+pub mod Ranked
+pub mod InCustody
+pub mod Agreed
+pub mod Shut
+pub mod Later

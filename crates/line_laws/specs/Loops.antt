@@ -1,11 +1,12 @@
 -- What a run of the network keeps of its routes: no valid next hops form a loop, and no stored rank falls.
-use Rattle.std.specs.Prelude.{◌≡◌, ℕ, false, List, [], ◌∷◌, Some, Result, Ok, Err}
+use Rattle.std.specs.Prelude.{◌≡◌, ℕ, false, All, List, [], ◌∷◌, Some, None, Result, Ok, Err}
 use Rattle.plc_base.specs.declared.keeper.BadStore.{BadStore}
 use Rattle.plc_base.specs.Keeper.{Records}
 use Rattle.routing_set.specs.Ranks.{IsAtLeast}
 use Rattle.routing_set.specs.RoutingSet as routing
 use Rattle.node_rules.specs.Ciphers.{network}
-use Rattle.node_rules.specs.Memory.{Node}
+use Rattle.node_rules.specs.Memory.{Node, node_route}
+use Rattle.line_rules.specs.declared.event.Event.TheVariants as events
 use Rattle.line_rules.specs.Runs.{Entry}
 use Rattle.line_rules.specs.SafeRuns.{HasNoLoop}
 use Rattle.line_rules.specs.Worlds.{World, node_at, start}
@@ -46,3 +47,15 @@ AreLoopFree w (x ∷ xs) =
 -- no run of the network has a loop before it is forged
 abbrev pub EveryRunIsLoopFree : Type 0
 EveryRunIsLoopFree = (entries : List Entry) → IsLineRun network entries → AreLoopFree start entries
+
+-- # Restarts
+
+-- after a restart its node has no valid route
+abbrev pub RestartsEndRoutes : List Entry → Type 0
+RestartsEndRoutes entries =
+    All (λ (x : Entry). (number : ℕ) (y : Node) → x.event ≡ events.Restart number → node_at x.after number ≡ Some y
+    → (dest : ℕ) → node_route y dest ≡ None) entries
+
+-- so it is in every run of the network, forged or not
+abbrev pub EveryRestartEndsRoutes : Type 0
+EveryRestartEndsRoutes = (entries : List Entry) → IsLineRun network entries → RestartsEndRoutes entries

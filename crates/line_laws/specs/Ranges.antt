@@ -4,10 +4,12 @@ use Rattle.plc_base.specs.Addresses.{IsAddress}
 use Rattle.mac_frames.specs.Grammar.{IsTarget}
 use Rattle.routing_set.specs.declared.entry.RoutingEntry.{RoutingEntry}
 use Rattle.routing_set.specs.declared.entry.Route.{Route}
-use Rattle.node_rules.specs.Memory.{StationMemory, Body, Load, Datagram, Command}
+use Rattle.node_rules.specs.Ciphers.{network}
+use Rattle.node_rules.specs.Memory.{StationMemory, Memory, Node, Body, Load, Datagram, Command}
 use Rattle.node_rules.specs.Drafts.{Draft, Outgoing}
 use Rattle.line_laws.specs.Stores.{IsReadable}
-use Rattle.line_laws.specs.Letters.{IsFit, IsRoute}
+use Rattle.line_rules.specs.Worlds.{World}
+use Rattle.line_laws.specs.Letters.{IsFit, IsRoute, AreFlights}
 
 -- a datagram that was taken, with a tag; a command, with its code in front
 abbrev pub HasRoomInFrames : Load → Type 0
@@ -41,3 +43,13 @@ pub record IsOut (o : Outgoing) : Type 0 where
 pub record IsRanged (d : Draft StationMemory) : Type 0 where
   pub station : IsStationRanged d.memory
   pub units : All IsOut d.units
+
+-- # All of it
+
+-- a node that is not halted is in its ranges
+abbrev pub NodeRanged : Node → Type 0
+NodeRanged x = IfSome x.memory (λ (m : Memory). IsStationRanged m.station)
+
+pub record WorldRanged (w : World) : Type 0 where
+  pub nodes : All NodeRanged w.nodes
+  pub flights : AreFlights network w.flights

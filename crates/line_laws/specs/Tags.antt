@@ -1,8 +1,11 @@
 -- The tags that name the pieces of datagrams.
-use Rattle.std.specs.Prelude.{◌≡◌, ◌<◌, All, AllPairs, List, length}
+use Rattle.std.specs.Prelude.{◌≡◌, ℕ, ◌<◌, ◌≤◌, All, AllPairs, List, length, Some, Ok}
+use Rattle.std.specs.FinMap.{get}
 use Rattle.line_rules.specs.Runs.{Entry, sends}
-use Rattle.line_rules.specs.Worlds.{Sending}
+use Rattle.line_rules.specs.Worlds.{World, Sending, node_at}
 use Rattle.node_rules.specs.Ciphers.{Ciphers}
+use Rattle.node_rules.specs.Memory.{Node}
+use Rattle.node_rules.specs.StoreReading.{tag_in}
 use Rattle.line_laws.specs.Laws.{IsLineRun, FlightsAreOctets}
 use Rattle.line_laws.specs.Owed.{KeepsRanges}
 
@@ -28,3 +31,21 @@ SendsHaveOctets entries = All (λ (s : Sending). 0 < length s.datagram) (sends e
 abbrev pub EverySendHasOctets : Type 0
 EverySendHasOctets =
     (ciphers : Ciphers) (entries : List Entry) → IsLineRun ciphers entries → SendsHaveOctets entries
+
+-- # What holds of them in a world
+
+-- the cut datagrams of a node have tags below this one
+abbrev pub IsUnder : ℕ → ℕ → Sending → Type 0
+IsUnder number tag s = s.from ≡ number → 375 < length s.datagram → s.tag < tag
+
+-- The tag that a node's records give is above those of its sends, and no higher than the count of events.
+pub record TagOf (sent : List Sending) (number bound : ℕ) (x : Node) : Type 0 where
+  pub tag : ℕ
+  pub is : tag_in (get x.store.records 4) ≡ Ok tag
+  pub few : tag ≤ bound
+  pub under : All (IsUnder number tag) sent
+
+pub record TagsOk (w : World) (sent : List Sending) : Type 0 where
+  pub nodes : (number : ℕ) (x : Node) → node_at w number ≡ Some x → TagOf sent number w.events x
+  pub homes : All (λ (s : Sending). s.from < length w.nodes) sent
+  pub pairs : AllPairs TagRises sent

@@ -1,6 +1,7 @@
 //! Laws of the runs: each carried by a function that does nothing.
 ghost use Rattle.line_laws.specs.Issued.{EveryJoiningAgrees, OnlyIssuedKeys};
 ghost use Rattle.line_laws.specs.Kicked.{EveryKickedMeterStaysOut};
+ghost use Rattle.line_laws.specs.Later.{CommandsMayBeSealed, JoinedNodesSeal, OthersMayNot, PlainKeeps, RunningKeeps, SealingKeeps, StartHolds};
 ghost use Rattle.line_laws.specs.Live.{EveryFlightFalls, EveryMarkRises};
 ghost use Rattle.line_laws.specs.Once.{EveryFrameIsAcceptedOnce, EveryNodeAcceptsOnce};
 ghost use Rattle.line_laws.specs.Network.{EveryNetworkRunIsRight, EveryRunIsSafe, LastFlightsSayAll};
@@ -8,8 +9,10 @@ ghost use Rattle.line_laws.specs.Owed.{KeepsRanges};
 ghost use Rattle.line_laws.specs.Tags.{EverySendHasOctets, EveryTagRises};
 ghost use Rattle.line_laws.specs.Ups.{EveryDatagramWasSent};
 ghost use Rattle.node_rules.specs.Ciphers.{OpensWhatItSeals, network};
-ghost use Rattle.line_laws.specs.Loops.{EveryRunIsLoopFree};
+ghost use Rattle.line_laws.specs.Loops.{EveryRestartEndsRoutes, EveryRunIsLoopFree};
 ghost use Rattle.line_laws.specs.Laws.{EveryAddressDiffers, EveryCountIsRight, EveryCounterRises, EveryFlightIsOctets, EveryFlightIsSpelled, EveryForgeryIsTold, EveryNonceDiffers, EveryRestartIsAnswered, EveryRunIsSized, EverySenderIsRight, EveryTraceIsRight};
+
+use node_rules::the_network_opens_what_it_seals;
 
 /// What the network's ciphers open of octets, under keys of octets, is octets, and each grant that they open can be
 /// stored.
@@ -23,7 +26,9 @@ pub fn network_keeps_ranges()
 #[tactic(auto)]
 pub fn network_opens_what_it_seals()
     ensures { OpensWhatItSeals network }
-{}
+{
+    the_network_opens_what_it_seals();
+}
 
 /// In every run, forged or not, no table passes its size, and no event sends more than 24 frames.
 #[tactic(auto)]
@@ -35,6 +40,12 @@ pub fn every_run_is_sized()
 #[tactic(auto)]
 pub fn every_restart_is_answered()
     ensures { EveryRestartIsAnswered }
+{}
+
+/// In every run of the network, forged or not: after a restart its node has no valid route, whatever it had before.
+#[tactic(auto)]
+pub fn every_restart_ends_routes()
+    ensures { EveryRestartEndsRoutes }
 {}
 
 /// In every run, forged or not, over restarts and failed writes, the counters of the sealed flights of one node rise.
@@ -184,4 +195,48 @@ pub fn every_network_run_is_right()
 #[tactic(auto)]
 pub fn the_last_flights_say_all()
     ensures { LastFlightsSayAll }
+{}
+
+/// Where a node seals a command alone of code 03, 04 or 05, under note 0 and with its next counter, as it seals each of its commands, all is
+/// kept that the laws rest on: no mark and no stored rank falls, no flight comes to life, and the flight has the address of its node. A
+/// rule that comes later and does no more than this needs no further law.
+#[tactic(auto)]
+pub fn sealing_keeps<E>()
+    ensures { SealingKeeps E }
+{}
+
+/// Where a node sends a plain frame of octets, all of this is kept too.
+#[tactic(auto)]
+pub fn plain_keeps()
+    ensures { PlainKeeps }
+{}
+
+/// That an event of no setup kind is taken keeps it.
+#[tactic(auto)]
+pub fn running_keeps()
+    ensures { RunningKeeps }
+{}
+
+/// A command alone of code 03, 04 or 05 may be sealed so, with each body that a frame has room for.
+#[tactic(auto)]
+pub fn commands_may_be_sealed()
+    ensures { CommandsMayBeSealed }
+{}
+
+/// A route message, a datagram, a piece of one and a joining message may not.
+#[tactic(auto)]
+pub fn others_may_not()
+    ensures { OthersMayNot }
+{}
+
+/// A joined node with a counter left, and no loss of power to come, does seal and send it, under its active key and with its next counter.
+#[tactic(auto)]
+pub fn joined_nodes_seal<E>()
+    ensures { JoinedNodesSeal E }
+{}
+
+/// The world before the first event is one that holds.
+#[tactic(auto)]
+pub fn the_start_holds()
+    ensures { StartHolds }
 {}

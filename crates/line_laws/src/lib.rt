@@ -4,11 +4,13 @@
 mod laws;
 
 pub use laws::{
-    every_address_differs, every_count_is_right, every_counter_rises, every_datagram_was_sent,
-    every_flight_falls, every_flight_is_octets, every_flight_is_spelled, every_forgery_is_told,
-    every_frame_is_accepted_once, every_joining_agrees, every_kicked_meter_stays_out,
-    every_mark_rises, every_network_run_is_right, every_node_accepts_once, every_nonce_differs,
+    commands_may_be_sealed, every_address_differs, every_count_is_right, every_counter_rises,
+    every_datagram_was_sent, every_flight_falls, every_flight_is_octets, every_flight_is_spelled,
+    every_forgery_is_told, every_frame_is_accepted_once, every_joining_agrees,
+    every_kicked_meter_stays_out, every_mark_rises, every_network_run_is_right,
+    every_node_accepts_once, every_nonce_differs, every_restart_ends_routes,
     every_restart_is_answered, every_run_is_loop_free, every_run_is_safe, every_run_is_sized,
     every_send_has_octets, every_sender_is_right, every_tag_rises, every_trace_is_right,
-    network_keeps_ranges, network_opens_what_it_seals, only_issued_keys, the_last_flights_say_all,
+    joined_nodes_seal, network_keeps_ranges, network_opens_what_it_seals, only_issued_keys,
+    others_may_not, sealing_keeps, the_last_flights_say_all, the_start_holds,
 };

@@ -72,7 +72,7 @@ abbrev pub broken : List Event
 broken =
     three_meters
     ++ (Send 3 1 (0xaa ∷ []) ∷ Deliver 1 2 1 ∷ Deliver 2 1 1 ∷ Deliver 3 2 1 ∷ Break 2 3 ∷ Send 1 3 (0xbb ∷ [])
-    ∷ Deliver 5 2 1 ∷ Deliver 6 1 1 ∷ Deliver 1 1 9 ∷ Show 1 ∷ [])
+    ∷ Deliver 5 2 1 ∷ Deliver 6 1 1 ∷ Deliver 1 1 2 ∷ Show 1 ∷ [])
 
 -- An old request does not revive a route that broke, whose rank stays.
 unfoldable pub ABrokenRouteStaysBroken : Type 0

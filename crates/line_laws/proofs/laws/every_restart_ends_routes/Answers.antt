@@ -1,0 +1,6 @@
+-- The law, by the traversal of runs.
+use Rattle.line_laws.proofs.RestartRuns.{every_restart_ends}
+use Rattle.line_laws.proofs.laws.every_restart_ends_routes.Goals as goal
+
+pub returns : goal.returns
+returns c = every_restart_ends
