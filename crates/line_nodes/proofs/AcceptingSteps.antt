@@ -26,7 +26,7 @@ use Rattle.meter_node.specs.MeterStates.{MeterState, memory_with}
 use Rattle.meter_node.proofs.AcceptingRules.{accepted_came}
 use Rattle.line_nodes.specs.Nodes.{of_meter}
 use Rattle.line_nodes.specs.Receiving.{MayHear}
-use Rattle.line_nodes.proofs.Acting.{with_its}
+use Rattle.line_nodes.proofs.MeterActing.{with_its}
 
 -- where its write fails it answers Store
 abbrev Fails : Accepting → Type 0

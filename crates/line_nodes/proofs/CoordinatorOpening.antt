@@ -1,12 +1,11 @@
--- A new coordinator, and one whose loss of power is set.
-use Rattle.std.proofs.Common.{◌≡◌, ℕ, [], inl, Option, Some, None, Result, Ok, Err, refl, sym, ap, subst, ◌∙◌}
-use Rattle.std.specs.Prelude.{IfSome, IfOk, IsSome}
+-- A new coordinator.
+use Rattle.std.proofs.Common.{◌≡◌, [], inl, Option, Some, None, Result, Ok, Err, sym, ap, subst, ◌∙◌}
+use Rattle.std.specs.Prelude.{IfSome, IsSome}
 use Rattle.std.specs.Option.{option_map, option_and_then}
-use Rattle.std.specs.FinMap.{empty, get, get-empty}
+use Rattle.std.specs.FinMap.{empty, get-empty}
 use Rattle.std.specs.Ordering.{nat_cmp}
 use Rattle.plc_base.specs.declared.address.Eui.{Eui}
 use Rattle.plc_base.specs.declared.keeper.BadStore.{BadStore}
-use Rattle.plc_base.specs.declared.keeper.Cut.{Cut}
 use Rattle.plc_base.specs.declared.key.Key.{Key}
 use Rattle.plc_base.specs.Grant.{Granted}
 use Rattle.plc_base.specs.Keeper.{Records, Store}
@@ -15,51 +14,20 @@ use Rattle.frame_counters.specs.PeerMarks as marks
 use Rattle.group_keys.specs.KeyBook as book
 use Rattle.group_keys.specs.KeyRing.{ring_at, ring_slot}
 use Rattle.routing_set.specs.RoutingSet as routing
-use Rattle.node_rules.specs.Carrying.{Carries, nothing}
+use Rattle.node_rules.specs.Carrying.{nothing}
 use Rattle.node_rules.specs.Coordinators.{begin}
-use Rattle.node_rules.specs.Memory.{StationMemory, Memory, Coordinator}
-use Rattle.node_rules.specs.NodeSteps.{stays, acts}
-use Rattle.node_rules.specs.States.{State}
+use Rattle.node_rules.specs.Memory.{Memory, Coordinator}
+use Rattle.node_rules.specs.NodeSteps.{acts}
 use Rattle.node_rules.specs.StoreReading.{memory_of, remembering, blank_station, first_grant}
 use Rattle.node_rules.specs.Tables.{HasGaplessTables}
 use Rattle.node_rules.proofs.Blank.{blank}
 use Rattle.line_rules.specs.Steps.{blank_node, coordinator_node}
-use Rattle.line_rules.specs.declared.event.Answer.TheVariants as said
 use Rattle.coordinator.specs.CoordinatorAgreement.{HoldsWith, Holds, HasHome}
 use Rattle.coordinator.specs.CoordinatorStates.{CoordinatorState, node_of}
 use Rattle.coordinator.specs.Opening.{Begins, MayBegin, read_state}
-use Rattle.line_nodes.specs.Doings.{Took}
-use Rattle.line_nodes.specs.Nodes.{node_in, cut_told, of_coordinator}
+use Rattle.line_nodes.specs.Nodes.{node_in, of_coordinator}
 use Rattle.line_nodes.proofs.Acting.{took, tells_still}
-use Rattle.line_nodes.proofs.CoordinatorActing.{IsSoundCoordinator, with_its, sound_with}
-
--- # A loss of power to come
-
--- the keeper with this loss of power to come
-abbrev cut_in : Store → Cut → Store
-cut_in s cut = record s { told = Some (Some cut) }
-
--- the station over another keeper
-abbrev pub over : Store → State StationMemory → State StationMemory
-over k s = record s { store = k }
-
-module _ (x : CoordinatorState) (s : State StationMemory) (k new : Store) (cut : Cut) where
-  -- the coordinator with it
-  cut_is : s ≡ x.station → k ≡ s.store → new ≡ cut_in k cut → with_its (over new s) x ≡ with_its (over (cut_in x.station.store cut) x.station) x
-  cut_is same kept e =
-      ap (λ (n : Store). with_its (over n s) x) (e ∙ ap (λ (n : Store). cut_in n cut) kept)
-      ∙ ap (λ (z : State StationMemory). with_its (over (cut_in z.store cut) z) x) same
-
-  pub cut_took : s ≡ x.station → k ≡ s.store → new ≡ cut_in k cut
-      → Took (stays (record (of_coordinator x) { store = record (of_coordinator x).store { cut = Some cut } }) said.Set) said.Set nothing (of_coordinator (with_its (over new s) x))
-  cut_took same kept e = record { answer_is = refl; out_is = refl; node_is = ap of_coordinator (cut_is same kept e) }
-
-  pub cut_sound : s ≡ x.station → k ≡ s.store → new ≡ cut_in k cut → IsSoundCoordinator x → IsSoundCoordinator (with_its (over new s) x)
-  cut_sound same kept e sound =
-      subst (λ (z : CoordinatorState). IsSoundCoordinator z) (sym (cut_is same kept e))
-      (record { told = (cc); tables = sound.tables; home = sound.home; agrees = sound.agrees })
-
--- # A new one
+use Rattle.line_nodes.proofs.CoordinatorActing.{IsSoundCoordinator, sound_with}
 
 -- what a coordinator that runs holds, its records hold without a gap, and the home
 gapless : (m : Memory) (records : Records) → HoldsWith m records → HasGaplessTables Coordinator records

@@ -23,7 +23,8 @@ use Rattle.line_nodes.specs.Doings.{Took}
 use Rattle.line_nodes.specs.Nodes.{of_meter}
 use Rattle.line_nodes.specs.Receiving.{MayHear, CameTo, Tells}
 use Rattle.line_nodes.specs.Soundness.{IsSoundMeter}
-use Rattle.line_nodes.proofs.Acting.{meter_took, meter_sound, not_none}
+use Rattle.line_nodes.proofs.Acting.{not_none}
+use Rattle.line_nodes.proofs.MeterActing.{meter_took, meter_sound}
 
 pub running : (x : MeterState) (got : Accepted) → MayHear (of_meter x) got → IsSome x.station.memory
 running x got h = by x.station.memory h.running

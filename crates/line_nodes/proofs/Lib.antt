@@ -1,4 +1,7 @@
 mod Acting
+mod LentStations
+mod Breaking
+mod MeterActing
 mod Places
 mod AcceptingSteps
 mod HearingSteps

@@ -21,7 +21,7 @@ use Rattle.line_rules.specs.Steps.{blank_node}
 use Rattle.meter_node.specs.MeterStates.{MeterState, node_of}
 use Rattle.line_nodes.specs.Nodes.{stored_in, of_meter}
 use Rattle.line_nodes.specs.Soundness.{IsSoundMeter}
-use Rattle.line_nodes.proofs.Acting.{sound_meter}
+use Rattle.line_nodes.proofs.MeterActing.{sound_meter}
 
 -- what an empty keeper holds
 abbrev pub empty_store : Store

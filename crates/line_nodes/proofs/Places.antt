@@ -1,6 +1,6 @@
 -- The nodes of a list, each at its place.
 use Rattle.std.proofs.Common.{◌≡◌, ℕ, zero, suc, ◌+◌, ◌<◌, ◌≤◌, Bool, true, false, not, cond, List, [], ◌∷◌, ◌++◌, length, map, take, drop, get_or, arith, Option, Some, None, Result, Ok, Err, refl, sym, ap, subst, ◌∙◌}
-use Rattle.std.specs.Prelude.{IfSome, IfOk, ◌||◌, is_some, nat_lt, position, slice_get, slice_set}
+use Rattle.std.specs.Prelude.{All, IfSome, IfOk, ◌||◌, is_some, nat_lt, position, slice_get, slice_set}
 use Rattle.std.specs.Option.{option_map, option_and_then}
 use Rattle.std.specs.List.{list_any, position_or_len}
 use Rattle.std.proofs.lemmas.Bool.{le-ltb, lt-ltb, ltb-false, ltb-true}
@@ -8,16 +8,22 @@ use Rattle.std.proofs.Math.Seq.{map-set_same}
 use Rattle.plc_base.proofs.SlotTables.{slice_get-set}
 use Rattle.routing_set.proofs.Endings.{map_length, map_step, map_whole}
 use Rattle.std.proofs.lemmas.List.{map-set, length-map}
+use Rattle.std.proofs.lemmas.List.Elements.{All-set}
 use Rattle.std.proofs.lemmas.Option.{slice_get-map, slice_get_read}
 use Rattle.plc_base.specs.declared.out_frame.Out.{Out}
 use Rattle.node_rules.specs.declared.heard.Accepted.{Accepted}
 use Rattle.node_rules.specs.declared.refusal.FrameRefusal.{FrameRefusal}
 use Rattle.node_rules.specs.Memory.{StationMemory, Memory, Node, address_of, node_address}
-use Rattle.node_rules.specs.NodeSteps.{NodeStep}
+use Rattle.node_rules.specs.Agreement.{Agrees}
+use Rattle.node_rules.specs.NodeSteps.{NodeStep, acts}
+use Rattle.node_rules.specs.States.{State}
 use Rattle.meter_node.specs.MeterStates.{MeterState, memory_with}
 use Rattle.line_nodes.specs.Nodes.{of_meter}
 use Rattle.line_nodes.specs.Doings.{Did, Took}
 use Rattle.line_nodes.specs.Receiving.{MayHear}
+use Rattle.line_nodes.specs.Soundness.{IsSoundMeter}
+use Rattle.line_nodes.proofs.LentStations.{StationPlan, StationStayed, StationCarries, IsOwnPlan, lent}
+use Rattle.line_nodes.proofs.MeterActing.{meter_agrees, station_took, station_sound, with_its}
 
 within_map : (ms : List MeterState) (old : List Node) (place : ℕ) → map of_meter ms ≡ old → place < length old → place < length ms
 within_map ms old place view there = subst (λ (n : ℕ). place < n) (sym (ap (λ (xs : List Node). length xs) view) ∙ length-map ms of_meter) there
@@ -84,6 +90,37 @@ at_place ms old place x P view there here h = subst (λ (o : Option Node). IfSom
 -- a meter that changed at a place changed there as a node
 pub set_at : (ms : List MeterState) (old : List Node) (place : ℕ) (y : MeterState) (n : Node) → map of_meter ms ≡ old → of_meter y ≡ n → map of_meter (slice_set ms place y) ≡ slice_set old place n
 set_at ms old place y n view node = map-set of_meter ms place y ∙ ap (λ (xs : List Node). slice_set xs place (of_meter y)) view ∙ ap (λ (k : Node). slice_set old place k) node
+
+-- # The station of the meter at a place
+
+-- each meter of a list that is sound is sound
+pub sound_at : (ms : List MeterState) (old : List Node) (place : ℕ) (x : MeterState) → map of_meter ms ≡ old → place < length old → x ≡ get_or ms place x → All IsSoundMeter ms
+    → IsSoundMeter x
+sound_at ms old place x view there here sound = subst (λ (y : MeterState). IsSoundMeter y) (sym here) (sound place x (within_map ms old place view there))
+
+-- its station agrees with its keeper
+pub agrees_at : (ms : List MeterState) (old : List Node) (place : ℕ) (x : MeterState) → map of_meter ms ≡ old → place < length old → x ≡ get_or ms place x → All IsSoundMeter ms
+    → Agrees x.station
+agrees_at ms old place x view there here sound = meter_agrees x (sound_at ms old place x view there here sound)
+
+pub station_agrees_at : (ms : List MeterState) (old : List Node) (place : ℕ) (x : MeterState) (s : State StationMemory) → map of_meter ms ≡ old → place < length old
+    → x ≡ get_or ms place x → All IsSoundMeter ms → s ≡ x.station → Agrees s
+station_agrees_at ms old place x s view there here sound same = subst (λ (k : State StationMemory). Agrees k) (sym same) (agrees_at ms old place x view there here sound)
+
+module _ {A : Type 0} (halted : A) (q : StationPlan A) (ms : List MeterState) (old : List Node) (place : ℕ) (x : MeterState) (s t : State StationMemory) (answer : A) (out : Out)
+    (view : map of_meter ms ≡ old) (there : place < length old) (here : x ≡ get_or ms place x) (sound : All IsSoundMeter ms) (same : s ≡ x.station) (stayed : StationStayed s halted answer out t)
+    (carries : StationCarries s q answer out t) where
+  -- The meter at a place took the step of its station's rule.
+  pub station_did : IfSome (slice_get old place) (λ n. Did (acts n halted (lent q n.eui)) old place answer out (map of_meter (slice_set ms place (with_its t x))))
+  station_did =
+      did_at (λ n. acts n halted (lent q n.eui)) ms old place x (with_its t x) answer out view there here
+      (station_took x s t halted q answer out same (sound_at ms old place x view there here sound) stayed carries)
+
+  -- The meters are sound still.
+  pub stations_sound : IsOwnPlan q x.station.eui → Agrees t → All IsSoundMeter (slice_set ms place (with_its t x))
+  stations_sound own agrees =
+      All-set IsSoundMeter ms place (with_its t x)
+      (station_sound x s t halted q answer out own same (sound_at ms old place x view there here sound) stayed carries agrees) sound
 
 -- # One place after the other
 

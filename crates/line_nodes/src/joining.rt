@@ -1,5 +1,5 @@
 //! What a meter does about its joining, and the random values of every node.
-ghost use Rattle.std.specs.Prelude.{◌≡◌, ◌≤◌, ◌<◌, length, Ok, Err, IfSome, slice_get};
+ghost use Rattle.std.specs.Prelude.{◌≡◌, ◌≤◌, ◌<◌, length, Ok, Err, IfSome, IsSome, slice_get};
 ghost use Rattle.node_rules.specs.Carrying.{nothing};
 ghost use Rattle.node_rules.specs.Ciphers.{network};
 ghost use Rattle.node_rules.specs.MemoryDrafts as drafts;
@@ -40,7 +40,7 @@ impl Nodes {
         self.meters.provision(number - 1, grant)
     }
 
-    /// A meter begins to join by an agent, at a time in seconds. What goes out is in `out`.
+    /// A meter, which has a pair key, begins to join by an agent, at a time in seconds. What goes out is in `out`.
     pub fn join(
         &mut self,
         number: usize,
@@ -50,7 +50,8 @@ impl Nodes {
     ) -> Result<(), JoinRefusal>
         requires meter { 1 ≤ number }
         requires there { number < length self.old }
-        ensures { IfSome (slice_get self.old number) (λ x. IfSome (psk_of x) (λ psk. Did
+        ensures key { IfSome (slice_get self.old number) (λ x. IsSome (psk_of x)) }
+        ensures did { IfSome (slice_get self.old number) (λ x. IfSome (psk_of x) (λ psk. Did
             (acts x (Err JoinRefusal.Halted) (λ m. meters.join (identity network x psk) m agent now))
             self.old number result out.new self.new)) }
     {

@@ -5,7 +5,6 @@
 //! keeper fail.
 #![tactic(auto)]
 
-mod coordinator_steps;
 mod creation;
 mod hearing;
 mod joining;
@@ -13,13 +12,13 @@ mod joining;
 mod joining_tests;
 mod lending;
 mod line_coordinator;
-mod meter_steps;
 mod meters;
 mod nodes;
 mod ordering;
 mod receiving;
 mod reception;
 mod setting;
+mod station_steps;
 #[cfg(test)]
 mod tests;
 mod time;

@@ -15,12 +15,11 @@ ghost use Rattle.node_rules.specs.MemoryDrafts as drafts;
 ghost use Rattle.node_rules.specs.NodeSteps.{acts, changing, of_station, stays};
 ghost use Rattle.node_rules.specs.Showing.{shown_of};
 
-use crate::coordinator_steps::{
-    accept_by, activate_by, activate_self_by, allow_by, broke_at, challenge_by, cut_at, depot_by,
-    give_random_to, has_rank, hear_by, is_full, kick_by, offer_near, open_new, rekey_by,
-    restart_of, send_by, set_counter, set_number, show_of, tick_of,
-};
+use crate::hearing::coordinator_told;
 use crate::reception::Reception;
+use crate::station_steps::{
+    break_at, has_rank, is_full, offer_near, restart_word, set_counter, set_number,
+};
 use coordinator::Coordinator;
 use line_rules::Answer;
 use node_rules::{
@@ -60,7 +59,10 @@ impl LineCoordinator {
     pub fn new(alloc: Global, eui: Eui, key: &Key) -> Result<LineCoordinator, AllocError>
         ensures { IfOk result (λ c. c ≡ coordinator_node eui key.now) }
     {
-        let coordinator = open_new(alloc, eui, key)?;
+        let keeper = MemKeeper::new(alloc)?;
+        let Ok(coordinator) = Coordinator::open(alloc, keeper, eui, key) else {
+            return Err(AllocError);
+        };
         Ok(LineCoordinator { coordinator })
     }
 
@@ -92,7 +94,9 @@ impl LineCoordinator {
             (λ m. of_station m (calls.send m.station to datagram.now note now)))
             result out.new self.new }
     {
-        send_by(&mut self.coordinator, to, datagram, note, now, out)
+        self.coordinator
+            .station()
+            .send(to, datagram, note, now, out)
     }
 
     /// Takes the octets of a frame, or refuses them. What it accepts it has not heard yet: [`Self::hear`] does that.
@@ -102,7 +106,7 @@ impl LineCoordinator {
             (arrived network octets.now)))) result nothing self.new }
         ensures hears { IfOk result (λ got. MayHear self.new got) }
     {
-        accept_by(&mut self.coordinator, octets)
+        self.coordinator.station().accept(octets)
     }
 
     /// Sets its next frame counter. A halted one stays as it is, and that is Ok.
@@ -111,7 +115,7 @@ impl LineCoordinator {
             (λ m. of_station m (calls.preset_counter m.station value)))
             result nothing self.new }
     {
-        set_counter(&mut self.coordinator, value)
+        set_counter(self.coordinator.station(), value)
     }
 
     /// Sets the last number of its own route messages. A halted one stays as it is, and that is Ok.
@@ -121,7 +125,7 @@ impl LineCoordinator {
             (λ m. of_station m (calls.preset_number m.station value)))
             result nothing self.new }
     {
-        set_number(&mut self.coordinator, value)
+        set_number(self.coordinator.station(), value)
     }
 
     /// Gives it the route to a neighbour over one hop of this cost, at a time in seconds. A halted one stays as it is,
@@ -131,7 +135,7 @@ impl LineCoordinator {
             (λ m. of_station m (calls.preset_near m.station to cost now)))
             result nothing self.new }
     {
-        offer_near(&mut self.coordinator, to, cost, now)
+        offer_near(self.coordinator.station(), to, cost, now)
     }
 
     /// Its link to a neighbour broke, so the routes over it are none any more. Answers Broken, or Halted.
@@ -140,7 +144,7 @@ impl LineCoordinator {
             (λ m. changing said.Broken (drafts.with_station (calls.broke next m.station) m)))
             result nothing self.new }
     {
-        broke_at(&mut self.coordinator, next)
+        break_at(self.coordinator.station(), next)
     }
 
     /// Whether it keeps a rank of an address. A halted one keeps none. Nothing changes.
@@ -148,7 +152,7 @@ impl LineCoordinator {
         ensures value { result ≡ keeps_rank self.old dest }
         ensures same { self.new ≡ self.old }
     {
-        has_rank(&mut self.coordinator, dest)
+        has_rank(self.coordinator.station(), dest)
     }
 
     /// Whether it keeps 64 ranks, as many as it can. A halted one keeps none. Nothing changes.
@@ -156,7 +160,7 @@ impl LineCoordinator {
         ensures value { result ≡ ranks_full self.old }
         ensures same { self.new ≡ self.old }
     {
-        is_full(&mut self.coordinator)
+        is_full(self.coordinator.station())
     }
 
     /// Fills in what is shown of it, halted or not. Nothing changes of it.
@@ -164,7 +168,7 @@ impl LineCoordinator {
         ensures shown { out.new ≡ shown_of self.old }
         ensures same { self.new ≡ self.old }
     {
-        show_of(&mut self.coordinator, out);
+        self.coordinator.station().shown(out);
     }
 
     /// Takes a random value in, for a joining to come. It holds 8 at most.
@@ -172,7 +176,7 @@ impl LineCoordinator {
         ensures { Took (acts self.old (Err RandomFault.Halted)
             (λ m. drafts.give_random m value)) result nothing self.new }
     {
-        give_random_to(&mut self.coordinator, value)
+        self.coordinator.give_random(value)
     }
 
     /// Allows a meter with this pair key to join. Ok is the address that the meter will have.
@@ -180,7 +184,7 @@ impl LineCoordinator {
         ensures { Took (acts self.old (Err CoordinatorRefusal.Halted)
             (λ m. rules.allow m eui psk.now)) result nothing self.new }
     {
-        allow_by(&mut self.coordinator, eui, psk)
+        self.coordinator.allow(eui, psk)
     }
 
     /// Allows a meter and makes the grant for it that the workshop installs.
@@ -188,7 +192,7 @@ impl LineCoordinator {
         ensures { Took (acts self.old (Err CoordinatorRefusal.Halted)
             (λ m. rules.depot m eui psk.now)) result nothing self.new }
     {
-        depot_by(&mut self.coordinator, eui, psk)
+        self.coordinator.depot(eui, psk)
     }
 
     /// Keeps a group key at an index, 0 or 1, which seals only once it is activated.
@@ -197,7 +201,7 @@ impl LineCoordinator {
         ensures { Took (acts self.old (Err CoordinatorRefusal.Halted)
             (λ m. rules.rekey m index key.now)) result nothing self.new }
     {
-        rekey_by(&mut self.coordinator, index, key)
+        self.coordinator.rekey(index, key)
     }
 
     /// Opens a session with an allowed meter over the mesh, so that it gets a new grant, at a time in seconds. What goes
@@ -207,7 +211,7 @@ impl LineCoordinator {
             (λ m. rules.challenge self.old.eui m eui now))
             result out.new self.new }
     {
-        challenge_by(&mut self.coordinator, eui, now, out)
+        self.coordinator.challenge(eui, now, out)
     }
 
     /// Seals with the key at an index, 0 or 1, from now on.
@@ -216,7 +220,7 @@ impl LineCoordinator {
         ensures { Took (acts self.old (Err CoordinatorRefusal.Halted)
             (λ m. rules.activate_self m index)) result nothing self.new }
     {
-        activate_self_by(&mut self.coordinator, index)
+        self.coordinator.activate_self(index)
     }
 
     /// Orders a meter to seal with the key at an index, 0 or 1, from now on, at a time in seconds. What goes out is in
@@ -232,7 +236,7 @@ impl LineCoordinator {
         ensures { Took (acts self.old (Err CoordinatorRefusal.Halted)
             (λ m. rules.activate m eui index now)) result out.new self.new }
     {
-        activate_by(&mut self.coordinator, eui, index, now, out)
+        self.coordinator.activate(eui, index, now, out)
     }
 
     /// Shuts a meter out. What goes out is in `out`.
@@ -240,14 +244,14 @@ impl LineCoordinator {
         ensures { Took (acts self.old (Err CoordinatorRefusal.Halted)
             (λ m. rules.kick m eui)) result out.new self.new }
     {
-        kick_by(&mut self.coordinator, eui, out)
+        self.coordinator.kick(eui, out)
     }
 
     /// The clock is at a time in seconds: what is too old at it ends.
     pub fn tick(&mut self, now: u64)
         ensures state { self.new ≡ ticked now self.old }
     {
-        tick_of(&mut self.coordinator, now);
+        self.coordinator.tick(now);
     }
 
     /// Forgets everything but its store, and reads that. Answers Restarted, and a halt is over; or BadStore, where the
@@ -255,7 +259,7 @@ impl LineCoordinator {
     pub fn restart(&mut self) -> Answer
         ensures { Took (restarts self.old) result nothing self.new }
     {
-        restart_of(&mut self.coordinator)
+        restart_word(self.coordinator.restart())
     }
 
     /// It will lose power at its nth store write from now on, which leaves the new record or the old one. It takes the
@@ -267,7 +271,7 @@ impl LineCoordinator {
               { cut = Some (record { nth = nth; keeps_new = keeps_new }) };
         }) said.Set) said.Set nothing self.new }
     {
-        cut_at(&mut self.coordinator, nth, keeps_new);
+        self.coordinator.station().keeper_mut().cut(nth, keeps_new);
     }
 
     /// Hears a frame that [`Self::accept`] answered, over a link of this cost, at a time in seconds. What is handed up
@@ -289,6 +293,7 @@ impl LineCoordinator {
             (hears network self.old got.now cost note now).answer
             out.new self.new }
     {
-        hear_by(&mut self.coordinator, got, cost, note, now, datagram, out)
+        let heard = self.coordinator.hear(got, cost, note, now, out);
+        coordinator_told(heard, datagram)
     }
 }

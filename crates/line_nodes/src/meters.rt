@@ -1,6 +1,6 @@
 //! The meters of a line, and what they do.
 ghost use Rattle.std.specs.Prelude.{◌≡◌, ◌≤◌, ◌<◌, ◌^◌, ◌++◌, ◌∷◌, [], length, map, position};
-ghost use Rattle.std.specs.Prelude.{Ok, Err, OnOk, OnErr, Some, IfSome, IfOk, slice_get, slice_set};
+ghost use Rattle.std.specs.Prelude.{Ok, Err, OnOk, OnErr, Some, IfSome, IsSome, IfOk, slice_get, slice_set};
 ghost use Rattle.node_rules.specs.Accepting as accepting;
 ghost use Rattle.node_rules.specs.Calls as calls;
 ghost use Rattle.node_rules.specs.Carrying.{nothing};
@@ -18,11 +18,11 @@ ghost use Rattle.line_nodes.specs.Doings.{Did};
 ghost use Rattle.line_nodes.specs.Nodes.{has_eui};
 ghost use Rattle.line_nodes.specs.Receiving.{MayHear, Received};
 
-use crate::meter_steps::{
-    accept_by, break_at, cut_of, give_random_to, has_rank, hear_by, is_full, join_by, leave_by,
-    offer_near, provision_by, restart_of, send_by, set_counter, set_number, show_of, tick_of,
-};
+use crate::hearing::meter_told;
 use crate::reception::Reception;
+use crate::station_steps::{
+    break_at, has_rank, is_full, offer_near, restart_word, set_counter, set_number,
+};
 use group_keys::RingFault;
 use line_rules::Answer;
 use meter_node::Meter;
@@ -107,7 +107,9 @@ impl Meters {
             (acts x (Err SendRefusal.Halted) (λ m. of_station m (calls.send m.station to datagram.now note now)))
             self.old place result out.new self.new) }
     {
-        send_by(&mut self.meters[place], to, datagram, note, now, out)
+        self.meters[place]
+            .station()
+            .send(to, datagram, note, now, out)
     }
 
     /// A meter looks at octets that come to it. Ok exactly where it accepts them.
@@ -119,7 +121,7 @@ impl Meters {
             self.old place result nothing self.new) }
         ensures hears { IfOk result (λ got. IfSome (slice_get self.new place) (λ x. MayHear x got)) }
     {
-        accept_by(&mut self.meters[place], octets)
+        self.meters[place].station().accept(octets)
     }
 
     /// Sets the next frame counter of a meter. A halted one stays as it is.
@@ -129,7 +131,7 @@ impl Meters {
             (acts x (Ok tt) (λ m. of_station m (calls.preset_counter m.station value)))
             self.old place result nothing self.new) }
     {
-        set_counter(&mut self.meters[place], value)
+        set_counter(self.meters[place].station(), value)
     }
 
     /// Sets the last own number of a meter. A halted one stays as it is.
@@ -140,7 +142,7 @@ impl Meters {
             (acts x (Ok tt) (λ m. of_station m (calls.preset_number m.station value)))
             self.old place result nothing self.new) }
     {
-        set_number(&mut self.meters[place], value)
+        set_number(self.meters[place].station(), value)
     }
 
     /// Offers a neighbour over a link of this cost to a meter, as a route by itself, at a time in seconds. A halted
@@ -157,7 +159,7 @@ impl Meters {
             (acts x (Ok tt) (λ m. of_station m (calls.preset_near m.station to cost now)))
             self.old place result nothing self.new) }
     {
-        offer_near(&mut self.meters[place], to, cost, now)
+        offer_near(self.meters[place].station(), to, cost, now)
     }
 
     /// A meter takes a random value in.
@@ -167,7 +169,7 @@ impl Meters {
             (acts x (Err RandomFault.Halted) (λ m. drafts.give_random m value))
             self.old place result nothing self.new) }
     {
-        give_random_to(&mut self.meters[place], value)
+        self.meters[place].give_random(value)
     }
 
     /// A meter installs the grant of the workshop. A halted one stays as it is.
@@ -177,7 +179,11 @@ impl Meters {
             (acts x (Ok tt) (λ m. meters.provision m grant.now))
             self.old place result nothing self.new) }
     {
-        provision_by(&mut self.meters[place], grant)
+        let meter = &mut self.meters[place];
+        if meter.station().halted() {
+            return Ok(());
+        }
+        meter.provision(grant)
     }
 
     /// A meter begins to join by an agent, at a time in seconds. What goes out is in `out`.
@@ -189,11 +195,12 @@ impl Meters {
         out: &mut Out,
     ) -> Result<(), JoinRefusal>
         requires there { place < length self.old }
-        ensures { IfSome (slice_get self.old place) (λ x. IfSome (psk_of x) (λ psk. Did
+        ensures key { IfSome (slice_get self.old place) (λ x. IsSome (psk_of x)) }
+        ensures did { IfSome (slice_get self.old place) (λ x. IfSome (psk_of x) (λ psk. Did
             (acts x (Err JoinRefusal.Halted) (λ m. meters.join (identity network x psk) m agent now))
             self.old place result out.new self.new)) }
     {
-        join_by(&mut self.meters[place], agent, now, out)
+        self.meters[place].join(agent, now, out)
     }
 
     /// A meter leaves.
@@ -203,7 +210,7 @@ impl Meters {
             (acts x (Err LeaveRefusal.Halted) meters.leave)
             self.old place result nothing self.new) }
     {
-        leave_by(&mut self.meters[place])
+        self.meters[place].leave()
     }
 
     /// The link of a meter to a neighbour broke.
@@ -213,7 +220,7 @@ impl Meters {
             (acts x said.Halted (λ m. changing said.Broken (drafts.with_station (calls.broke next m.station) m)))
             self.old place result nothing self.new) }
     {
-        break_at(&mut self.meters[place], next)
+        break_at(self.meters[place].station(), next)
     }
 
     /// A meter forgets everything but its store, and ends a halt. A loss of power that is to come stays so.
@@ -223,7 +230,7 @@ impl Meters {
             (restarts x)
             self.old place result nothing self.new) }
     {
-        restart_of(&mut self.meters[place])
+        restart_word(self.meters[place].restart())
     }
 
     /// A meter will lose power at its nth store write from now on, which leaves the new record or the old one. It
@@ -235,7 +242,10 @@ impl Meters {
           store = record x.store { cut = Some (record { nth = nth; keeps_new = keeps_new }) };
         }) said.Set) self.old place said.Set nothing self.new) }
     {
-        cut_of(&mut self.meters[place], nth, keeps_new);
+        self.meters[place]
+            .station()
+            .keeper_mut()
+            .cut(nth, keeps_new);
     }
 
     // Ends what is old at one meter.
@@ -243,7 +253,7 @@ impl Meters {
         requires there { place < length self.old }
         ensures { IfSome (slice_get self.old place) (λ x. self.new ≡ slice_set self.old place (ticked now x)) }
     {
-        tick_of(&mut self.meters[place], now);
+        self.meters[place].tick(now);
     }
 
     /// Ends what is old at each meter, at a time in seconds.
@@ -261,7 +271,7 @@ impl Meters {
         ensures value { IfSome (slice_get self.old place) (λ x. result ≡ keeps_rank x dest) }
         ensures same { self.new ≡ self.old }
     {
-        has_rank(&mut self.meters[place], dest)
+        has_rank(self.meters[place].station(), dest)
     }
 
     /// Whether a meter keeps 64 ranks. A halted one keeps none.
@@ -270,7 +280,7 @@ impl Meters {
         ensures value { IfSome (slice_get self.old place) (λ x. result ≡ ranks_full x) }
         ensures same { self.new ≡ self.old }
     {
-        is_full(&mut self.meters[place])
+        is_full(self.meters[place].station())
     }
 
     /// Fills in what is shown of a meter.
@@ -279,7 +289,7 @@ impl Meters {
         ensures shown { IfSome (slice_get self.old place) (λ x. out.new ≡ shown_of x) }
         ensures same { self.new ≡ self.old }
     {
-        show_of(&mut self.meters[place], out);
+        self.meters[place].station().shown(out);
     }
 
     /// The short address of a meter, None where it is halted or not joined.
@@ -344,6 +354,7 @@ impl Meters {
         ensures { IfSome (slice_get self.old place) (λ x. Received (hears network x got.now cost note now)
             self.old place result datagram.new out.new self.new) }
     {
-        hear_by(&mut self.meters[place], got, cost, note, now, datagram, out)
+        let heard = self.meters[place].hear(got, cost, note, now, out);
+        meter_told(heard, datagram)
     }
 }

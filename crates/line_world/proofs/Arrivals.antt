@@ -2,7 +2,8 @@
 use Rattle.std.proofs.Common.{◌≡◌, ℕ, zero, suc, ◌+◌, ◌<◌, ◌≤◌, Bool, true, false, cond, ◌||◌, List, [], ◌∷◌, length, Option, Some, None, Result, Ok, Err, refl, sym, ap, subst, ◌∙◌, if◌then◌else◌, arith}
 use Rattle.std.specs.Prelude.{IfSome, IfOk, MatchOption, is_some, nat_lt, slice_get, slice_set}
 use Rattle.std.specs.List.{list_any}
-use Rattle.std.specs.Option.{option_map, option_map_or}
+use Rattle.std.specs.Option.{option_copied, option_map, option_map_or}
+use denote.Ref.{Bor}
 use Rattle.std.proofs.lemmas.List.{append-nil, length-set, set-set}
 use Rattle.std.proofs.lemmas.List.Folds.{position_or_len-set}
 use Rattle.std.proofs.lemmas.Option.{get_or_from_slice_get, slice_get_within}
@@ -35,11 +36,12 @@ use Rattle.line_rules.specs.declared.event.TheConstants.{MAX_EVENTS}
 use Rattle.line_rules.specs.declared.happenings.Happenings.{Happenings}
 use Rattle.line_rules.specs.Answers.{CompletedJoining, Reception, Up, coordinator_reception, frame_word, meter_reception}
 use Rattle.line_rules.specs.Worlds.{Flight, Pairing, Trace, World, flight_at, is_forged_tag}
-use Rattle.line_rules.specs.Steps.{Step, arrives, done_by, forged_by, handed_by, happened, heard, hears, identity, note_by, number_if, number_of, on_flight, ran, received, reception_trace, told, trace_of}
+use Rattle.line_rules.specs.Steps.{Step, arrives, deliver, done_by, forged_by, handed_by, happened, heard, has_begun, hears, identity, inject, note_by, number_if, number_of, on_flight, ran, received, reception_trace, told, trace_of}
 use Rattle.line_world.specs.Arrivals.{comes_so, done_in, forged_in, handed_in, hears_so, in_run, left_of, note_in, said_of, taker_in}
 use Rattle.line_world.specs.Bounds.{IsBounded}
+use Rattle.line_world.specs.Finding.{found}
 use Rattle.line_world.specs.Steps.{Steps}
-use Rattle.line_world.proofs.Taking.{IsThere, after, bounded_after, is_taken_so, many_given, told_as}
+use Rattle.line_world.proofs.Taking.{IsThere, after, at_node, begun, bounded_after, has_coordinator, is_taken_so, is_there, many_given, refused, steps_as, told_as}
 
 -- # Flights
 
@@ -96,6 +98,11 @@ flies (Some f) octets is = record { flight = f; at = refl; same = let same : oct
 pub flies_none : (o : Option Flight) → None ≡ option_map (λ (f : Flight). f.octets) o → o ≡ None
 flies_none None is = refl
 flies_none (Some f) is = absurd (cc)
+
+-- a slice that is not lent has no octets
+pub none_copied : (o : Option (Bor (List ℕ))) → is_some o ≡ false → None ≡ option_copied o
+none_copied None is = refl
+none_copied (Some octets) is = absurd (cc)
 
 -- # The node of a number
 
@@ -329,10 +336,56 @@ as_many d old number answer out nodes did = ap (λ (ns : List Node). length ns) 
 pub found_at : {w : World} {number found : ℕ} (there : IsThere w number found) → slice_get w.nodes found ≡ Some there.node
 found_at {w} there = ap (λ n. slice_get w.nodes n) there.same ∙ there.at
 
--- a node that was found looked at octets: the nodes are as many as before
-pub looked_many : (v w : World) (number found : ℕ) (octets : List ℕ) (accepted : Result Accepted FrameRefusal) (nodes : List Node) → v ≡ w → IsThere w number found
-    → IfSome (slice_get v.nodes found) (λ y. Did (looks y octets) v.nodes found accepted nothing nodes) → length nodes ≡ length v.nodes
-looked_many v w number found octets accepted nodes same there looked =
-    let again : IsThere v number found = subst (λ (it : World). IsThere it number found) (sym same) there in
-    as_many (looks again.node octets) v.nodes found accepted nothing nodes
-    (at_node_told v.nodes found again.node (λ y. Did (looks y octets) v.nodes found accepted nothing nodes) (found_at again) looked)
+-- Octets come to a node that was found, after memory was reserved for what it gives out.
+module _ (v w : World) (node number : ℕ) (octets : List ℕ) (accepted : Result Accepted FrameRefusal) (nodes : List Node) (same : v ≡ w) (is : Ok number ≡ found w node)
+    (looked : IfSome (slice_get v.nodes number) (λ y. Did (looks y octets) v.nodes number accepted nothing nodes)) where
+  again : IsThere v node number
+  again = subst (λ (it : World). IsThere it node number) (sym same) (is_there w node number is)
+
+  looked_many : length nodes ≡ length v.nodes
+  looked_many =
+      as_many (looks again.node octets) v.nodes number accepted nothing nodes
+      (at_node_told v.nodes number again.node (λ y. Did (looks y octets) v.nodes number accepted nothing nodes) (found_at again) looked)
+
+  pub still_within : number < length nodes
+  still_within = subst (λ n. number < n) (sym looked_many) again.within
+
+  pub still_bounded : IsBounded w → IsBounded (in_run (record v { nodes = nodes }))
+  still_bounded bounds = in_run_bounded v nodes (subst IsBounded (sym same) bounds) looked_many
+
+  -- what is said and what is left of them
+  pub came_to : (new : World) (cost : ℕ) (origin : Origin) (h : Happenings)
+      → IfOk accepted (λ got. origin.is_forged ≡ forged_in v.flights octets got.path) → IfOk accepted (λ got. origin.note ≡ note_in v.flights octets got.path)
+      → IfSome (slice_get nodes number) (λ y. Steps true (record v { nodes = nodes }) (Ok h) new (Ok (comes_so network (record v { nodes = nodes }) number y accepted origin cost)))
+      → Steps true w (Ok h) new (inject network w node cost octets)
+  unfolding inject
+  came_to new cost origin h forged note s =
+      let has : true ≡ has_begun v = subst (λ (it : World). true ≡ has_begun it) (sym same) (has_coordinator w node number is) in
+      subst (λ (it : World). Steps true it (Ok h) new (inject network it node cost octets)) same
+      (steps_as _ _ (begun v _ has ∙ at_node v node again.node (λ x. Ok (arrives network v node x octets cost)) again.at
+      ∙ ap (λ n. Ok (arrives network v n again.node octets cost)) (sym again.same))
+      (came v new number again.node octets cost accepted origin nodes h (found_at again) looked forged note s))
+
+-- the number that was found before memory was reserved, after that
+pub found_still : (v w : World) (node number : ℕ) → v ≡ w → Ok number ≡ found w node → number < length v.nodes
+found_still v w node number same is = subst (λ (it : World). number < length it.nodes) (sym same) (is_there w node number is).within
+
+-- a flight that comes to a node is octets that do
+pub delivers : (w : World) (node number flight cost : ℕ) (octets : List ℕ) → Ok number ≡ found w node → Flies (not_lost (flight_at w flight)) octets
+    → deliver network w flight node cost ≡ inject network w node cost octets
+unfolding deliver inject
+delivers w node number flight cost octets is f =
+    let there = is_there w node number is in
+    let has = has_coordinator w node number is in
+    begun w _ has ∙ at_node w node there.node (λ x. on_flight w flight (λ g. Ok (arrives network w node x g.octets cost))) there.at ∙ flying w flight _ f.flight f.at
+    ∙ ap (λ o. Ok (arrives network w node there.node o cost)) (sym f.same)
+    ∙ sym (begun w _ has ∙ at_node w node there.node (λ x. Ok (arrives network w node x octets cost)) there.at)
+
+-- one that does not fly comes to none
+pub no_flight : (w : World) (node number flight cost : ℕ) → IsBounded w → Ok number ≡ found w node → not_lost (flight_at w flight) ≡ None
+    → Steps true w (Err faults.Flight) w (deliver network w flight node cost)
+unfolding deliver
+no_flight w node number flight cost bounds is none =
+    let there = is_there w node number is in
+    refused faults.Flight refl true w _ bounds (begun w _ (has_coordinator w node number is)
+    ∙ at_node w node there.node (λ x. on_flight w flight (λ g. Ok (arrives network w node x g.octets cost))) there.at ∙ not_flying w flight _ none)

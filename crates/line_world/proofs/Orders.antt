@@ -1,25 +1,30 @@
 -- The meters and the coordinator that an event is about, and what an event leaves for which memory was reserved.
-use Rattle.std.proofs.Common.{◌≡◌, ℕ, zero, suc, ◌<◌, ◌≤◌, Bool, true, false, List, [], ◌∷◌, length, Option, Some, None, Result, Ok, Err, refl, sym, ap, subst, ◌∙◌, arith}
+use Rattle.std.proofs.Common.{◌≡◌, ℕ, zero, suc, ◌<◌, ◌≤◌, Bool, true, false, List, [], ◌∷◌, length, Option, Some, Result, Ok, Err, refl, sym, ap, subst, ◌∙◌, arith}
 use Rattle.std.specs.Prelude.{◌==◌, if◌then◌else◌, nat_lt, IfSome, slice_get}
-use Rattle.std.specs.Option.{option_map}
 use Rattle.std.proofs.Math.Dec.{eqb-suc-zero}
 use Rattle.std.proofs.lemmas.List.{append-nil, length-set}
+use Rattle.plc_base.specs.declared.address.Eui.{Eui}
+use Rattle.plc_base.specs.declared.out_frame.Out.{Out}
 use Rattle.node_rules.specs.declared.refusal.CoordinatorRefusal.{CoordinatorRefusal}
+use Rattle.node_rules.specs.declared.refusal.CoordinatorRefusal.TheVariants as orders
 use Rattle.node_rules.specs.Carrying.{nothing}
 use Rattle.node_rules.specs.Ciphers.{network}
-use Rattle.node_rules.specs.Memory.{Node}
-use Rattle.node_rules.specs.NodeSteps.{NodeStep}
+use Rattle.node_rules.specs.Memory.{Memory, Node}
+use Rattle.node_rules.specs.NodeSteps.{NodeStep, acts}
+use Rattle.node_rules.specs.Plans.{Plan}
 use Rattle.line_nodes.specs.Doings.{Did}
 use Rattle.line_rules.specs.declared.event.Answer.{Answer}
 use Rattle.line_rules.specs.declared.event.StepFault.{StepFault}
 use Rattle.line_rules.specs.declared.event.StepFault.TheVariants as faults
 use Rattle.line_rules.specs.declared.event.TheConstants.{MAX_EVENTS}
 use Rattle.line_rules.specs.declared.happenings.Happenings.{Happenings}
-use Rattle.line_rules.specs.Worlds.{World, Trace, node_at}
-use Rattle.line_rules.specs.Steps.{Step, admission_by, allowed, allowed_word, at_coordinator, happened, has_begun, on_meter, on_node, once_begun, ran, told, trace_of}
+use Rattle.line_rules.specs.Answers.{ordered_word}
+use Rattle.line_rules.specs.Worlds.{World, Trace}
+use Rattle.line_rules.specs.Steps.{Step, admission_by, allowed, allowed_word, at_coordinator, by_coordinator, happened, has_begun, on_meter, on_node, once_begun, ran, told, trace_of}
 use Rattle.line_world.specs.Bounds.{IsBounded}
-use Rattle.line_world.specs.Steps.{HasMemory, Steps}
-use Rattle.line_world.proofs.Taking.{IsThere, after, at_node, begun, bounded_after, is_there, no_node, not_there, told_as}
+use Rattle.line_world.specs.Finding.{found, found_meter}
+use Rattle.line_world.specs.Steps.{HasMemory, Steps, is_memory}
+use Rattle.line_world.proofs.Taking.{IsThere, after, at_node, begun, bounded_after, is_there, node_acted, not_found, refused, steps_as, told_as}
 
 -- # The coordinator
 
@@ -39,33 +44,59 @@ pub record IsMeter (w : World) (number found : ℕ) : Type 0 where
   pub there : IsThere w number found
   pub meter : 1 ≤ found
 
--- the number of a meter, where there is one
-abbrev pub meter_found : World → ℕ → Option ℕ
-meter_found w number = if number == 0 then None else option_map (λ _. number) (node_at w number)
-
 some_number : (n : ℕ) → (n == 0) ≡ false → 1 ≤ n
 some_number zero e = absurd (cc)
 some_number (suc n) e = omega arith
 
-pub is_meter : (w : World) (number found : ℕ) → Some found ≡ meter_found w number → IsMeter w number found
-is_meter w number found is = by (number == 0) refl is
+pub is_meter : (w : World) (number at : ℕ) → Ok at ≡ found_meter w number → IsMeter w number at
+is_meter w number at is = by (number == 0) refl (once (has_begun w) is)
   where
-    by : (b : Bool) → (number == 0) ≡ b → Some found ≡ (if b then None else option_map (λ _. number) (node_at w number)) → IsMeter w number found
+    once : (b : Bool) → ◌≡◌ {A = Result ℕ StepFault} (Ok at) (if b then (if number == 0 then Err faults.Node else found w number) else Err faults.Setup)
+        → ◌≡◌ {A = Result ℕ StepFault} (Ok at) (if number == 0 then Err faults.Node else found w number)
+    once true h = h
+    once false h = absurd (cc)
+
+    by : (b : Bool) → (number == 0) ≡ b → ◌≡◌ {A = Result ℕ StepFault} (Ok at) (if b then Err faults.Node else found w number) → IsMeter w number at
     by true e h = absurd (cc)
     by false e h =
-        let there = is_there w number found h in
+        let there = is_there w number at h in
         record { some = e; there = there; meter = let same = there.same in let some = some_number number e in omega (arith, same, some) }
 
-pub no_meter : (w : World) (number : ℕ) (k : Node → Step) → None ≡ meter_found w number → on_meter w number k ≡ Err faults.Node
-no_meter w number k is = by (number == 0) refl is
+-- and there is a coordinator then
+pub meter_begun : (w : World) (number at : ℕ) → Ok at ≡ found_meter w number → true ≡ has_begun w
+meter_begun w number at is = by (has_begun w) is
   where
-    by : (b : Bool) → (number == 0) ≡ b → None ≡ (if b then None else option_map (λ _. number) (node_at w number)) → on_meter w number k ≡ Err faults.Node
-    by true e h = ap (λ (b : Bool). if b then Err faults.Node else on_node w number k) e
-    by false e h = ap (λ (b : Bool). if b then Err faults.Node else on_node w number k) e ∙ no_node w number k (not_there number (node_at w number) h)
+    by : (b : Bool) → ◌≡◌ {A = Result ℕ StepFault} (Ok at) (if b then (if number == 0 then Err faults.Node else found w number) else Err faults.Setup) → true ≡ b
+    by true h = refl
+    by false h = absurd (cc)
+
+-- an event of a meter that was not found is not taken
+pub meter_not_found : (takes : Bool) (w : World) (number : ℕ) (k : Node → Step) (fault : StepFault) → IsBounded w → Err fault ≡ found_meter w number
+    → Steps takes w (Err fault) w (once_begun w (on_meter w number k))
+meter_not_found takes w number k fault bounds is = by (has_begun w) refl is
+  where
+    by_number : true ≡ has_begun w → (b : Bool) → ◌≡◌ {A = Result ℕ StepFault} (Err fault) (if b then Err faults.Node else found w number)
+        → Steps takes w (Err fault) w (if b then Err faults.Node else on_node w number k)
+    by_number has true h = let same : fault ≡ faults.Node = cc in refused fault (ap is_memory same) takes w (Err faults.Node) bounds (ap (λ (f : StepFault). Err f) (sym same))
+    by_number has false h = steps_as _ _ (sym (begun w (on_node w number k) has)) (not_found takes w number k fault bounds h)
+
+    by : (b : Bool) → has_begun w ≡ b → ◌≡◌ {A = Result ℕ StepFault} (Err fault) (if b then (if number == 0 then Err faults.Node else found w number) else Err faults.Setup)
+        → Steps takes w (Err fault) w (if b then on_meter w number k else Err faults.Setup)
+    by false e h = let same : fault ≡ faults.Setup = cc in refused fault (ap is_memory same) takes w (Err faults.Setup) bounds (ap (λ (f : StepFault). Err f) (sym same))
+    by true e h = by_number (sym e) (number == 0) h
 
 pub at_meter : {w : World} {number found : ℕ} (m : IsMeter w number found) (k : Node → Step) → on_meter w number k ≡ k m.there.node
 at_meter {w} {number} m k =
     ap (λ (b : Bool). if b then Err faults.Node else on_node w number k) m.some ∙ at_node w number m.there.node k m.there.at
+
+-- nor one of an agent that was not found
+pub agent_not_found : (takes : Bool) (w : World) (number at agent : ℕ) (k : Node → Node → Step) (fault : StepFault) → IsBounded w → Ok at ≡ found_meter w number → Err fault ≡ found w agent
+    → Steps takes w (Err fault) w (once_begun w (on_meter w number (λ x. on_node w agent (k x))))
+agent_not_found takes w number at agent k fault bounds first is =
+    let m = is_meter w number at first in
+    let has = meter_begun w number at first in
+    steps_as _ _ (begun w _ has ∙ at_meter m (λ x. on_node w agent (k x)) ∙ sym (begun w (on_node w agent (k m.there.node)) has))
+    (not_found takes w agent (k m.there.node) fault bounds is)
 
 -- what is said of the node of a number holds of the node that was found
 pub of_found : {w : World} {number found : ℕ} (there : IsThere w number found) (P : Node → Type 0) → IfSome (slice_get w.nodes found) P → P there.node
@@ -123,6 +154,35 @@ about_meter {w} {number} {found} r m k =
     let there = first_there w r.begun in
     begun w _ r.begun ∙ at_meter m (λ x. at_coordinator w (λ c. k x c)) ∙ at_node w 0 there.node (λ c. k m.there.node c) there.at
 
+-- what is said of an event at which frames went out, its word being another's
+pub told_with : (w : World) (word told_word : Answer) (count : ℕ) (h : Happenings) → h ≡ record (happened w told_word) { flights = count } → told_word ≡ word
+    → h ≡ record (happened w word) { flights = count }
+told_with w word told_word count h said is = said ∙ (λ i. record (happened w (is i)) { flights = count })
+
+-- what is left of an order about a meter that may give something out, after memory was reserved for it
+module _ (w kept new : World) (number at : ℕ) (same : kept ≡ w) (bounds : IsBounded w) (room : w.events < MAX_EVENTS) (is : Ok at ≡ found_meter w number) where
+  runs : Runs kept
+  runs = still_runs same (record { begun = meter_begun w number at is; bounds = bounds; room = room })
+
+  pub about : IsMeter kept number at
+  about = subst (λ (it : World). IsMeter it number at) (sym same) (is_meter w number at is)
+
+  pub has_ordered : (rule : World → Step) (word : Answer) (order : Node → Eui → Memory → Plan Memory (Result (Unit {0}) CoordinatorRefusal)) (eui : Eui) (done : Result (Unit {0}) CoordinatorRefusal) (out : Out)
+      (nodes : List Node) (told_word : Answer) (h : Happenings)
+      → rule kept ≡ once_begun kept (on_meter kept number (λ x. at_coordinator kept (λ c. Ok (by_coordinator network kept c word (order c x.eui)))))
+      → IfSome (slice_get kept.nodes at) (λ x. eui ≡ x.eui)
+      → IfSome (slice_get kept.nodes 0) (λ c. Did (acts c (Err orders.Halted) (order c eui)) kept.nodes 0 done out nodes)
+      → length out.frames ≤ 24 → length out.tags.made ≤ 2 → told_word ≡ ordered_word word done → h ≡ record (happened kept told_word) { flights = length out.frames }
+      → new ≡ after (ran kept) 0 nodes out → Steps true w (Ok h) new (rule w)
+  has_ordered rule word order eui done out nodes told_word h named eui_is did frames tags word_is said is_new =
+      let first = first_there kept runs.begun in
+      let own = of_found about.there (λ (x : Node). eui ≡ x.eui) eui_is in
+      reserved kept w rule same
+      (steps_as _ _ (named ∙ about_meter runs about (λ x c. Ok (by_coordinator network kept c word (order c x.eui)))
+      ∙ ap (λ e. Ok (by_coordinator network kept first.node word (order first.node e))) (sym own))
+      (node_acted true kept new first (λ c. acts c (Err orders.Halted) (order c eui)) (ordered_word word) done out nodes h
+      runs.bounds runs.room frames tags did (told_with kept _ _ _ _ said word_is) is_new))
+
 -- what is left of an event, where the coordinator allowed a meter or refused that
 pub has_allowed : (w new : World) (number : ℕ) (there : IsThere w 0 0) (k : Node → NodeStep (Result ℕ CoordinatorRefusal)) (answer : Result ℕ CoordinatorRefusal) (nodes : List Node)
     (h : Happenings) → IsBounded w → w.events < MAX_EVENTS → IfSome (slice_get w.nodes 0) (λ y. Did (k y) w.nodes 0 answer nothing nodes)
@@ -160,8 +220,3 @@ only_said takes w new answer h b room said is = record {
     by : (t : Bool) → HasMemory t (Ok h)
     by true = tt
     by false = tt
-
--- what is said of an event at which frames went out, its word being another's
-pub told_with : (w : World) (word told_word : Answer) (count : ℕ) (h : Happenings) → h ≡ record (happened w told_word) { flights = count } → told_word ≡ word
-    → h ≡ record (happened w word) { flights = count }
-told_with w word told_word count h said is = said ∙ (λ i. record (happened w (is i)) { flights = count })

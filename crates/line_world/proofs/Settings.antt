@@ -32,14 +32,16 @@ use Rattle.node_rules.specs.Plans.{Plan, carry_out, finished, halted}
 use Rattle.node_rules.proofs.Refusals.{orders_refused}
 use Rattle.line_nodes.specs.Doings.{Did}
 use Rattle.line_rules.specs.declared.event.Answer.TheVariants as said
+use Rattle.line_rules.specs.declared.event.StepFault.{StepFault}
 use Rattle.line_rules.specs.declared.event.StepFault.TheVariants as faults
 use Rattle.line_rules.specs.declared.event.TheConstants.{MAX_EVENTS}
 use Rattle.line_rules.specs.declared.happenings.Happenings.{Happenings}
 use Rattle.line_rules.specs.Worlds.{World, Trace, node_at}
 use Rattle.line_rules.specs.Steps.{Step, at_coordinator, blank_node, coordinator, coordinator_node, depot, depot_at, depot_by, happened, has_begun, in_setup, is_known, issued_by, keeps_rank, made_node, meter, near, near_by, offered_near, on_node, provisioned, psk_of, ranks_full, set_up, takes_setup, told, trace_of}
 use Rattle.line_world.specs.Bounds.{IsBounded, IsUncut}
+use Rattle.line_world.specs.Finding.{found}
 use Rattle.line_world.specs.Steps.{HasMemory, Steps}
-use Rattle.line_world.proofs.Taking.{IsThere, at_node, told_as}
+use Rattle.line_world.proofs.Taking.{IsThere, at_node, begun, not_found, second_not_found, steps_as, told_as}
 
 -- # A node that no loss of power was told of
 
@@ -156,6 +158,19 @@ in_setup_is w step is = ap (λ (b : Bool). if b then step else Err faults.Setup)
 and_first : (a b : Bool) → true ≡ (a && b) → true ≡ a
 and_first true b is = refl
 and_first false b is = is
+
+-- an event of setup of a node that was not found is not taken
+pub no_such_node : (w : World) (number : ℕ) (k : Node → Step) (fault : StepFault) → IsBounded w → true ≡ takes_setup w → Err fault ≡ found w number
+    → Steps false w (Err fault) w (in_setup w (on_node w number k))
+no_such_node w number k fault bounds takes is =
+    steps_as _ _ (in_setup_is w _ takes ∙ sym (begun w (on_node w number k) (and_first (has_begun w) (not w.running) takes))) (not_found false w number k fault bounds is)
+
+-- nor one of a second node that was not found
+pub no_such_second : (w : World) (number at other : ℕ) (k : Node → Node → Step) (fault : StepFault) → IsBounded w → true ≡ takes_setup w → Ok at ≡ found w number → Err fault ≡ found w other
+    → Steps false w (Err fault) w (in_setup w (on_node w number (λ x. on_node w other (k x))))
+no_such_second w number at other k fault bounds takes first is =
+    steps_as _ _ (in_setup_is w _ takes ∙ sym (begun w (on_node w number (λ x. on_node w other (k x))) (and_first (has_begun w) (not w.running) takes)))
+    (second_not_found false w number at other k fault bounds first is)
 
 not_so : (a b : Bool) → true ≡ (a && not b) → b ≡ false
 not_so a false is = refl

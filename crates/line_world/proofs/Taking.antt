@@ -1,7 +1,7 @@
 -- How an event is taken: why it is not, and what a node's step makes of the world.
 use Rattle.std.proofs.Common.{◌≡◌, ℕ, suc, ◌+◌, ◌<◌, ◌≤◌, Bool, true, false, List, [], ◌∷◌, ◌++◌, length, map, Option, Some, None, Result, Ok, Err, refl, sym, ap, subst, ◌∙◌, if◌then◌else◌, arith}
 use Rattle.std.specs.Prelude.{IfSome, slice_get, slice_set}
-use Rattle.std.specs.Option.{option_map, option_map_or}
+use Rattle.std.specs.Option.{option_map_or}
 use Rattle.std.proofs.lemmas.List.{append-nil, length-append, length-set}
 use Rattle.std.proofs.lemmas.Option.{slice_get_within}
 use Rattle.plc_base.specs.declared.out_frame.Out.{Out}
@@ -19,30 +19,23 @@ use Rattle.line_rules.specs.declared.happenings.Happenings.{Happenings}
 use Rattle.line_rules.specs.Worlds.{World, Flight, Trace, node_at}
 use Rattle.line_rules.specs.Steps.{Step, acted, flight_by, flights_of, happened, has_begun, on_node, once_begun, ran, spoken, told}
 use Rattle.line_world.specs.Bounds.{IsBounded}
-use Rattle.line_world.specs.Steps.{HasMemory, Steps}
+use Rattle.line_world.specs.Finding.{found}
+use Rattle.line_world.specs.Steps.{Gives, HasMemory, Steps, is_memory}
 
 -- # Events that are not taken
 
-pub setup_fault : (takes : Bool) (w : World) (step : Step) → IsBounded w → step ≡ Err faults.Setup → Steps takes w (Err faults.Setup) w step
-setup_fault takes w step bounds is = record { gives = (is, refl); memory = by takes; bounds = bounds }
+pub refused : (fault : StepFault) → is_memory fault ≡ false → (takes : Bool) (w : World) (step : Step) → IsBounded w → step ≡ Err fault → Steps takes w (Err fault) w step
+refused fault plain takes w step bounds is = record { gives = by fault plain is; memory = by_kind takes; bounds = bounds }
   where
-    by : (t : Bool) → HasMemory t (Err faults.Setup)
-    by true = tt
-    by false = refl
+    by : (f : StepFault) → is_memory f ≡ false → step ≡ Err f → Gives w (Err f) w step
+    by faults.Memory plain is = absurd (cc)
+    by faults.Setup plain is = (is, refl)
+    by faults.Node plain is = (is, refl)
+    by faults.Flight plain is = (is, refl)
 
-pub node_fault : (takes : Bool) (w : World) (step : Step) → IsBounded w → step ≡ Err faults.Node → Steps takes w (Err faults.Node) w step
-node_fault takes w step bounds is = record { gives = (is, refl); memory = by takes; bounds = bounds }
-  where
-    by : (t : Bool) → HasMemory t (Err faults.Node)
-    by true = tt
-    by false = refl
-
-pub flight_fault : (takes : Bool) (w : World) (step : Step) → IsBounded w → step ≡ Err faults.Flight → Steps takes w (Err faults.Flight) w step
-flight_fault takes w step bounds is = record { gives = (is, refl); memory = by takes; bounds = bounds }
-  where
-    by : (t : Bool) → HasMemory t (Err faults.Flight)
-    by true = tt
-    by false = refl
+    by_kind : (t : Bool) → HasMemory t (Err fault)
+    by_kind true = tt
+    by_kind false = plain
 
 -- memory ran out where the event may take some
 pub out_of_memory : (w new : World) (step : Step) → IsBounded w → new ≡ w → Steps true w (Err faults.Memory) new step
@@ -60,16 +53,8 @@ unbegun w step is = ap (λ (b : Bool). if b then step else Err faults.Setup) (sy
 pub begun : (w : World) (step : Step) → true ≡ has_begun w → once_begun w step ≡ step
 begun w step is = ap (λ (b : Bool). if b then step else Err faults.Setup) (sym is)
 
-pub no_node : (w : World) (number : ℕ) (k : Node → Step) → node_at w number ≡ None → on_node w number k ≡ Err faults.Node
-no_node w number k is = ap (λ (o : Option Node). option_map_or k o (Err faults.Node)) is
-
 pub at_node : (w : World) (number : ℕ) (x : Node) (k : Node → Step) → node_at w number ≡ Some x → on_node w number k ≡ k x
 at_node w number x k is = ap (λ (o : Option Node). option_map_or k o (Err faults.Node)) is
-
--- a number that is found none is the number of no node
-pub not_there : (number : ℕ) (o : Option Node) → None ≡ option_map (λ _. number) o → o ≡ None
-not_there number None is = refl
-not_there number (Some x) is = absurd (cc)
 
 -- A number that is found is that of a node.
 pub record IsThere (w : World) (number found : ℕ) : Type 0 where
@@ -78,12 +63,45 @@ pub record IsThere (w : World) (number found : ℕ) : Type 0 where
   pub same : found ≡ number
   pub within : found < length w.nodes
 
-pub is_there : (w : World) (number found : ℕ) → Some found ≡ option_map (λ _. number) (node_at w number) → IsThere w number found
-is_there w number found is = by (node_at w number) refl is
+pub is_there : (w : World) (number at : ℕ) → Ok at ≡ found w number → IsThere w number at
+is_there w number at is = by (node_at w number) refl (once (has_begun w) is)
   where
-    by : (o : Option Node) → node_at w number ≡ o → Some found ≡ option_map (λ _. number) o → IsThere w number found
-    by None at is = absurd (cc)
-    by (Some x) at is = let same : found ≡ number = cc in record { node = x; at = at; same = same; within = subst (λ n. n < length w.nodes) (sym same) (slice_get_within w.nodes number x at) }
+    once : (b : Bool) → ◌≡◌ {A = Result ℕ StepFault} (Ok at) (if b then option_map_or (λ (x : Node). Ok number) (node_at w number) (Err faults.Node) else Err faults.Setup)
+        → ◌≡◌ {A = Result ℕ StepFault} (Ok at) (option_map_or (λ (x : Node). Ok number) (node_at w number) (Err faults.Node))
+    once true h = h
+    once false h = absurd (cc)
+
+    by : (o : Option Node) → node_at w number ≡ o → ◌≡◌ {A = Result ℕ StepFault} (Ok at) (option_map_or (λ (x : Node). Ok number) o (Err faults.Node)) → IsThere w number at
+    by None e h = absurd (cc)
+    by (Some x) e h = let same : at ≡ number = cc in record { node = x; at = e; same = same; within = subst (λ n. n < length w.nodes) (sym same) (slice_get_within w.nodes number x e) }
+
+-- and there is a coordinator then
+pub has_coordinator : (w : World) (number at : ℕ) → Ok at ≡ found w number → true ≡ has_begun w
+has_coordinator w number at is = by (has_begun w) is
+  where
+    by : (b : Bool) → ◌≡◌ {A = Result ℕ StepFault} (Ok at) (if b then option_map_or (λ (x : Node). Ok number) (node_at w number) (Err faults.Node) else Err faults.Setup) → true ≡ b
+    by true h = refl
+    by false h = absurd (cc)
+
+-- an event of a node that was not found is not taken
+pub not_found : (takes : Bool) (w : World) (number : ℕ) (k : Node → Step) (fault : StepFault) → IsBounded w → Err fault ≡ found w number
+    → Steps takes w (Err fault) w (once_begun w (on_node w number k))
+not_found takes w number k fault bounds is = by (has_begun w) (node_at w number) is
+  where
+    by : (b : Bool) (o : Option Node) → ◌≡◌ {A = Result ℕ StepFault} (Err fault) (if b then option_map_or (λ (x : Node). Ok number) o (Err faults.Node) else Err faults.Setup)
+        → Steps takes w (Err fault) w (if b then option_map_or k o (Err faults.Node) else Err faults.Setup)
+    by false o h = let same : fault ≡ faults.Setup = cc in refused fault (ap is_memory same) takes w (Err faults.Setup) bounds (ap (λ (f : StepFault). Err f) (sym same))
+    by true None h = let same : fault ≡ faults.Node = cc in refused fault (ap is_memory same) takes w (Err faults.Node) bounds (ap (λ (f : StepFault). Err f) (sym same))
+    by true (Some x) h = absurd (cc)
+
+-- nor one of a second node that was not found
+pub second_not_found : (takes : Bool) (w : World) (number at other : ℕ) (k : Node → Node → Step) (fault : StepFault) → IsBounded w → Ok at ≡ found w number → Err fault ≡ found w other
+    → Steps takes w (Err fault) w (once_begun w (on_node w number (λ x. on_node w other (k x))))
+second_not_found takes w number at other k fault bounds first is =
+    let there = is_there w number at first in
+    let has = has_coordinator w number at first in
+    steps_as _ _ (begun w _ has ∙ at_node w number there.node (λ x. on_node w other (k x)) there.at ∙ sym (begun w (on_node w other (k there.node)) has))
+    (not_found takes w other (k there.node) fault bounds is)
 
 -- what is told of the node of the number that was found, of that node
 pub told_of : {w : World} {number found : ℕ} (there : IsThere w number found) (P : Node → Type 0) → IfSome (slice_get w.nodes found) P → P there.node

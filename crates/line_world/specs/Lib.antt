@@ -3,3 +3,4 @@ pub mod Steps
 pub mod Bounds
 pub mod WorldCodes
 pub mod Arrivals
+pub mod Finding

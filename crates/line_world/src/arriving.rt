@@ -227,12 +227,11 @@ impl Line {
         ensures { Steps true (world_of self.old) result (world_of self.new)
             (rules.deliver network (world_of self.old) flight node cost) }
     {
-        if !self.has_begun() {
-            return Err(StepFault::Setup);
+        let number = self.node(node)?;
+        if self.flights.flying(flight).is_none() {
+            return Err(StepFault::Flight);
         }
-        let Some(number) = self.node(node) else {
-            return Err(StepFault::Node);
-        };
+        // What is reserved moves the octets.
         self.reserve()?;
         let Some(octets) = self.flights.flying(flight) else {
             return Err(StepFault::Flight);
@@ -255,12 +254,7 @@ impl Line {
         ensures { Steps true (world_of self.old) result (world_of self.new)
             (rules.inject network (world_of self.old) node cost octets.now) }
     {
-        if !self.has_begun() {
-            return Err(StepFault::Setup);
-        }
-        let Some(number) = self.node(node) else {
-            return Err(StepFault::Node);
-        };
+        let number = self.node(node)?;
         self.reserve()?;
         let accepted = self.nodes.accept(number, octets);
         let origin = origin(&self.flights, octets, &accepted);

@@ -1,11 +1,10 @@
 //! What is said of an event, and what a node's doing leaves of the world.
 ghost use Rattle.std.specs.Prelude.{◌≡◌, ◌+◌, ◌++◌, ◌<◌, ◌≤◌, ◌&&◌, not, true, length, map, Ok, OnOk, OnErr, nat_lt};
-ghost use Rattle.std.specs.Option.{option_map};
 ghost use Rattle.line_rules.specs.declared.event.TheConstants.{MAX_EVENTS};
 ghost use Rattle.line_rules.specs.declared.event.StepFault.TheVariants as faults;
 ghost use Rattle.line_rules.specs.Steps as rules;
-ghost use Rattle.line_rules.specs.Worlds.{node_at};
 ghost use Rattle.line_world.specs.Bounds.{IsBounded};
+ghost use Rattle.line_world.specs.Finding.{found, found_meter};
 ghost use Rattle.line_world.specs.Lines.{HasRoom, world_of};
 
 use crate::line::Line;
@@ -139,15 +138,30 @@ impl Line {
         self.has_begun() && !self.running
     }
 
-    /// The node of a number, where there is one.
-    pub(crate) fn node(&self, number: u32) -> Option<usize>
-        ensures { result ≡ option_map (λ _. number) (node_at (world_of self.now) number) }
+    /// The node of a number. `Setup` before there is a coordinator, `Node` where there is no such node.
+    pub(crate) fn node(&self, number: u32) -> Result<usize, StepFault>
+        ensures { result ≡ found (world_of self.now) number }
     {
+        if !self.has_begun() {
+            return Err(StepFault::Setup);
+        }
         let number = number as usize;
         if number < self.nodes.len() {
-            Some(number)
-        } else {
-            None
+            return Ok(number);
         }
+        Err(StepFault::Node)
+    }
+
+    /// The meter of a number: node 0 is none. It fails as [`Self::node`] does.
+    pub(crate) fn meter_number(&self, node: u32) -> Result<usize, StepFault>
+        ensures { result ≡ found_meter (world_of self.now) node }
+    {
+        if !self.has_begun() {
+            return Err(StepFault::Setup);
+        }
+        if node == 0 {
+            return Err(StepFault::Node);
+        }
+        self.node(node)
     }
 }

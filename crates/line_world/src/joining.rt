@@ -1,12 +1,10 @@
 //! Meters that are let in, join and leave, and the random values of nodes.
-ghost use Rattle.std.specs.Prelude.{◌≡◌, ◌==◌, ◌<◌, ◌≤◌, true, false, if◌then◌else◌, None};
-ghost use Rattle.std.specs.Option.{option_map};
+ghost use Rattle.std.specs.Prelude.{◌≡◌, ◌<◌, ◌≤◌, true, false};
 ghost use Rattle.node_rules.specs.Calls as calls;
 ghost use Rattle.node_rules.specs.Ciphers.{network};
 ghost use Rattle.line_rules.specs.declared.event.TheConstants.{MAX_EVENTS};
 ghost use Rattle.line_rules.specs.Answers as words;
 ghost use Rattle.line_rules.specs.Steps as rules;
-ghost use Rattle.line_rules.specs.Worlds.{node_at};
 ghost use Rattle.line_world.specs.Bounds.{IsBounded};
 ghost use Rattle.line_world.specs.Lines.{world_of};
 ghost use Rattle.line_world.specs.Steps.{Steps};
@@ -68,17 +66,6 @@ fn leave_word(left: Result<(), LeaveRefusal>) -> Answer
 }
 
 impl Line {
-    /// The number of a meter that is there. Node 0 is none.
-    pub(crate) fn meter_number(&self, node: u32) -> Option<usize>
-        ensures { result ≡ (if node == 0 then None
-            else option_map (λ _. node) (node_at (world_of self.now) node)) }
-    {
-        if node == 0 {
-            return None;
-        }
-        self.node(node)
-    }
-
     /// The coordinator allows a meter.
     pub(crate) fn allow(&mut self, node: u32) -> Result<Happenings<'static>, StepFault>
         requires bounds { IsBounded (world_of self.old) }
@@ -86,12 +73,7 @@ impl Line {
         ensures { Steps false (world_of self.old) result (world_of self.new)
             (rules.allow network (world_of self.old) node) }
     {
-        if !self.has_begun() {
-            return Err(StepFault::Setup);
-        }
-        let Some(number) = self.meter_number(node) else {
-            return Err(StepFault::Node);
-        };
+        let number = self.meter_number(node)?;
         let (eui, psk) = (self.nodes.eui(number), self.nodes.psk(number));
         match self.nodes.allow(eui, &psk) {
             Ok(address) => {
@@ -113,12 +95,7 @@ impl Line {
         ensures { Steps false (world_of self.old) result (world_of self.new)
             (rules.rand network (world_of self.old) node value) }
     {
-        if !self.has_begun() {
-            return Err(StepFault::Setup);
-        }
-        let Some(number) = self.node(node) else {
-            return Err(StepFault::Node);
-        };
+        let number = self.node(node)?;
         let given = self.nodes.give_random(number, value);
         Ok(self.answered(random_word(given)))
     }
@@ -130,20 +107,11 @@ impl Line {
         ensures { Steps true (world_of self.old) result (world_of self.new)
             (rules.join network (world_of self.old) node agent) }
     {
-        if !self.has_begun() {
-            return Err(StepFault::Setup);
-        }
-        let Some(number) = self.meter_number(node) else {
-            return Err(StepFault::Node);
-        };
-        let Some(agent) = self.node(agent) else {
-            return Err(StepFault::Node);
-        };
+        let number = self.meter_number(node)?;
+        let agent = self.node(agent)?;
         let Some(address) = self.nodes.address(agent) else {
             return Ok(self.answered(Answer::NoAddress));
         };
-        // Each meter has one: a proof takes that from the call.
-        let _psk = self.nodes.psk(number);
         self.reserve()?;
         let asked = self.nodes.join(number, address, self.clock, &mut self.out);
         Ok(self.acted(number, join_word(asked)))
@@ -156,12 +124,7 @@ impl Line {
         ensures { Steps false (world_of self.old) result (world_of self.new)
             (rules.leave network (world_of self.old) node) }
     {
-        if !self.has_begun() {
-            return Err(StepFault::Setup);
-        }
-        let Some(number) = self.meter_number(node) else {
-            return Err(StepFault::Node);
-        };
+        let number = self.meter_number(node)?;
         let left = self.nodes.leave(number);
         Ok(self.answered(leave_word(left)))
     }

@@ -48,12 +48,7 @@ impl Line {
         ensures { Steps true (world_of self.old) result (world_of self.new)
             (rules.challenge network (world_of self.old) node) }
     {
-        if !self.has_begun() {
-            return Err(StepFault::Setup);
-        }
-        let Some(number) = self.meter_number(node) else {
-            return Err(StepFault::Node);
-        };
+        let number = self.meter_number(node)?;
         self.reserve()?;
         let eui = self.nodes.eui(number);
         let done = self.nodes.challenge(eui, self.clock, &mut self.out);
@@ -72,12 +67,7 @@ impl Line {
         ensures { Steps true (world_of self.old) result (world_of self.new)
             (rules.activate network (world_of self.old) node index) }
     {
-        if !self.has_begun() {
-            return Err(StepFault::Setup);
-        }
-        let Some(number) = self.node(node) else {
-            return Err(StepFault::Node);
-        };
+        let number = self.node(node)?;
         if number == 0 {
             let done = self.nodes.activate_self(index);
             return Ok(self.answered(ordered_word(Answer::Activated, done)));
@@ -95,12 +85,7 @@ impl Line {
         ensures { Steps true (world_of self.old) result (world_of self.new)
             (rules.kick network (world_of self.old) node) }
     {
-        if !self.has_begun() {
-            return Err(StepFault::Setup);
-        }
-        let Some(number) = self.meter_number(node) else {
-            return Err(StepFault::Node);
-        };
+        let number = self.meter_number(node)?;
         self.reserve()?;
         let eui = self.nodes.eui(number);
         let done = self.nodes.kick(eui, &mut self.out);

@@ -43,15 +43,8 @@ impl Line {
         ensures { Steps true (world_of self.old) result (world_of self.new)
             (rules.send network (world_of self.old) from to datagram.now) }
     {
-        if !self.has_begun() {
-            return Err(StepFault::Setup);
-        }
-        let Some(from) = self.node(from) else {
-            return Err(StepFault::Node);
-        };
-        let Some(to) = self.node(to) else {
-            return Err(StepFault::Node);
-        };
+        let from = self.node(from)?;
+        let to = self.node(to)?;
         let Some(address) = self.nodes.address(to) else {
             return Ok(self.answered(Answer::NoAddress));
         };
@@ -75,15 +68,8 @@ impl Line {
         ensures { Steps false (world_of self.old) result (world_of self.new)
             (rules.breaks network (world_of self.old) node next) }
     {
-        if !self.has_begun() {
-            return Err(StepFault::Setup);
-        }
-        let Some(number) = self.node(node) else {
-            return Err(StepFault::Node);
-        };
-        let Some(next) = self.node(next) else {
-            return Err(StepFault::Node);
-        };
+        let number = self.node(node)?;
+        let next = self.node(next)?;
         let Some(address) = self.nodes.address(next) else {
             return Ok(self.answered(Answer::NoAddress));
         };

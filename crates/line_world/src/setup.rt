@@ -68,9 +68,7 @@ impl Line {
         if !self.takes_setup() {
             return Err(StepFault::Setup);
         }
-        let Some(number) = self.node(node) else {
-            return Err(StepFault::Node);
-        };
+        let number = self.node(node)?;
         if number == 0 {
             return Err(StepFault::Setup);
         }
@@ -119,12 +117,8 @@ impl Line {
         if !self.takes_setup() {
             return Err(StepFault::Setup);
         }
-        let Some(x) = self.node(a) else {
-            return Err(StepFault::Node);
-        };
-        let Some(y) = self.node(b) else {
-            return Err(StepFault::Node);
-        };
+        let x = self.node(a)?;
+        let y = self.node(b)?;
         let Some(p) = self.nodes.address(x) else {
             return Err(StepFault::Setup);
         };
@@ -157,9 +151,7 @@ impl Line {
         if !self.takes_setup() {
             return Err(StepFault::Setup);
         }
-        let Some(number) = self.node(node) else {
-            return Err(StepFault::Node);
-        };
+        let number = self.node(node)?;
         let _ = self.nodes.preset_counter(number, value);
         self.set_up();
         Ok(self.happened(Answer::Set))
@@ -176,9 +168,7 @@ impl Line {
         if !self.takes_setup() {
             return Err(StepFault::Setup);
         }
-        let Some(number) = self.node(node) else {
-            return Err(StepFault::Node);
-        };
+        let number = self.node(node)?;
         let _ = self.nodes.preset_number(number, value);
         self.set_up();
         Ok(self.happened(Answer::Set))

@@ -37,12 +37,7 @@ impl Line {
         ensures { Steps false (world_of self.old) result (world_of self.new)
             (rules.restart network (world_of self.old) node) }
     {
-        if !self.has_begun() {
-            return Err(StepFault::Setup);
-        }
-        let Some(number) = self.node(node) else {
-            return Err(StepFault::Node);
-        };
+        let number = self.node(node)?;
         let answer = self.nodes.restart(number);
         Ok(self.answered(answer))
     }
@@ -60,12 +55,7 @@ impl Line {
         ensures { Steps false (world_of self.old) result (world_of self.new)
             (rules.cut network (world_of self.old) node nth keeps_new) }
     {
-        if !self.has_begun() {
-            return Err(StepFault::Setup);
-        }
-        let Some(number) = self.node(node) else {
-            return Err(StepFault::Node);
-        };
+        let number = self.node(node)?;
         self.nodes.cut(number, nth, keeps_new);
         Ok(self.answered(Answer::Set))
     }
@@ -81,12 +71,7 @@ impl Line {
         ensures { Steps false (world_of self.old) result (world_of self.new)
             (rules.show (world_of self.old) node) }
     {
-        if !self.has_begun() {
-            return Err(StepFault::Setup);
-        }
-        let Some(number) = self.node(node) else {
-            return Err(StepFault::Node);
-        };
+        let number = self.node(node)?;
         self.nodes.show(number, &mut space.shown);
         let happened = self.answered(Answer::Shown);
         Ok(Happenings {

@@ -39,8 +39,13 @@ pub struct Space {
 }
 
 impl Space {
-    /// Nothing.
-    pub fn new() -> Space {
+    ghost use Rattle.std.specs.Prelude.{[]};
+    ghost use Rattle.node_rules.specs.Showing.{nothing_shown};
+
+    /// An empty datagram, and what a halted node shows.
+    pub fn new() -> Space
+        ensures { result ≡ record { datagram = []; shown = nothing_shown } }
+    {
         Space {
             datagram: DatagramBuf::new(),
             shown: Shown {

@@ -1,5 +1,7 @@
 -- Another key is to seal.
 use Rattle.std.proofs.Common.{◌≡◌, ℕ, ◌<◌, ◌≤◌, Bool, true, length, Ok, Err, sym, ap, subst, ◌∙◌, if◌then◌else◌, arith}
+use Rattle.line_rules.specs.declared.event.StepFault.{StepFault}
+use Rattle.std.proofs.lemmas.Result.{err_from_is_err_and}
 use Rattle.std.specs.Prelude.{◌==◌}
 use Rattle.node_rules.specs.declared.refusal.CoordinatorRefusal.TheVariants as orders
 use Rattle.node_rules.specs.Ciphers.{network}
@@ -11,19 +13,15 @@ use Rattle.line_rules.specs.Answers.{ordered_word}
 use Rattle.line_rules.specs.Steps.{activate, by_coordinator, happened}
 use Rattle.line_rules.specs.Worlds.{World}
 use Rattle.line_world.specs.Lines.{world_of}
-use Rattle.line_world.proofs.Taking.{IsThere, setup_fault, node_fault, steps_as, unbegun, begun, is_there, no_node, node_acted, node_answered, not_there}
+use Rattle.line_world.proofs.Taking.{IsThere, steps_as, begun, is_there, node_acted, node_answered, not_found, has_coordinator}
 use Rattle.line_world.proofs.Orders.{Runs, about_node, first_there, is_some_meter, of_found, reserved, still_runs, told_with}
 use Rattle.line_world.proofs.line.Line.activate.Goals as goal
 
-pub returns-then-not-has_begun : goal.returns-then-not-has_begun
+pub returns-in_err-number : goal.returns-in_err-number
 unfolding activate
-returns-then-not-has_begun c = setup_fault _ _ _ c.requires.bounds (unbegun (world_of c.args.self.now) _ c.if-not-has_begun.ensures)
-
-pub returns-in_default : goal.returns-in_default
-unfolding activate
-returns-in_default c =
-    let w = world_of c.args.self.now in
-    node_fault _ _ _ c.requires.bounds (begun w _ c.if-not-has_begun.ensures ∙ no_node w c.args.node _ (not_there c.args.node _ c.in_default.ensures))
+returns-in_err-number c =
+    let p = err_from_is_err_and c.from_residual.result c.from_residual.ensures.1 in
+    rw p.1 (not_found true (world_of c.args.self.now) c.args.node _ p.0 c.requires.bounds (ap (λ (f : StepFault). Err f) p.2 ∙ c.in_err-number.ensures))
 
 -- at the coordinator itself
 activates_self : {w : World} {number found : ℕ} (r : Runs w) (there : IsThere w number found) (index : ℕ) → found ≡ 0
@@ -47,26 +45,26 @@ activates_meter {w} {number} r there index some =
 pub returns-then-number-eq0 : goal.returns-then-number-eq0
 returns-then-number-eq0 c =
     let w = world_of c.args.self.now in
-    let r : Runs w = record { begun = c.if-not-has_begun.ensures; bounds = c.requires.bounds; room = c.requires.events } in
-    let there = is_there w c.args.node c.in-Some.number c.in-Some.ensures in
+    let r : Runs w = record { begun = (has_coordinator (world_of c.args.self.now) c.args.node c.in_ok-number.number c.in_ok-number.ensures); bounds = c.requires.bounds; room = c.requires.events } in
+    let there = is_there w c.args.node c.in_ok-number.number c.in_ok-number.ensures in
     steps_as _ _ (activates_self r there c.args.index c.if-number-eq0.true)
     (node_answered true w _ (first_there w r.begun) (λ x. acts x (Err orders.Halted) (λ k. coordinators.activate_self k c.args.index)) (ordered_word said.Activated) _ _ _
     r.bounds r.room c.activate_self-done.ensures (c.answered.ensures.told ∙ ap (λ a. happened w a) c.ordered_word.ensures) (ap world_of c.answered.ensures.line))
 
 pub eui-eui-requires-clause-there : goal.eui-eui-requires-clause-there
 eui-eui-requires-clause-there c =
-    let there = is_there (world_of c.args.self.now) c.args.node c.in-Some.number c.in-Some.ensures in
-    subst (λ (it : World). c.in-Some.number < length it.nodes) (sym c.reserve.ensures.world) there.within
+    let there = is_there (world_of c.args.self.now) c.args.node c.in_ok-number.number c.in_ok-number.ensures in
+    subst (λ (it : World). c.in_ok-number.number < length it.nodes) (sym c.reserve.ensures.world) there.within
 
 pub returns : goal.returns
 returns c =
     let w = world_of c.args.self.now in
     let kept = world_of c.reserve.new.self in
     let same : kept ≡ w = c.reserve.ensures.world in
-    let r : Runs kept = still_runs same (record { begun = c.if-not-has_begun.ensures; bounds = c.requires.bounds; room = c.requires.events }) in
-    let there : IsThere kept c.args.node c.in-Some.number =
-    subst (λ (it : World). IsThere it c.args.node c.in-Some.number) (sym same) (is_there w c.args.node c.in-Some.number c.in-Some.ensures) in
-    let some : 1 ≤ c.in-Some.number = omega (arith, c.if-number-eq0.false) in
+    let r : Runs kept = still_runs same (record { begun = (has_coordinator (world_of c.args.self.now) c.args.node c.in_ok-number.number c.in_ok-number.ensures); bounds = c.requires.bounds; room = c.requires.events }) in
+    let there : IsThere kept c.args.node c.in_ok-number.number =
+    subst (λ (it : World). IsThere it c.args.node c.in_ok-number.number) (sym same) (is_there w c.args.node c.in_ok-number.number c.in_ok-number.ensures) in
+    let some : 1 ≤ c.in_ok-number.number = omega (arith, c.if-number-eq0.false) in
     let eui = of_found there (λ (x : Node). c.eui-eui.result ≡ x.eui) c.eui-eui.ensures in
     let first = first_there kept r.begun in
     reserved kept w (λ it. activate network it c.args.node c.args.index) same

@@ -1,5 +1,7 @@
 -- The coordinator allows a meter.
-use Rattle.std.proofs.Common.{◌≡◌, ℕ, Some, Result, Ok, Err, sym, ap, ◌∙◌, arith}
+use Rattle.std.proofs.Common.{◌≡◌, ℕ, Some, Result, Ok, Err, sym, ap, ◌∙◌, arith, false}
+use Rattle.line_rules.specs.declared.event.StepFault.{StepFault}
+use Rattle.std.proofs.lemmas.Result.{err_from_is_err_and}
 use Rattle.std.specs.Option.{option_map_or}
 use Rattle.plc_base.specs.declared.address.Eui.{Eui}
 use Rattle.plc_base.specs.declared.key.Key.{Key}
@@ -13,30 +15,26 @@ use Rattle.line_rules.specs.declared.event.StepFault.TheVariants as faults
 use Rattle.line_rules.specs.Steps.{allow, allowed, happened, psk_of}
 use Rattle.line_rules.specs.Worlds.{World}
 use Rattle.line_world.specs.Lines.{world_of}
-use Rattle.line_world.proofs.Taking.{setup_fault, node_fault, steps_as, unbegun, begun}
-use Rattle.line_world.proofs.Orders.{IsMeter, Runs, about_meter, first_there, has_allowed, is_meter, no_meter, of_found, within_line}
+use Rattle.line_world.proofs.Taking.{steps_as}
+use Rattle.line_world.proofs.Orders.{IsMeter, Runs, about_meter, first_there, has_allowed, is_meter, of_found, within_line, meter_not_found, meter_begun}
 use Rattle.line_world.proofs.line.Line.allow.Goals as goal
 
-pub returns-then-not-has_begun : goal.returns-then-not-has_begun
+pub returns-in_err-number : goal.returns-in_err-number
 unfolding allow
-returns-then-not-has_begun c = setup_fault _ _ _ c.requires.bounds (unbegun (world_of c.args.self.now) _ c.if-not-has_begun.ensures)
-
-pub returns-in_default : goal.returns-in_default
-unfolding allow
-returns-in_default c =
-    let w = world_of c.args.self.now in
-    node_fault _ _ _ c.requires.bounds (begun w _ c.if-not-has_begun.ensures ∙ no_meter w c.args.node _ c.in_default.ensures)
+returns-in_err-number c =
+    let p = err_from_is_err_and c.from_residual.result c.from_residual.ensures.1 in
+    rw p.1 (meter_not_found false (world_of c.args.self.now) c.args.node _ p.0 c.requires.bounds (ap (λ (f : StepFault). Err f) p.2 ∙ c.in_err-number.ensures))
 
 pub eui-eui-requires-clause-there : goal.eui-eui-requires-clause-there
-eui-eui-requires-clause-there c = (is_meter (world_of c.args.self.now) c.args.node c.in-Some.number c.in-Some.ensures).there.within
+eui-eui-requires-clause-there c = (is_meter (world_of c.args.self.now) c.args.node c.in_ok-number.number c.in_ok-number.ensures).there.within
 
 pub psk-psk-requires-clause-there : goal.psk-psk-requires-clause-there
-psk-psk-requires-clause-there c = (is_meter (world_of c.args.self.now) c.args.node c.in-Some.number c.in-Some.ensures).there.within
+psk-psk-requires-clause-there c = (is_meter (world_of c.args.self.now) c.args.node c.in_ok-number.number c.in_ok-number.ensures).there.within
 
 pub overflow_cast-happened : goal.overflow_cast-happened
 overflow_cast-happened c =
     let w = world_of c.args.self.now in
-    let small = within_line c.requires.bounds (is_meter w c.args.node c.in-Some.number c.in-Some.ensures).there in
+    let small = within_line c.requires.bounds (is_meter w c.args.node c.in_ok-number.number c.in_ok-number.ensures).there in
     omega (arith, small)
 
 -- what the coordinator does with the EUI and the pair key that were asked for
@@ -55,8 +53,8 @@ pub returns-in-Ok : goal.returns-in-Ok
 unfolding allows
 returns-in-Ok c =
     let w = world_of c.args.self.now in
-    let r : Runs w = record { begun = c.if-not-has_begun.ensures; bounds = c.requires.bounds; room = c.requires.events } in
-    let m = is_meter w c.args.node c.in-Some.number c.in-Some.ensures in
+    let r : Runs w = record { begun = (meter_begun (world_of c.args.self.now) c.args.node c.in_ok-number.number c.in_ok-number.ensures); bounds = c.requires.bounds; room = c.requires.events } in
+    let m = is_meter w c.args.node c.in_ok-number.number c.in_ok-number.ensures in
     let eui = c.eui-eui.result in
     let psk = c.psk-psk.result in
     let eui_is = of_found m.there (λ (x : Node). eui ≡ x.eui) c.eui-eui.ensures in
@@ -70,8 +68,8 @@ pub returns-in-Err : goal.returns-in-Err
 unfolding allows
 returns-in-Err c =
     let w = world_of c.args.self.now in
-    let r : Runs w = record { begun = c.if-not-has_begun.ensures; bounds = c.requires.bounds; room = c.requires.events } in
-    let m = is_meter w c.args.node c.in-Some.number c.in-Some.ensures in
+    let r : Runs w = record { begun = (meter_begun (world_of c.args.self.now) c.args.node c.in_ok-number.number c.in_ok-number.ensures); bounds = c.requires.bounds; room = c.requires.events } in
+    let m = is_meter w c.args.node c.in_ok-number.number c.in_ok-number.ensures in
     let eui = c.eui-eui.result in
     let psk = c.psk-psk.result in
     let eui_is = of_found m.there (λ (x : Node). eui ≡ x.eui) c.eui-eui.ensures in

@@ -1,46 +1,30 @@
 -- The coordinator challenges a meter.
-use Rattle.std.proofs.Common.{◌≡◌, true, ◌<◌, length, Ok, Err, sym, ap, subst, ◌∙◌}
-use Rattle.node_rules.specs.declared.refusal.CoordinatorRefusal.TheVariants as orders
+use Rattle.std.proofs.Common.{Err, true, refl, ap, ◌∙◌}
+use Rattle.std.proofs.lemmas.Result.{err_from_is_err_and}
 use Rattle.node_rules.specs.Ciphers.{network}
 use Rattle.node_rules.specs.Coordinators as coordinators
-use Rattle.node_rules.specs.Memory.{Node}
-use Rattle.node_rules.specs.NodeSteps.{acts}
 use Rattle.line_rules.specs.declared.event.Answer.TheVariants as said
-use Rattle.line_rules.specs.Answers.{ordered_word}
-use Rattle.line_rules.specs.Steps.{by_coordinator, challenge}
-use Rattle.line_rules.specs.Worlds.{World}
+use Rattle.line_rules.specs.declared.event.StepFault.{StepFault}
+use Rattle.line_rules.specs.Steps.{challenge}
 use Rattle.line_world.specs.Lines.{world_of}
-use Rattle.line_world.proofs.Taking.{setup_fault, node_fault, steps_as, unbegun, begun, node_acted}
-use Rattle.line_world.proofs.Orders.{IsMeter, Runs, about_meter, first_there, is_meter, no_meter, of_found, reserved, still_runs, told_with}
+use Rattle.line_world.proofs.Orders.{about, has_ordered, meter_not_found}
 use Rattle.line_world.proofs.line.Line.challenge.Goals as goal
 
-pub returns-then-not-has_begun : goal.returns-then-not-has_begun
+pub returns-in_err-number : goal.returns-in_err-number
 unfolding challenge
-returns-then-not-has_begun c = setup_fault _ _ _ c.requires.bounds (unbegun (world_of c.args.self.now) _ c.if-not-has_begun.ensures)
-
-pub returns-in_default : goal.returns-in_default
-unfolding challenge
-returns-in_default c =
-    let w = world_of c.args.self.now in
-    node_fault _ _ _ c.requires.bounds (begun w _ c.if-not-has_begun.ensures ∙ no_meter w c.args.node _ c.in_default.ensures)
+returns-in_err-number c =
+    let p = err_from_is_err_and c.from_residual.result c.from_residual.ensures.1 in
+    rw p.1 (meter_not_found true (world_of c.args.self.now) c.args.node _ p.0 c.requires.bounds (ap (λ (f : StepFault). Err f) p.2 ∙ c.in_err-number.ensures))
 
 pub eui-eui-requires-clause-there : goal.eui-eui-requires-clause-there
 eui-eui-requires-clause-there c =
-    let there = (is_meter (world_of c.args.self.now) c.args.node c.in-Some.number c.in-Some.ensures).there in
-    subst (λ (it : World). c.in-Some.number < length it.nodes) (sym c.reserve.ensures.world) there.within
+    (about (world_of c.args.self.now) (world_of c.reserve.new.self) (world_of c.reserve.new.self) c.args.node c.in_ok-number.number c.reserve.ensures.world c.requires.bounds
+    c.requires.events c.in_ok-number.ensures).there.within
 
 pub returns : goal.returns
 unfolding challenge
 returns c =
-    let w = world_of c.args.self.now in
-    let kept = world_of c.reserve.new.self in
-    let same : kept ≡ w = c.reserve.ensures.world in
-    let r : Runs kept = still_runs same (record { begun = c.if-not-has_begun.ensures; bounds = c.requires.bounds; room = c.requires.events }) in
-    let m : IsMeter kept c.args.node c.in-Some.number =
-    subst (λ (it : World). IsMeter it c.args.node c.in-Some.number) (sym same) (is_meter w c.args.node c.in-Some.number c.in-Some.ensures) in
-    let eui = of_found m.there (λ (x : Node). c.eui-eui.result ≡ x.eui) c.eui-eui.ensures in
-    let first = first_there kept r.begun in
-    reserved kept w (λ it. challenge network it c.args.node) same
-    (steps_as _ _ (about_meter r m _ ∙ ap (λ e. Ok (by_coordinator network kept first.node said.Challenged (λ k. coordinators.challenge first.node.eui k e kept.clock))) (sym eui))
-    (node_acted true kept _ first (λ x. acts x (Err orders.Halted) (λ k. coordinators.challenge x.eui k c.eui-eui.result kept.clock)) (ordered_word said.Challenged) _ _ _ _
-    r.bounds r.room c.acted.ensures.frames c.acted.ensures.tags c.challenge-done.ensures (told_with kept _ _ _ _ c.acted.ensures.told c.ordered_word.ensures) c.acted.ensures.world))
+    has_ordered (world_of c.args.self.now) (world_of c.reserve.new.self) (world_of c.acted.new.self) c.args.node c.in_ok-number.number c.reserve.ensures.world c.requires.bounds
+    c.requires.events c.in_ok-number.ensures (λ it. challenge network it c.args.node) said.Challenged (λ x e k. coordinators.challenge x.eui k e (world_of c.reserve.new.self).clock)
+    c.eui-eui.result c.challenge-done.result c.challenge-done.new.out c.challenge-done.new.self c.ordered_word.result c.acted.result refl c.eui-eui.ensures c.challenge-done.ensures c.acted.ensures.frames
+    c.acted.ensures.tags c.ordered_word.ensures c.acted.ensures.told c.acted.ensures.world

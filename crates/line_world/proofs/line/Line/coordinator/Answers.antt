@@ -1,15 +1,16 @@
 -- The coordinator is made.
-use Rattle.std.proofs.Common.{ap, ◌∙◌}
+use Rattle.std.proofs.Common.{ap, ◌∙◌, refl}
+use Rattle.line_rules.specs.declared.event.StepFault.TheVariants as faults
 use Rattle.line_rules.specs.declared.event.Answer.TheVariants as said
 use Rattle.line_rules.specs.Steps.{happened}
 use Rattle.line_world.specs.declared.line.Line.{Line}
 use Rattle.line_world.specs.Lines.{world_of}
-use Rattle.line_world.proofs.Taking.{setup_fault}
+use Rattle.line_world.proofs.Taking.{refused}
 use Rattle.line_world.proofs.Settings.{had_begun, first_made, went_well}
 use Rattle.line_world.proofs.line.Line.coordinator.Goals as goal
 
 pub returns-then-has_begun : goal.returns-then-has_begun
-returns-then-has_begun c = setup_fault _ _ _ c.requires.bounds (had_begun (world_of c.args.self.now) _ _ c.if-has_begun.ensures)
+returns-then-has_begun c = refused faults.Setup refl _ _ _ c.requires.bounds (had_begun (world_of c.args.self.now) _ _ c.if-has_begun.ensures)
 
 pub returns : goal.returns
 returns c =

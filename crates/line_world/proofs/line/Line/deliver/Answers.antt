@@ -1,74 +1,64 @@
 -- A flight comes to a node.
-use Rattle.std.proofs.Common.{◌≡◌, ◌<◌, Ok, Err, true, length, sym, ap, subst, ◌∙◌}
+use Rattle.std.proofs.Common.{◌≡◌, ℕ, Result, Ok, Err, true, refl, sym, ap, subst, ◌∙◌}
+use Rattle.std.proofs.lemmas.Result.{err_from_is_err_and}
 use Rattle.line_flights.specs.Flown.{flight_in, not_lost}
 use Rattle.node_rules.specs.Ciphers.{network}
+use Rattle.line_rules.specs.declared.event.StepFault.{StepFault}
 use Rattle.line_rules.specs.declared.event.StepFault.TheVariants as faults
 use Rattle.line_rules.specs.Worlds.{World}
-use Rattle.line_rules.specs.Steps.{arrives, deliver, has_begun}
+use Rattle.line_rules.specs.Steps.{deliver}
 use Rattle.line_world.specs.Bounds.{IsBounded}
+use Rattle.line_world.specs.Finding.{found}
 use Rattle.line_world.specs.Lines.{world_of}
 use Rattle.line_world.specs.Steps.{Steps}
-use Rattle.line_world.proofs.Taking.{IsThere, setup_fault, node_fault, flight_fault, steps_as, unbegun, begun, no_node, at_node, not_there, is_there}
-use Rattle.line_world.proofs.Arrivals.{came, flies, flies_none, flying, found_at, in_run_bounded, looked_many, not_flying}
+use Rattle.line_world.proofs.Taking.{not_found, steps_as}
+use Rattle.line_world.proofs.Arrivals.{came_to, delivers, flies, flies_none, none_copied, found_still, no_flight, still_bounded, still_within}
 use Rattle.line_world.proofs.line.Line.deliver.Goals as goal
 
-pub returns-then-not-has_begun : goal.returns-then-not-has_begun
+pub returns-in_err-number : goal.returns-in_err-number
 unfolding deliver
-returns-then-not-has_begun c = setup_fault _ _ _ c.requires.bounds (unbegun (world_of c.args.self.now) _ c.if-not-has_begun.ensures)
-
-pub returns-in_default : goal.returns-in_default
-unfolding deliver
-returns-in_default c =
-    let w = world_of c.args.self.now in
-    node_fault _ _ _ c.requires.bounds (begun w _ c.if-not-has_begun.ensures ∙ no_node w c.args.node _ (not_there c.args.node _ c.in_default.ensures))
-
-pub returns-in_default-flying : goal.returns-in_default-flying
-unfolding deliver
-returns-in_default-flying c =
-    let w = world_of c.args.self.now in
-    let v = world_of c.reserve.new.self in
-    let same : v ≡ w = c.reserve.ensures.world in
-    let there : IsThere v c.args.node c.in-Some.number = subst (λ (it : World). IsThere it c.args.node c.in-Some.number) (sym same) (is_there w c.args.node c.in-Some.number c.in-Some.ensures) in
-    let bounds : IsBounded v = subst IsBounded (sym same) c.requires.bounds in
-    let has : true ≡ has_begun v = subst (λ (it : World). true ≡ has_begun it) (sym same) c.if-not-has_begun.ensures in
-    subst (λ (it : World). Steps true it (Err faults.Flight) v (deliver network it c.args.flight c.args.node c.args.cost)) same
-    (flight_fault true v _ bounds (begun v _ has ∙ at_node v c.args.node there.node _ there.at
-    ∙ not_flying v c.args.flight _ (flies_none (not_lost (flight_in v.flights c.args.flight)) c.in_default-flying.ensures)))
+returns-in_err-number c =
+    let p = err_from_is_err_and c.from_residual.result c.from_residual.ensures.1 in
+    rw p.1 (not_found true (world_of c.args.self.now) c.args.node _ p.0 c.requires.bounds (ap (λ (f : StepFault). Err f) p.2 ∙ c.in_err-number.ensures))
 
 pub accept-accepted-requires : goal.accept-accepted-requires
 accept-accepted-requires c =
-    let w = world_of c.args.self.now in
-    record { there = subst (λ (it : World). c.in-Some.number < length it.nodes) (sym c.reserve.ensures.world) (is_there w c.args.node c.in-Some.number c.in-Some.ensures).within }
+    record { there = found_still (world_of c.reserve.new.self) (world_of c.args.self.now) c.args.node c.in_ok-number.number c.reserve.ensures.world c.in_ok-number.ensures }
 
 pub arrived-requires-clause-there : goal.arrived-requires-clause-there
 arrived-requires-clause-there c =
-    let v = world_of c.reserve.new.self in
-    let w = world_of c.args.self.now in
-    let there = is_there w c.args.node c.in-Some.number c.in-Some.ensures in
-    let many = looked_many v w c.args.node c.in-Some.number c.in-Some-flying.octets.now c.accept-accepted.result c.accept-accepted.new.self c.reserve.ensures.world there c.accept-accepted.ensures.did in
-    let within = subst (λ (it : World). c.in-Some.number < length it.nodes) (sym c.reserve.ensures.world) there.within in
-    subst (λ n. c.in-Some.number < n) (sym many) within
+    still_within (world_of c.reserve.new.self) (world_of c.args.self.now) c.args.node c.in_ok-number.number c.in-Some.octets.now c.accept-accepted.result c.accept-accepted.new.self
+    c.reserve.ensures.world c.in_ok-number.ensures c.accept-accepted.ensures.did
 
 pub arrived-requires-clause-bounds : goal.arrived-requires-clause-bounds
 arrived-requires-clause-bounds c =
-    let v = world_of c.reserve.new.self in
+    still_bounded (world_of c.reserve.new.self) (world_of c.args.self.now) c.args.node c.in_ok-number.number c.in-Some.octets.now c.accept-accepted.result c.accept-accepted.new.self
+    c.reserve.ensures.world c.in_ok-number.ensures c.accept-accepted.ensures.did c.requires.bounds
+
+pub returns-then-is_none : goal.returns-then-is_none
+returns-then-is_none c =
+    no_flight (world_of c.args.self.now) c.args.node c.in_ok-number.number c.args.flight c.args.cost c.requires.bounds c.in_ok-number.ensures
+    (flies_none (not_lost (flight_in c.args.self.now.flights.flights c.args.flight)) (none_copied c.flying.result c.if-is_none.ensures ∙ c.flying.ensures))
+
+pub returns-in_default : goal.returns-in_default
+returns-in_default c =
     let w = world_of c.args.self.now in
-    in_run_bounded v c.accept-accepted.new.self (subst IsBounded (sym c.reserve.ensures.world) c.requires.bounds)
-    (looked_many v w c.args.node c.in-Some.number c.in-Some-flying.octets.now c.accept-accepted.result c.accept-accepted.new.self c.reserve.ensures.world
-    (is_there w c.args.node c.in-Some.number c.in-Some.ensures) c.accept-accepted.ensures.did)
+    let v = world_of c.reserve.new.self in
+    let same = c.reserve.ensures.world in
+    let is : ◌≡◌ {A = Result ℕ StepFault} (Ok c.in_ok-number.number) (found v c.args.node) = c.in_ok-number.ensures ∙ ap (λ (it : World). found it c.args.node) (sym same) in
+    subst (λ (it : World). Steps true it (Err faults.Flight) v (deliver network it c.args.flight c.args.node c.args.cost)) same
+    (no_flight v c.args.node c.in_ok-number.number c.args.flight c.args.cost (subst IsBounded (sym same) c.requires.bounds) is
+    (flies_none (not_lost (flight_in v.flights c.args.flight)) c.in_default.ensures))
 
 pub returns : goal.returns
-unfolding deliver
 returns c =
     let w = world_of c.args.self.now in
     let v = world_of c.reserve.new.self in
-    let same : v ≡ w = c.reserve.ensures.world in
-    let there : IsThere v c.args.node c.in-Some.number = subst (λ (it : World). IsThere it c.args.node c.in-Some.number) (sym same) (is_there w c.args.node c.in-Some.number c.in-Some.ensures) in
-    let has : true ≡ has_begun v = subst (λ (it : World). true ≡ has_begun it) (sym same) c.if-not-has_begun.ensures in
-    let flight = flies (not_lost (flight_in v.flights c.args.flight)) c.in-Some-flying.octets.now c.in-Some-flying.ensures in
+    let same = c.reserve.ensures.world in
+    let octets = c.in-Some.octets.now in
+    let is : ◌≡◌ {A = Result ℕ StepFault} (Ok c.in_ok-number.number) (found v c.args.node) = c.in_ok-number.ensures ∙ ap (λ (it : World). found it c.args.node) (sym same) in
     subst (λ (it : World). Steps true it (Ok c.arrived.result) (world_of c.arrived.new.self) (deliver network it c.args.flight c.args.node c.args.cost)) same
-    (steps_as _ _ (begun v _ has ∙ at_node v c.args.node there.node _ there.at
-    ∙ flying v c.args.flight _ flight.flight flight.at ∙ ap (λ octets. Ok (arrives network v c.args.node there.node octets c.args.cost)) (sym flight.same)
-    ∙ ap (λ n. Ok (arrives network v n there.node c.in-Some-flying.octets.now c.args.cost)) (sym there.same))
-    (came v _ c.in-Some.number there.node c.in-Some-flying.octets.now c.args.cost c.accept-accepted.result c.origin-origin.result c.accept-accepted.new.self _ (found_at there)
-    c.accept-accepted.ensures.did c.origin-origin.ensures.forged c.origin-origin.ensures.note c.arrived.ensures))
+    (steps_as _ _ (delivers v c.args.node c.in_ok-number.number c.args.flight c.args.cost octets is (flies (not_lost (flight_in v.flights c.args.flight)) octets c.in-Some.ensures))
+    (came_to v v c.args.node c.in_ok-number.number octets c.accept-accepted.result c.accept-accepted.new.self
+    refl is c.accept-accepted.ensures.did (world_of c.arrived.new.self) c.args.cost c.origin-origin.result c.arrived.result
+    c.origin-origin.ensures.forged c.origin-origin.ensures.note c.arrived.ensures))

@@ -1,6 +1,8 @@
 -- A meter begins to join.
-use Rattle.std.proofs.Common.{◌≡◌, true, ℕ, ◌<◌, length, Some, None, Option, Ok, Err, sym, ap, subst, ◌∙◌}
-use Rattle.std.specs.Prelude.{IfSome}
+use Rattle.std.proofs.Common.{◌≡◌, refl, true, ℕ, ◌<◌, length, Some, None, Option, Ok, Err, sym, ap, subst, ◌∙◌}
+use Rattle.line_rules.specs.declared.event.StepFault.{StepFault}
+use Rattle.std.proofs.lemmas.Result.{err_from_is_err_and}
+use Rattle.std.specs.Prelude.{IfSome, IsSome, slice_get}
 use Rattle.plc_base.specs.declared.key.Key.{Key}
 use Rattle.node_rules.specs.declared.refusal.JoinRefusal.TheVariants as joins
 use Rattle.node_rules.specs.Ciphers.{network}
@@ -13,29 +15,24 @@ use Rattle.line_rules.specs.Answers.{join_word}
 use Rattle.line_rules.specs.Steps.{acted, identity, join, joins_by, on_node, psk_of}
 use Rattle.line_rules.specs.Worlds.{World}
 use Rattle.line_world.specs.Lines.{world_of}
-use Rattle.line_world.proofs.Taking.{IsThere, setup_fault, node_fault, steps_as, unbegun, begun, no_node, at_node, not_there, is_there, node_acted}
-use Rattle.line_world.proofs.Orders.{IsMeter, Runs, as_found, at_meter, is_meter, no_meter, of_found, only_said, reserved, told_with, within_line}
+use Rattle.line_world.proofs.Taking.{IsThere, steps_as, begun, at_node, is_there, node_acted}
+use Rattle.line_world.proofs.Orders.{IsMeter, Runs, as_found, at_meter, is_meter, of_found, only_said, reserved, told_with, within_line, meter_not_found, meter_begun, agent_not_found}
 use Rattle.line_world.proofs.line.Line.join.Goals as goal
 
-pub returns-then-not-has_begun : goal.returns-then-not-has_begun
+pub returns-in_err-number : goal.returns-in_err-number
 unfolding join
-returns-then-not-has_begun c = setup_fault _ _ _ c.requires.bounds (unbegun (world_of c.args.self.now) _ c.if-not-has_begun.ensures)
+returns-in_err-number c =
+    let p = err_from_is_err_and c.from_residual.result c.from_residual.ensures.1 in
+    rw p.1 (meter_not_found true (world_of c.args.self.now) c.args.node _ p.0 c.requires.bounds (ap (λ (f : StepFault). Err f) p.2 ∙ c.in_err-number.ensures))
 
-pub returns-in_default : goal.returns-in_default
+pub returns-in_err-agent : goal.returns-in_err-agent
 unfolding join
-returns-in_default c =
-    let w = world_of c.args.self.now in
-    node_fault _ _ _ c.requires.bounds (begun w _ c.if-not-has_begun.ensures ∙ no_meter w c.args.node _ c.in_default.ensures)
-
-pub returns-in_default-node : goal.returns-in_default-node
-unfolding join
-returns-in_default-node c =
-    let w = world_of c.args.self.now in
-    let m = is_meter w c.args.node c.in-Some.number c.in-Some.ensures in
-    node_fault _ _ _ c.requires.bounds (begun w _ c.if-not-has_begun.ensures ∙ at_meter m _ ∙ no_node w c.args.agent _ (not_there c.args.agent _ c.in_default-node.ensures))
+returns-in_err-agent c =
+    let p = err_from_is_err_and c.from_residual-in_err-agent.result c.from_residual-in_err-agent.ensures.1 in
+    rw p.1 (agent_not_found true (world_of c.args.self.now) c.args.node c.in_ok-number.number c.args.agent _ p.0 c.requires.bounds c.in_ok-number.ensures (ap (λ (f : StepFault). Err f) p.2 ∙ c.in_err-agent.ensures))
 
 pub address-requires : goal.address-requires
-address-requires c = record { there = (is_there (world_of c.args.self.now) c.args.agent c.in-Some-node.agent c.in-Some-node.ensures).within }
+address-requires c = record { there = (is_there (world_of c.args.self.now) c.args.agent c.in_ok-agent.agent c.in_ok-agent.ensures).within }
 
 -- the rule, where there are the meter and the agent
 joins_at : {w : World} {number found agent by : ℕ} (r : Runs w) (m : IsMeter w number found) (there : IsThere w agent by)
@@ -45,26 +42,23 @@ joins_at {w} {number} {found} {agent} r m there =
     begun w _ r.begun ∙ at_meter m (λ x. on_node w agent (λ y. Ok (joins_by network w number x (node_address y) (psk_of x))))
     ∙ at_node w agent there.node (λ y. Ok (joins_by network w number m.there.node (node_address y) (psk_of m.there.node))) there.at
 
-pub returns-in_default-address : goal.returns-in_default-address
-returns-in_default-address c =
+pub returns-in_default : goal.returns-in_default
+returns-in_default c =
     let w = world_of c.args.self.now in
-    let r : Runs w = record { begun = c.if-not-has_begun.ensures; bounds = c.requires.bounds; room = c.requires.events } in
-    let m = is_meter w c.args.node c.in-Some.number c.in-Some.ensures in
-    let there = is_there w c.args.agent c.in-Some-node.agent c.in-Some-node.ensures in
-    let none = of_found there (λ (y : Node). ◌≡◌ {A = Option ℕ} None (node_address y)) c.in_default-address.ensures in
+    let r : Runs w = record { begun = (meter_begun (world_of c.args.self.now) c.args.node c.in_ok-number.number c.in_ok-number.ensures); bounds = c.requires.bounds; room = c.requires.events } in
+    let m = is_meter w c.args.node c.in_ok-number.number c.in_ok-number.ensures in
+    let there = is_there w c.args.agent c.in_ok-agent.agent c.in_ok-agent.ensures in
+    let none = of_found there (λ (y : Node). ◌≡◌ {A = Option ℕ} None (node_address y)) c.in_default.ensures in
     steps_as _ _ (joins_at r m there ∙ ap (λ (o : Option ℕ). Ok (joins_by network w c.args.node m.there.node o (psk_of m.there.node))) (sym none))
     (only_said true w _ said.NoAddress _ r.bounds r.room c.answered.ensures.told (ap world_of c.answered.ensures.line))
 
-pub psk-psk-requires-clause-there : goal.psk-psk-requires-clause-there
-psk-psk-requires-clause-there c = (is_meter (world_of c.args.self.now) c.args.node c.in-Some.number c.in-Some.ensures).there.within
-
 pub join-asked-requires-clause-there : goal.join-asked-requires-clause-there
 join-asked-requires-clause-there c =
-    let there = (is_meter (world_of c.args.self.now) c.args.node c.in-Some.number c.in-Some.ensures).there in
-    subst (λ (it : World). c.in-Some.number < length it.nodes) (sym c.reserve.ensures.world) there.within
+    let there = (is_meter (world_of c.args.self.now) c.args.node c.in_ok-number.number c.in_ok-number.ensures).there in
+    subst (λ (it : World). c.in_ok-number.number < length it.nodes) (sym c.reserve.ensures.world) there.within
 
 pub acted-requires-clause-node : goal.acted-requires-clause-node
-acted-requires-clause-node c = within_line c.requires.bounds (is_meter (world_of c.args.self.now) c.args.node c.in-Some.number c.in-Some.ensures).there
+acted-requires-clause-node c = within_line c.requires.bounds (is_meter (world_of c.args.self.now) c.args.node c.in_ok-number.number c.in_ok-number.ensures).there
 
 -- What the tests of a joining have found: the meter with its pair key, and the agent with its address.
 record Found (w : World) (number found agent by address : ℕ) (psk : Key) : Type 0 where
@@ -82,35 +76,42 @@ joins_is {w} {number} f =
     let key = f.key in
     joins_at f.runs f.meter f.there ∙ (λ i. Ok (joins_by network w number f.meter.there.node (at i) (key i)))
 
+some_key : (o : Option Key) → IsSome o → (psk : Key) × (o ≡ Some psk)
+some_key (Some psk) is = (psk, refl)
+some_key None is = absurd (cc)
+
 pub returns : goal.returns
 returns c =
     let w = world_of c.args.self.now in
     let kept = world_of c.reserve.new.self in
     let same : kept ≡ w = c.reserve.ensures.world in
-    let psk = c.psk-psk.result in
-    let address = c.in-Some-address.address in
-    let meter = is_meter w c.args.node c.in-Some.number c.in-Some.ensures in
-    let there = is_there w c.args.agent c.in-Some-node.agent c.in-Some-node.ensures in
-    let found : Found w c.args.node c.in-Some.number c.args.agent c.in-Some-node.agent address psk = record {
-      runs = record { begun = c.if-not-has_begun.ensures; bounds = c.requires.bounds; room = c.requires.events };
+    let address = c.in-Some.address in
+    let meter = is_meter w c.args.node c.in_ok-number.number c.in_ok-number.ensures in
+    let there = is_there w c.args.agent c.in_ok-agent.agent c.in_ok-agent.ensures in
+    let keyed : IfSome (slice_get w.nodes c.in_ok-number.number) (λ x. IsSome (psk_of x)) =
+    subst (λ (it : World). IfSome (slice_get it.nodes c.in_ok-number.number) (λ x. IsSome (psk_of x))) same c.join-asked.ensures.key in
+    let key = some_key (psk_of meter.there.node) (of_found meter.there (λ (x : Node). IsSome (psk_of x)) keyed) in
+    let psk : Key = key.0 in
+    let found : Found w c.args.node c.in_ok-number.number c.args.agent c.in_ok-agent.agent address psk = record {
+      runs = record { begun = (meter_begun (world_of c.args.self.now) c.args.node c.in_ok-number.number c.in_ok-number.ensures); bounds = c.requires.bounds; room = c.requires.events };
       meter = meter;
-      key = of_found meter.there (λ (x : Node). psk_of x ≡ Some psk) c.psk-psk.ensures;
+      key = key.1;
       there = there;
-      at = sym (of_found there (λ (y : Node). ◌≡◌ {A = Option ℕ} (Some address) (node_address y)) c.in-Some-address.ensures);
+      at = sym (of_found there (λ (y : Node). ◌≡◌ {A = Option ℕ} (Some address) (node_address y)) c.in-Some.ensures);
     } in
-    let f : Found kept c.args.node c.in-Some.number c.args.agent c.in-Some-node.agent address psk =
-    subst (λ (it : World). Found it c.args.node c.in-Some.number c.args.agent c.in-Some-node.agent address psk) (sym same) found in
+    let f : Found kept c.args.node c.in_ok-number.number c.args.agent c.in_ok-agent.agent address psk =
+    subst (λ (it : World). Found it c.args.node c.in_ok-number.number c.args.agent c.in_ok-agent.agent address psk) (sym same) found in
     let x = f.meter.there.node in
     let out = c.join-asked.new.out in
     let nodes = c.join-asked.new.self in
     let asked = c.join-asked.result in
-    let did = of_found f.meter.there (λ (y : Node). IfSome (psk_of y) (λ key. Did (acts y (Err joins.Halted) (λ k. meters.join (identity network y key) k address kept.clock)) kept.nodes c.in-Some.number asked out nodes))
-    c.join-asked.ensures in
-    let by_key : Did (acts x (Err joins.Halted) (λ k. meters.join (identity network x psk) k address kept.clock)) kept.nodes c.in-Some.number asked out nodes =
-    subst (λ (o : Option Key). IfSome o (λ key. Did (acts x (Err joins.Halted) (λ k. meters.join (identity network x key) k address kept.clock)) kept.nodes c.in-Some.number asked out nodes)) f.key did in
+    let did = of_found f.meter.there (λ (y : Node). IfSome (psk_of y) (λ key. Did (acts y (Err joins.Halted) (λ k. meters.join (identity network y key) k address kept.clock)) kept.nodes c.in_ok-number.number asked out nodes))
+    c.join-asked.ensures.did in
+    let by_key : Did (acts x (Err joins.Halted) (λ k. meters.join (identity network x psk) k address kept.clock)) kept.nodes c.in_ok-number.number asked out nodes =
+    subst (λ (o : Option Key). IfSome o (λ key. Did (acts x (Err joins.Halted) (λ k. meters.join (identity network x key) k address kept.clock)) kept.nodes c.in_ok-number.number asked out nodes)) f.key did in
     reserved kept w (λ it. join network it c.args.node c.args.agent) same
     (steps_as _ _ (joins_is f)
     (node_acted true kept _ f.meter.there (λ y. acts y (Err joins.Halted) (λ k. meters.join (identity network y psk) k address kept.clock)) join_word asked out nodes _
     f.runs.bounds f.runs.room c.acted.ensures.frames c.acted.ensures.tags
-    (as_found f.meter.there (λ (y : Node). Did (acts y (Err joins.Halted) (λ k. meters.join (identity network y psk) k address kept.clock)) kept.nodes c.in-Some.number asked out nodes) by_key)
+    (as_found f.meter.there (λ (y : Node). Did (acts y (Err joins.Halted) (λ k. meters.join (identity network y psk) k address kept.clock)) kept.nodes c.in_ok-number.number asked out nodes) by_key)
     (told_with kept _ _ _ _ c.acted.ensures.told c.join_word.ensures) c.acted.ensures.world))

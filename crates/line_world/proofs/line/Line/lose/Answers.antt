@@ -9,7 +9,7 @@ use Rattle.line_rules.specs.Steps.{happened, lose, ran, trace_of}
 use Rattle.line_world.specs.Bounds.{IsBounded}
 use Rattle.line_world.specs.Lines.{world_of}
 use Rattle.line_world.specs.Steps.{Steps}
-use Rattle.line_world.proofs.Taking.{setup_fault, flight_fault, steps_as, unbegun, begun, is_taken_so, bounded_by}
+use Rattle.line_world.proofs.Taking.{steps_as, unbegun, begun, is_taken_so, bounded_by, refused}
 use Rattle.line_world.proofs.Arrivals.{flying, lost_now, not_flying, not_lost_now}
 use Rattle.line_world.proofs.line.Line.lose.Goals as goal
 
@@ -18,7 +18,7 @@ without old number f = record old { flights = slice_set old.flights (number - 1)
 
 pub returns-then-not-has_begun : goal.returns-then-not-has_begun
 unfolding lose
-returns-then-not-has_begun c = setup_fault _ _ _ c.requires.bounds (unbegun (world_of c.args.self.now) _ c.if-not-has_begun.ensures)
+returns-then-not-has_begun c = refused faults.Setup refl _ _ _ c.requires.bounds (unbegun (world_of c.args.self.now) _ c.if-not-has_begun.ensures)
 
 pub returns-then-not-lose : goal.returns-then-not-lose
 unfolding lose
@@ -27,7 +27,7 @@ returns-then-not-lose c =
     let old : Flown = c.args.self.now.flights in
     let none = not_lost_now (not_lost (flight_in old.flights c.args.flight)) old c.lose.new.self (without old c.args.flight) c.if-not-lose.ensures in
     subst (λ (n : Flown). Steps false w (Err faults.Flight) (record w { flights = n.flights }) (lose w c.args.flight)) (sym none.1)
-    (flight_fault false w _ c.requires.bounds (begun w _ c.if-not-has_begun.ensures ∙ not_flying w c.args.flight _ none.0))
+    (refused faults.Flight refl false w _ c.requires.bounds (begun w _ c.if-not-has_begun.ensures ∙ not_flying w c.args.flight _ none.0))
 
 pub returns : goal.returns
 unfolding lose

@@ -1,27 +1,28 @@
 -- A meter is made.
-use Rattle.std.proofs.Common.{◌<◌, ◌≤◌, length, ap, ◌∙◌, arith}
+use Rattle.std.proofs.Common.{◌<◌, ◌≤◌, length, ap, ◌∙◌, arith, refl}
+use Rattle.line_rules.specs.declared.event.StepFault.TheVariants as faults
 use Rattle.line_rules.specs.declared.event.Answer.TheVariants as said
 use Rattle.line_rules.specs.Steps.{happened}
 use Rattle.line_world.specs.declared.line.Line.{Line}
 use Rattle.line_world.specs.Lines.{world_of}
-use Rattle.line_world.proofs.Taking.{setup_fault}
+use Rattle.line_world.proofs.Taking.{refused}
 use Rattle.line_world.proofs.Settings.{meter_late, meter_full, meter_known, meter_made, went_well}
 use Rattle.line_world.proofs.line.Line.meter.Goals as goal
 
 pub returns-then-not-takes_setup : goal.returns-then-not-takes_setup
-returns-then-not-takes_setup c = setup_fault _ _ _ c.requires.bounds (meter_late (world_of c.args.self.now) _ _ c.if-not-takes_setup.ensures)
+returns-then-not-takes_setup c = refused faults.Setup refl _ _ _ c.requires.bounds (meter_late (world_of c.args.self.now) _ _ c.if-not-takes_setup.ensures)
 
 pub returns-then-len-ge-MAX_NODES : goal.returns-then-len-ge-MAX_NODES
 returns-then-len-ge-MAX_NODES c =
     let w = world_of c.args.self.now in
     let full : 1000 ≤ length w.nodes = omega (arith, c.if-len-ge-MAX_NODES.true, c.len.ensures) in
-    setup_fault _ _ _ c.requires.bounds (meter_full w _ _ c.if-not-takes_setup.ensures full)
+    refused faults.Setup refl _ _ _ c.requires.bounds (meter_full w _ _ c.if-not-takes_setup.ensures full)
 
 pub returns-then-has : goal.returns-then-has
 returns-then-has c =
     let w = world_of c.args.self.now in
     let room : length w.nodes < 1000 = omega (arith, c.if-len-ge-MAX_NODES.false, c.len.ensures) in
-    setup_fault _ _ _ c.requires.bounds (meter_known w _ _ c.if-not-takes_setup.ensures room c.if-has.ensures)
+    refused faults.Setup refl _ _ _ c.requires.bounds (meter_known w _ _ c.if-not-takes_setup.ensures room c.if-has.ensures)
 
 pub returns : goal.returns
 returns c =

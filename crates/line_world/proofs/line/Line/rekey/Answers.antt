@@ -1,5 +1,6 @@
 -- The coordinator draws a key.
-use Rattle.std.proofs.Common.{Err, false, ap, ◌∙◌}
+use Rattle.std.proofs.Common.{Err, false, ap, ◌∙◌, refl}
+use Rattle.line_rules.specs.declared.event.StepFault.TheVariants as faults
 use Rattle.node_rules.specs.declared.refusal.CoordinatorRefusal.TheVariants as orders
 use Rattle.node_rules.specs.Coordinators as coordinators
 use Rattle.node_rules.specs.NodeSteps.{acts}
@@ -7,13 +8,13 @@ use Rattle.line_rules.specs.declared.event.Answer.TheVariants as said
 use Rattle.line_rules.specs.Answers.{ordered_word}
 use Rattle.line_rules.specs.Steps.{happened, rekey}
 use Rattle.line_world.specs.Lines.{world_of}
-use Rattle.line_world.proofs.Taking.{setup_fault, steps_as, unbegun, node_answered}
+use Rattle.line_world.proofs.Taking.{steps_as, unbegun, node_answered, refused}
 use Rattle.line_world.proofs.Orders.{Runs, by_first, first_there}
 use Rattle.line_world.proofs.line.Line.rekey.Goals as goal
 
 pub returns-then-not-has_begun : goal.returns-then-not-has_begun
 unfolding rekey
-returns-then-not-has_begun c = setup_fault _ _ _ c.requires.bounds (unbegun (world_of c.args.self.now) _ c.if-not-has_begun.ensures)
+returns-then-not-has_begun c = refused faults.Setup refl _ _ _ c.requires.bounds (unbegun (world_of c.args.self.now) _ c.if-not-has_begun.ensures)
 
 pub returns : goal.returns
 unfolding rekey

@@ -1,16 +1,17 @@
 -- The clock goes on.
 use Rattle.std.proofs.Common.{◌≡◌, ℕ, ◌+◌, Ok, false, map, refl, sym, ap, subst, ◌∙◌, arith}
+use Rattle.line_rules.specs.declared.event.StepFault.TheVariants as faults
 use Rattle.line_rules.specs.declared.event.Answer.TheVariants as said
 use Rattle.line_rules.specs.Worlds.{World, Trace}
 use Rattle.line_rules.specs.Steps.{happened, ran, tick, ticked, trace_of}
 use Rattle.line_world.specs.Bounds.{IsBounded}
 use Rattle.line_world.specs.Lines.{world_of}
-use Rattle.line_world.proofs.Taking.{setup_fault, steps_as, unbegun, begun, is_taken_so, bounded_by, many_given}
+use Rattle.line_world.proofs.Taking.{steps_as, unbegun, begun, is_taken_so, bounded_by, many_given, refused}
 use Rattle.line_world.proofs.line.Line.tick.Goals as goal
 
 pub returns-then-not-has_begun : goal.returns-then-not-has_begun
 unfolding tick
-returns-then-not-has_begun c = setup_fault _ _ _ c.requires.bounds (unbegun (world_of c.args.self.now) _ c.if-not-has_begun.ensures)
+returns-then-not-has_begun c = refused faults.Setup refl _ _ _ c.requires.bounds (unbegun (world_of c.args.self.now) _ c.if-not-has_begun.ensures)
 
 pub overflow_add-self : goal.overflow_add-self
 overflow_add-self c = omega (arith, c.requires.bounds.clock, c.requires.events, c.from.ensures, c.ranges.seconds)
