@@ -1,13 +1,14 @@
--- Each block is free or in one chain.
-use Rattle.std.proofs.Common.{◌≡◌, ℕ, suc, ◌+◌, ◌<◌, inl, inr, List, [], ◌∷◌, length, refl, sym, ap, subst, ◌∙◌, arith}
+-- The free blocks, and those that the lengths of the chains take, are together all blocks.
+use Rattle.std.proofs.Common.{◌≡◌, ℕ, zero, suc, ◌+◌, ◌-◌, ◌<◌, ◌≤◌, inl, inr, List, [], ◌∷◌, length, refl, sym, ap, subst, ◌∙◌, arith}
 use Rattle.std.proofs.lemmas.Bool.{cases_lt}
 use Rattle.std.proofs.lemmas.List.Sums.{sum_by-cons}
 use Rattle.std.specs.Int.{div_ceil}
 use Rattle.std.specs.List.{range_with_len, sum_by}
-use Rattle.block_pool.specs.Pool.{PoolState, HasBlocks, chain_octets, chain_blocks, octets_or_none}
+use Rattle.block_pool.specs.Pool.{PoolState, IsChain, HasBlocks, SameBlocks, chain_octets, chain_blocks, octets_or_none}
 use Rattle.block_pool.specs.Table.{slot_at, blocks_in, state_of, IsPool}
 use Rattle.block_pool.specs.declared.pool.Slot.{Slot}
 use Rattle.block_pool.specs.declared.pool.Pool.TheInside.{Inside}
+use Rattle.block_pool.proofs.Callers.{is_chain_if_long}
 use Rattle.block_pool.proofs.Contents.{get-chains, contents_none, contents_some, length-octets, found}
 
 -- the octets of a chain are those of its slot
@@ -35,3 +36,46 @@ has_blocks p pool =
       total = ap (λ n. p.free + n) chains ∙ pool.total;
       numbers = λ c is. (found p (state_of p) c c refl refl is).within;
     }
+
+pub has_so_many : (p : Inside) (blocks : ℕ) → IsPool p → length p.table.items ≡ blocks → HasBlocks (state_of p) blocks
+has_so_many p blocks pool long = subst (HasBlocks (state_of p)) long (has_blocks p pool)
+
+sum_two : (g : ℕ → ℕ) (n d a : ℕ) → sum_by g (range_with_len a (n + d)) ≡ sum_by g (range_with_len a n) + sum_by g (range_with_len (a + n) d)
+sum_two g zero d a =
+    let start : a ≡ a + 0 = omega arith in let all : 0 + d ≡ d = omega arith in
+    let none : sum_by g (range_with_len a 0) ≡ 0 = refl in
+    omega (arith, none, ap (λ k. sum_by g (range_with_len a k)) all ∙ ap (λ b. sum_by g (range_with_len b d)) start)
+sum_two g (suc n) d a =
+    let long : suc n + d ≡ suc (n + d) = omega arith in let start : a + 1 + n ≡ a + suc n = omega arith in
+    let first = sum_by-cons g a (range_with_len (a + 1) (n + d)) in let few = sum_by-cons g a (range_with_len (a + 1) n) in
+    let rest = sum_two g n d (a + 1) ∙ ap (λ b. sum_by g (range_with_len (a + 1) n) + sum_by g (range_with_len b d)) start in
+    ap (λ k. sum_by g (range_with_len a k)) long ∙ omega (arith, first, few, rest)
+
+sum_of_none : (g : ℕ → ℕ) (d a : ℕ) → ((k : ℕ) → a ≤ k → g k ≡ 0) → sum_by g (range_with_len a d) ≡ 0
+sum_of_none g zero a none = refl
+sum_of_none g (suc d) a none = omega (arith, sum_by-cons g a (range_with_len (a + 1) d), none a (omega arith), sum_of_none g d (a + 1) (λ k le. none k (omega arith)))
+
+no_blocks : (p : PoolState) (n c : ℕ) → ((d : ℕ) → IsChain p d → d < n) → n ≤ c → div_ceil (length (chain_octets p c)) 64 ≡ 0
+no_blocks p n c numbers le = elim (cases_lt 0 (length (chain_octets p c))) [
+  | inl lt ↦ absurd (let bad : c < n = numbers c (is_chain_if_long p c lt) in omega arith)
+  | inr none ↦ omega arith
+]
+
+-- no pool has two counts of blocks
+at_most : (p : PoolState) (n m : ℕ) → HasBlocks p n → HasBlocks p m → m ≤ n
+at_most p n m has other = elim (cases_lt n m) [
+  | inl lt ↦ absurd (
+      let more : ℕ = m - n in let all : n + more ≡ m = omega arith in
+      let sum : chain_blocks p m ≡ chain_blocks p n = ap (chain_blocks p) (sym all) ∙ sum_two (λ c. div_ceil (length (chain_octets p c)) 64) n more 0
+      ∙ omega (arith, sum_of_none (λ c. div_ceil (length (chain_octets p c)) 64) more (0 + n) (λ k le. no_blocks p n k has.numbers (omega arith))) in
+      omega (arith, has.total, other.total, sum))
+  | inr le ↦ le
+]
+
+one_count : (p : PoolState) (n m : ℕ) → HasBlocks p n → HasBlocks p m → n ≡ m
+one_count p n m has other = omega (arith, at_most p n m has other, at_most p m n other has)
+
+pub same_blocks : (p q : Inside) (old : PoolState) → state_of p ≡ old → IsPool p → IsPool q → length q.table.items ≡ length p.table.items → SameBlocks old (state_of q)
+same_blocks p q old e pool pool' long blocks has =
+    let count : length p.table.items ≡ blocks = one_count (state_of p) _ _ (has_blocks p pool) (subst (λ (st : PoolState). HasBlocks st blocks) (sym e) has) in
+    subst (HasBlocks (state_of q)) (long ∙ count) (has_blocks q pool')

@@ -2,10 +2,12 @@ ghost use Rattle.std.specs.Prelude.{◌≡◌, ℕ, ◌+◌, ◌<◌, ◌≤◌,
 ghost use Rattle.std.specs.Int.{div_ceil};
 ghost use Rattle.std.specs.List.{sum_by};
 ghost use Rattle.std.specs.FinMap as map;
-ghost use Rattle.block_pool.specs.Pool.{IsChain, HasBlocks, HasChain, OthersStay, chain_octets, overwrite};
+ghost use Rattle.block_pool.specs.Pool.{IsChain, HasBlocks, HasChain, OthersStay, SameBlocks, chain_octets, overwrite};
 
-use crate::blocks::{BLOCK, Blocks, Place};
+use crate::blocks::BLOCK;
+use crate::cells::Place;
 use crate::numbers::{slot_of, unused_number};
+use crate::region::{Block, Blocks};
 use std::alloc::{AllocError, Global};
 use std::marker::Model;
 use thiserror::Error;
@@ -33,7 +35,7 @@ impl Model for Chain {
 /// Where a chain begins, and its length: 0 for a number that is not used.
 #[derive(Clone, Copy)]
 pub struct Slot {
-    pub(crate) first: Place,
+    pub(crate) first: Place<Block>,
     pub(crate) octets: u16,
 }
 
@@ -44,7 +46,7 @@ pub struct Slot {
 pub struct Pool {
     blocks: Blocks,
     table: Vec<Slot>,
-    first_free: Place,
+    first_free: Place<Block>,
     free: u16,
 }
 
@@ -66,7 +68,8 @@ impl Pool {
     /// A pool of so many free blocks, 1 to 1,024, and no chains. It takes all memory that the pool ever has.
     pub fn new(alloc: Global, blocks: u16) -> Result<Pool, AllocError>
         requires { (1 ≤ blocks) × (blocks ≤ 1024) }
-        ensures { IfOk result (λ p. (p.free ≡ blocks) × (p.chains ≡ map.empty)) }
+        ensures empty { IfOk result (λ p. (p.free ≡ blocks) × (p.chains ≡ map.empty)) }
+        ensures blocks { IfOk result (λ p. HasBlocks p blocks) }
     {
         let (region, first_free) = Blocks::new(alloc, blocks)?;
         let unused = Slot {
@@ -89,7 +92,7 @@ impl Pool {
         self.free
     }
 
-    /// How many blocks there are: each is free or in exactly one chain.
+    /// How many blocks there are: the free ones, and those that the lengths of the chains take, together.
     pub fn blocks(&self) -> u16
         ensures { HasBlocks self.now result }
     {
@@ -108,6 +111,7 @@ impl Pool {
         ensures there { IfOk result (λ c. HasChain self.new c (replicate octets 0)) }
         ensures others { IfOk result (λ c. OthersStay self.old self.new c) }
         ensures err { OnErr result (self.new ≡ self.old) }
+        ensures blocks { SameBlocks self.old self.new }
     {
         let needed = octets.div_ceil(BLOCK);
         if self.free < needed {
@@ -130,6 +134,7 @@ impl Pool {
             ≡ map.insert self.old.chains chain.now (overwrite (chain_octets self.old chain.now) at piece.now) }
         ensures there { HasChain self.new chain.now (overwrite (chain_octets self.old chain.now) at piece.now) }
         ensures others { OthersStay self.old self.new chain.now }
+        ensures blocks { SameBlocks self.old self.new }
     {
         let slot = slot_of(&self.table, chain.number);
         self.blocks.write_run(slot.first, at, piece);
@@ -152,6 +157,7 @@ impl Pool {
         ensures chains { self.new.chains ≡ map.remove self.old.chains chain }
         ensures ended { IsChain self.new chain → ⊥ }
         ensures others { OthersStay self.old self.new chain }
+        ensures blocks { SameBlocks self.old self.new }
     {
         let Chain { number } = chain;
         let slot = slot_of(&self.table, number);

@@ -1,6 +1,0 @@
-use Rattle.block_pool.proofs.Callers.{IsChain-insert}
-use Rattle.block_pool.proofs.tests.three_blocks.Goals as goal
-
--- src/tests.rt:26:5
-pub give_back-requires : goal.give_back-requires
-give_back-requires g c = IsChain-insert c.reserve.new.self c.write_at.new.self _ _ c.write_at.ensures.chains
