@@ -1,6 +1,6 @@
 -- Writes that lead from one value to another, composed, and cut off.
-use Rattle.std.proofs.Common.{◌≡◌, ℕ, Bool, true, false, cond, List, [], ◌∷◌, ◌++◌, Option, Some, None, refl, sym, ap, ◌∙◌, subst}
-use Rattle.std.specs.Prelude.{if◌then◌else◌, nat_lt, ◌||◌}
+use Rattle.std.proofs.Common.{◌≡◌, Bool, true, false, cond, List, [], ◌∷◌, ◌++◌, Option, Some, None, refl, sym, ap, ◌∙◌, subst}
+use Rattle.std.specs.Prelude.{if◌then◌else◌, ◌||◌}
 use Rattle.std.specs.FinMap.{insert}
 use Rattle.plc_base.specs.declared.keeper.Cut.{Cut}
 use Rattle.plc_base.specs.Keeper.{Records, Write, succeeds, cut_after, records_after, writes}

@@ -1,7 +1,7 @@
 -- What the records of marks give, and what keeping a number does to a table.
 use Rattle.std.proofs.Common.{◌≡◌, ℕ, ◌+◌, ◌^◌, ◌<◌, ◌≤◌, Bool, true, false, cond, List, [], ◌∷◌, ◌++◌, get_or, Option, Some, None, Result, length, set, refl, sym, ap, subst, ◌∙◌, arith}
 use Rattle.std.specs.Prelude.{nat_lt, nat_le, ◌==◌, if◌then◌else◌, slice_get, IfSome, Ok, Err, OnOk, OnErr}
-use Rattle.std.specs.Option.{option_map_or, option_and_then}
+use Rattle.std.specs.Option.{option_map, option_map_or, option_and_then}
 use Rattle.std.proofs.lemmas.Bool.{ltb-true}
 use Rattle.std.proofs.lemmas.Bool.Decides.{nat_tests}
 use Rattle.std.proofs.lemmas.Option.{slice_get-get_or}
@@ -12,7 +12,7 @@ use Rattle.byteorder.specs.Numbers.{big_number-reads_back}
 use Rattle.plc_base.specs.Keeper.{Records, Store, Write, Stores, SameOutside}
 use Rattle.plc_base.specs.SlotTables.{IsTable, IsReading, entry_write, last_of}
 use Rattle.plc_base.specs.declared.marks.Mark.{Mark}
-use Rattle.plc_base.specs.Marks.{Table, layout, slots_of, mark_in, mark_with, mark_in-rests, octets_of, at_rest, IsCovered, place_of, mark_at, mark_ahead, advanced, has_room, room_for, keep_write, kept_after}
+use Rattle.plc_base.specs.Marks.{Table, layout, slots_of, mark_in, mark_with, mark_in-rests, octets_of, at_rest, IsCovered, place_of, mark_at, mark_of, mark_ahead, advanced, has_room, room_for, keep_write, kept_after}
 use Rattle.plc_base.proofs.SlotTables.{found}
 use Rattle.plc_base.proofs.StoreLemmas.{stores_elsewhere}
 
@@ -56,6 +56,12 @@ module _ (first count : ℕ) where
       let there = slice_get-get_or table place (record { address = 0; mark = 0; stored = 0 }) within in
       cc
 
+  -- so it has the mark of that entry
+  pub mark_found : (table : Marks) (address place : ℕ) (entry : Entry) → place_of first count table address ≡ Some place → place < length table → slice_get table place ≡ Some entry
+      → mark_of first count table address ≡ Some entry.mark
+  mark_found table address place entry at within got =
+      ap (option_map (λ (p : ℕ). (mark_at first count table p).mark)) at ∙ ap (λ (m : Entry). Some m.mark) (at_place table place entry within got)
+
   -- a number that the stored mark covers
   pub kept_low : (table : Marks) (address number place : ℕ) (entry : Entry) → place_of first count table address ≡ Some place → place < length table → slice_get table place ≡ Some entry
       → number ≤ entry.stored → kept_after first count table address number ≡ set table place (record entry { mark = number })
@@ -90,6 +96,11 @@ module _ (first count : ℕ) where
       → OnOk r (new ≡ set old place entry) → OnErr r (new ≡ old) → IsCovered first count new
   set_covered (Ok done) old new place entry covered h ok err = subst (λ (t : Marks). IsCovered first count t) (sym ok) (All-set (λ entry. entry.mark ≤ entry.stored) old place entry h covered)
   set_covered (Err fault) old new place entry covered h ok err = subst (λ (t : Marks). IsCovered first count t) (sym err) covered
+
+  pub push_covered : {T E : Type 0} (r : Result T E) (old new : Marks) (entry : Entry) → IsCovered first count old → entry.mark ≤ entry.stored
+      → OnOk r (new ≡ old ++ entry ∷ []) → OnErr r (new ≡ old) → IsCovered first count new
+  push_covered (Ok done) old new entry covered h ok err = subst (λ (t : Marks). IsCovered first count t) (sym ok) (All-push (λ entry. entry.mark ≤ entry.stored) old entry covered h)
+  push_covered (Err fault) old new entry covered h ok err = subst (λ (t : Marks). IsCovered first count t) (sym err) covered
 
   -- and so does a number that is kept, whatever became of its put
   pub kept_covered : {T E : Type 0} (r : Result T E) (old new : Marks) (address number : ℕ) → IsCovered first count old → number < 2 ^ 32

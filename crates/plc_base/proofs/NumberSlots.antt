@@ -1,11 +1,11 @@
 -- A number that was stored is read back.
-use Rattle.std.proofs.Common.{◌≡◌, ◌⊎◌, ℕ, ◌^◌, ◌<◌, ◌≤◌, Bool, true, false, cond, List, [], ◌++◌, length, Some, None, Result, Ok, Err, refl, sym, inl, inr, ap, ◌∙◌, arith, append-nil}
+use Rattle.std.proofs.Common.{◌≡◌, ◌⊎◌, ℕ, ◌^◌, ◌<◌, ◌≤◌, Bool, true, false, cond, [], length, Some, None, Result, Ok, Err, refl, sym, inl, inr, ap, ◌∙◌, arith, append-nil}
 use Rattle.std.specs.Prelude.{◌==◌, OnOk, is_ok, nat_lt}
 use Rattle.std.proofs.lemmas.Bool.Decides.{nat_tests}
 use Rattle.std.specs.FinMap.{get, insert}
 use Rattle.byteorder.specs.Endian.{big_bytes, big_number}
 use Rattle.byteorder.specs.Numbers.{big_number-reads_back, length-bytes_high_first}
-use Rattle.plc_base.specs.Keeper.{Records, Store, Write, Stores, SameOutside}
+use Rattle.plc_base.specs.Keeper.{Records, Store, Stores, SameOutside}
 use Rattle.plc_base.specs.NumberSlots.{number_in, stored_number, number_write, reading}
 use Rattle.plc_base.specs.declared.number_slot.NumberSlot.{NumberSlot}
 use Rattle.plc_base.proofs.StoreLemmas.{get-insert_same}

@@ -1,9 +1,8 @@
 -- What writes leave of a sink's plan and faults.
-use Rattle.std.proofs.Common.{◌≡◌, ℕ, ◌+◌, ◌-◌, ◌≤◌, Bool, true, false, not, ◌||◌, nat_lt, if◌then◌else◌, List, [], ◌++◌, length, take, drop, Option, Some, None, IfSome, Result, Ok, Err, refl, sym, ◌∙◌, ap, subst, arith, length-append}
+use Rattle.std.proofs.Common.{◌≡◌, ℕ, ◌+◌, ◌-◌, ◌≤◌, true, false, List, [], ◌++◌, length, Option, Some, None, IfSome, Ok, Err, refl, sym, ◌∙◌, ap, subst, arith, length-append}
 use Rattle.std.proofs.lemmas.Bool.{le-ltb}
-use Rattle.plc_base.specs.Causes.{one_more, HasCause}
 use Rattle.std.specs.Io.KnownBytes.{Appends, Keeps}
-use Rattle.plc_base.specs.Streams.{HasWritten, SinkState, WritePlan, is_listed, write_fails, plan_after_write, FollowsWritePlan, Writes, PlansRoomFor, SinkFaults}
+use Rattle.plc_base.specs.Streams.{HasWritten, SinkState, WritePlan, write_fails, plan_after_write, FollowsWritePlan, Writes, PlansRoomFor, SinkFaults}
 
 -- where no write is listed and there is room, the next one does not fail
 room_passes : (plan : WritePlan) (count : ℕ) → plan.fails ≡ [] → count ≤ plan.room → write_fails plan count ≡ false

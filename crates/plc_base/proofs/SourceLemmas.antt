@@ -1,8 +1,8 @@
 -- What reads leave of a source's plan and faults.
-use Rattle.std.proofs.Common.{◌≡◌, ℕ, List, [], length, Option, Some, None, IfSome, Result, Ok, Bool, true, false, ◌||◌, IsTrue, refl, sym, ◌∙◌, subst, arith}
+use Rattle.std.proofs.Common.{◌≡◌, ℕ, List, Option, Some, None, IfSome, Result, Ok, Bool, true, false, ◌||◌, IsTrue, refl, sym, ◌∙◌, subst, arith}
 use Rattle.std.proofs.lemmas.Bool.{eq-eqb}
 use Rattle.std.specs.Io.KnownBytes.{IsAtEnd}
-use Rattle.plc_base.specs.Streams.{SourceState, ReadPlan, is_listed, FollowsReadPlan, Reads, PlansNoFailedRead, SourceFaults, ReadFaults}
+use Rattle.plc_base.specs.Streams.{SourceState, ReadPlan, FollowsReadPlan, Reads, PlansNoFailedRead, SourceFaults, ReadFaults}
 
 pub no_reads : (s : SourceState) → SourceFaults s s
 no_reads s = record { later = omega arith; none = λ plan. (plan, refl) }

@@ -4,6 +4,7 @@ use Rattle.std.specs.Option.{option_map, option_map_or, option_and_then}
 use Rattle.std.specs.FinMap.{get}
 use Rattle.plc_base.specs.declared.keeper.BadStore.{BadStore}
 use Rattle.plc_base.specs.Keeper.{Records, Write}
+use Rattle.plc_base.specs.SlotOrders.{IsOrder}
 
 -- How a table of entries is stored.
 pub record Layout (A : Type 0) : Type 0 where
@@ -35,6 +36,10 @@ place_of layout table key = position (λ entry. layout.key entry == key) table
 -- the entry with a key
 abbrev pub entry_of : {A : Type 0} → Layout A → List A → ℕ → Option A
 entry_of layout table key = option_and_then (slice_get table) (place_of layout table key)
+
+-- the keys, place by place
+abbrev pub keys_of : {A : Type 0} → Layout A → List A → List ℕ
+keys_of layout table = map layout.key table
 
 -- the put of an entry at a place
 abbrev pub entry_write : {A : Type 0} → Layout A → ℕ → A → Write
@@ -101,10 +106,11 @@ ReopensInto {A} layout records result new =
     (table : List A) → IsTable layout table → IsStored layout table records
     → (result ≡ Ok tt) × (new ≡ map layout.rest table)
 
--- The same, where every slot has room in the table.
-pub record IsTableOf {A : Type 0} (layout : Layout A) (room : ℕ) (table : List A) : Type 0 where
+-- The same, where every slot has room in the table, and the places are known in the order of their keys.
+pub record IsTableOf {A : Type 0} (layout : Layout A) (room : ℕ) (table : List A) (places : List ℕ) : Type 0 where
   pub sound : IsTable layout table
   pub whole : room ≡ layout.slots
+  pub order : IsOrder (keys_of layout table) places
 
 -- # What opening says of the records
 

@@ -1,14 +1,43 @@
 //! What every crate of the network stands on: addresses, keys, octet strings of bounded length, and the traits of the outside.
+//!
+//! In the order in which firmware meets them:
+//!
+//! - [`Eui`], [`Short`], [`PAN`] and [`LinkCost`] say who a node is and what a link costs, [`Key`], [`Rand`] and [`Grant`] what
+//!   it is given. `Short::new` and `LinkCost::new` are None exactly for the numbers that are no address and no cost (`valid`).
+//! - [`Octets`] holds at most so many octets in place: [`FrameBuf`] 400, [`DatagramBuf`] 1,280, [`EapBuf`] 128, [`Record`] 64.
+//!   [`OctetRef`] refers to octets that stand elsewhere. A contract sees the list of the octets.
+//! - [`Keeper`] is the trait that firmware writes over its flash: `get` and `put` of a record at a slot. [`MemKeeper`] is one
+//!   in memory, for tests and for simulated lines; it can be told at which put power is lost.
+//! - [`Out`] is what one step gives out: at most 24 frames ([`OutFrames`]), and the tags that it made and checked
+//!   ([`TagList`]).
+//! - [`SlotTable`], [`MarkTable`], [`Numbering`] and [`NumberSlot`] are what the crates above keep in a store: entries by a
+//!   key, numbers that are admitted once, numbers that are given out once, and a number that has a slot to itself.
+//! - `octet_at`, `two_at`, `octets_at` and the like read the fields of a format, and [`Fault`] is its first fault with the
+//!   place.
+//! - [`Source`] and [`Sink`] are for programs: octets in, text out, with adapters over memory and over std's streams.
+//!
+//! What its calls promise, by the names of their clauses:
+//!
+//! - A put leaves the record from before or the new one, also where it fails, and changes no other slot (`Puts`). The trait
+//!   asks this of each keeper, and all that the crates above promise of a store rests on it.
+//! - A table, a numbering or a number is what the records give (`table`, `reading`, `numbering`, `number`). BadStore names a
+//!   record that has no reading (`bad`).
+//! - After a failed put the value is the one before (`same`), the records give the old or the new one (`either`), and the slots
+//!   of others are as they were (`elsewhere`). The value may not be used again until it is opened again.
+//! - What is true of writes in a row, of sorted keys and of octets in fixed width is a law (`laws`).
+//!
+//! Memory is taken by `MemKeeper::new` and `MemSink::new` alone, and there is no `unsafe`. A buffer that is full is no fault at
+//! run time: `push` and `append` ask for room, and who calls them proves that there is some.
+//!
+//! For example, a driver over flash implements `Keeper` for its type. A counter that no loss of power sets back is then a
+//! `Numbering` at one of the slots: `open` reads it at the start, `left` says how many numbers there are still, and `reserve`
+//! gives out the next ones. It stores a limit ahead of them, so most numbers cost no put. After `Failed` it is opened again.
 #![tactic(auto)]
 
 mod address;
-#[cfg(test)]
-mod field_tests;
 mod fields;
 mod grant;
 mod keeper;
-#[cfg(test)]
-mod keeper_tests;
 mod key;
 pub mod laws;
 mod link_cost;
@@ -21,10 +50,9 @@ mod numbers;
 mod octet_ref;
 mod octets;
 mod out_frame;
+mod slot_order;
 mod slot_table;
 mod standard;
-#[cfg(test)]
-mod stream_tests;
 mod streams;
 mod tags;
 mod times;
@@ -51,4 +79,4 @@ pub use slot_table::{SlotEntry, SlotTable};
 pub use standard::{StdSink, StdSource};
 pub use streams::{Failed, Sink, Source, write_all};
 pub use tags::{PairTag, PairTags, TagList, TagOctets, TagText};
-pub use times::is_within;
+pub use times::{earlier_end, is_within};

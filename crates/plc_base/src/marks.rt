@@ -92,6 +92,9 @@ impl<const FIRST: u32, const SLOTS: usize> Model for MarkTable<FIRST, SLOTS> {
 impl<const FIRST: u32, const SLOTS: usize> MarkTable<FIRST, SLOTS> {
     /// The marks that the records from the first slot on give, up to the first empty slot. Each mark is the stored one.
     ///
+    /// It may be called where `SLOTS` slots for marks follow one another from `FIRST` on: those of the peers are 0100 to 013F
+    /// and those of the broadcasts 0300 to 031F (hexadecimal).
+    ///
     /// BadStore exactly where one of these records has not 6 octets, has an address above FFFD, or is a second one of an
     /// address.
     pub fn open<K: Keeper>(keeper: &K) -> Result<MarkTable<FIRST, SLOTS>, BadStore>

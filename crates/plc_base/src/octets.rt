@@ -36,6 +36,10 @@ impl<const N: usize> Model for Octets<N> {
 }
 
 impl<const N: usize> Octets<N> {
+    ghost use Rattle.std.specs.Borrow.{Lends, Array, sem, u8 as byte};
+    ghost use Rattle.std.specs.List.{refill};
+    ghost use Rattle.plc_base.specs.contracts.octets.Octets.{the_row};
+
     /// No octets.
     pub fn new() -> Octets<N>
         ensures { result ≡ [] }
@@ -61,6 +65,16 @@ impl<const N: usize> Octets<N> {
         ensures fits { length result.now ≤ N }
     {
         self.items.as_slice()
+    }
+
+    /// The octets as a slice, to be changed in place: there are as many as before.
+    pub fn octets_mut(&mut self) -> &mut [u8]
+        ensures* lends { sem 𝓛 (Lends (the_row N.row) (Array byte 0) self.entry result
+            (refill (length self.entry.now) self.entry.now)) }
+        ensures value { result.now ≡ self.old }
+        ensures fits { length result.now ≤ N }
+    {
+        self.items.as_mut_slice()
     }
 
     /// How many octets there are.

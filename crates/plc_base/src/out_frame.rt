@@ -1,5 +1,5 @@
 //! The frames that a node sends.
-ghost use Rattle.std.specs.Prelude.{◌≡◌, ◌<◌, ◌≤◌, ◌==◌, ◌++◌, ◌∷◌, [], length, None};
+ghost use Rattle.std.specs.Prelude.{◌≡◌, ◌<◌, ◌≤◌, ◌==◌, ◌++◌, ◌∷◌, [], length, None, IsSome, IfSome, slice_index_or, slice_set};
 
 use crate::{FrameBuf, Key, TagList};
 use arrayvec::ArrayVec;
@@ -29,28 +29,48 @@ impl Default for OutFrame {
     }
 }
 
+impl OutFrame {
+    // Makes a blank of it.
+    fn blank(&mut self)
+        ensures { self.new ≡ record { octets = []; note = 0; key = None } }
+    {
+        self.octets.clear();
+        self.note = 0;
+        self.key = None;
+    }
+}
+
 /// The frames of one step, at most 24. A contract sees the list of them.
 #[derive(Debug, Drop)]
 pub struct OutFrames {
-    items: ArrayVec<OutFrame, 24>,
+    // All 24, whether in use or not, so that a frame is neither made nor moved to be appended.
+    places: ArrayVec<OutFrame, 24>,
+    used: usize,
 }
 
 impl Model for OutFrames {
-    ghost use Rattle.std.specs.Prelude.{List};
+    ghost use Rattle.std.specs.Prelude.{◌≡◌, ◌≤◌, List, length, take};
     ghost use Rattle.plc_base.specs.declared.out_frame.OutFrame.{OutFrame};
 
     ghost Value = { List OutFrame };
 
-    ghost view = { λ f. f.items.items };
+    ghost view = { λ f. take f.used f.places.items };
+
+    ghost invariant = { λ f. (f.used ≤ 24) × (length f.places.items ≡ 24) };
 }
 
 impl OutFrames {
+    ghost use Rattle.std.specs.Borrow.{LendsIf, sem};
+    ghost use Rattle.plc_base.specs.contracts.out_frame.OutFrames.{the_row};
+    ghost use Rattle.plc_base.specs.contracts.out_frame.OutFrame.{the_row as frame_row};
+
     /// No frame.
     pub fn new() -> OutFrames
         ensures { result ≡ [] }
     {
         OutFrames {
-            items: ArrayVec::new(),
+            places: ArrayVec::from(std::array::from_fn(|_| OutFrame::default())),
+            used: 0,
         }
     }
 
@@ -58,7 +78,7 @@ impl OutFrames {
     pub fn frames(&self) -> &[OutFrame]
         ensures { result.now ≡ self.now }
     {
-        self.items.as_slice()
+        &self.places.as_slice()[..self.used]
     }
 
     /// How many frames there are.
@@ -66,14 +86,14 @@ impl OutFrames {
         ensures value { result ≡ length self.now }
         ensures most { result ≤ 24 }
     {
-        self.items.len()
+        self.used
     }
 
     /// Whether there is no frame.
     pub fn is_empty(&self) -> bool
         ensures { result ≡ (length self.now == 0) }
     {
-        self.items.is_empty()
+        self.used == 0
     }
 
     /// Appends a frame.
@@ -81,14 +101,49 @@ impl OutFrames {
         requires { length self.old < 24 }
         ensures { self.new ≡ self.old ++ frame ∷ [] }
     {
-        self.items.push(frame);
+        self.places[self.used] = frame;
+        self.used += 1;
+    }
+
+    // Takes the next place, and makes a blank of what stands there.
+    fn take_place(&mut self)
+        requires { length self.old < 24 }
+        ensures { self.new ≡ self.old ++ record { octets = []; note = 0; key = None } ∷ [] }
+    {
+        self.places[self.used].blank();
+        self.used += 1;
+    }
+
+    // Lends a place.
+    fn place_mut(&mut self, place: usize) -> Option<&mut OutFrame>
+        requires { place < length self.old }
+        ensures* lends { sem 𝓛 (LendsIf the_row frame_row self.entry result
+            (slice_set self.entry.now place) self.entry.now) }
+        ensures variant { IsSome result }
+        ensures value { IfSome result (λ frame. frame.now ≡ slice_index_or self.old place frame.now) }
+    {
+        self.places.get_mut(place)
+    }
+
+    /// Appends a blank frame and lends it, so that a frame is written where it stays. None never comes.
+    pub fn push_blank(&mut self) -> Option<&mut OutFrame>
+        requires { length self.old < 24 }
+        ensures* lends { sem 𝓛 (LendsIf the_row frame_row self.entry result
+            (λ frame. self.entry.now ++ frame ∷ [])
+            (self.entry.now ++ record { octets = []; note = 0; key = None } ∷ [])) }
+        ensures variant { IsSome result }
+        ensures value { IfSome result (λ frame. frame.now ≡ record { octets = []; note = 0; key = None }) }
+    {
+        let place = self.len();
+        self.take_place();
+        self.place_mut(place)
     }
 
     /// Drops all frames.
     pub fn clear(&mut self)
         ensures { self.new ≡ [] }
     {
-        self.items.clear();
+        self.used = 0;
     }
 }
 

@@ -4,6 +4,7 @@ ghost use Rattle.std.specs.Prelude.{ℕ};
 ghost use Rattle.plc_base.specs.Keeper.{IsSlot, Records, Puts, Stores, OutsideStays, IsOldOrNew};
 ghost use Rattle.plc_base.specs.SlotTables.{Layout, slot_of, IsTable, IsFree, IsStored, IsGapless, IsReading, IsBad, Reopens, ReopensInto, place_of, entry_of, entry_write, last_of, opened, read_into};
 
+use crate::slot_order::SlotOrder;
 use crate::{BadStore, Failed, Keeper, Record};
 use arrayvec::ArrayVec;
 use std::marker::Model;
@@ -49,6 +50,8 @@ pub trait SlotEntry: Copy + Default {
 #[derive(Drop, Debug)]
 pub struct SlotTable<E: SlotEntry, const N: usize> {
     entries: ArrayVec<E, N>,
+    // The places by their keys.
+    order: SlotOrder<N>,
 }
 
 impl<E: SlotEntry, const N: usize> Model for SlotTable<E, N> {
@@ -59,7 +62,7 @@ impl<E: SlotEntry, const N: usize> Model for SlotTable<E, N> {
 
     ghost view = { λ t. t.entries.items };
 
-    ghost invariant = { λ t. IsTableOf E.layout N t.entries.items };
+    ghost invariant = { λ t. IsTableOf E.layout N t.entries.items t.order };
 }
 
 impl<E: SlotEntry, const N: usize> SlotTable<E, N> {
@@ -76,9 +79,12 @@ impl<E: SlotEntry, const N: usize> SlotTable<E, N> {
         // A table that was stored is opened again, each entry at rest.
         ensures reopened { Reopens E.layout (K.store keeper.now).records result }
     {
-        let mut entries: ArrayVec<E, N> = ArrayVec::new();
-        match read_all(&mut entries, keeper) {
-            Ok(()) => Ok(SlotTable { entries }),
+        let mut table = SlotTable {
+            entries: ArrayVec::new(),
+            order: SlotOrder::new(),
+        };
+        match table.read_all(keeper) {
+            Ok(()) => Ok(table),
             Err(bad) => Err(bad),
         }
     }
@@ -93,7 +99,8 @@ impl<E: SlotEntry, const N: usize> SlotTable<E, N> {
         ensures reopened { ReopensInto E.layout (K.store keeper.now).records result self.new }
     {
         self.entries.clear();
-        read_all(&mut self.entries, keeper)
+        self.order.clear();
+        self.read_all(keeper)
     }
 
     /// The entries in the order of their slots.
@@ -126,7 +133,7 @@ impl<E: SlotEntry, const N: usize> SlotTable<E, N> {
         self.entries.is_full()
     }
 
-    /// The place of the entry with a key. It looks at one entry after the other.
+    /// The place of the entry with a key, by a binary search.
     pub fn place_of(&self, key: u64) -> Option<usize>
         ensures place { result ≡ place_of E.layout self.now key }
         ensures within { IfSome result (λ place. place < length self.now) }
@@ -134,7 +141,7 @@ impl<E: SlotEntry, const N: usize> SlotTable<E, N> {
         ensures free { MatchOption result (IsFree E.layout self.now (length self.now) key)
             (λ place. IsFree E.layout self.now place key) }
     {
-        place_of(&self.entries, key)
+        self.order.find(self.entries.as_slice(), key)
     }
 
     /// The entry at a place.
@@ -145,7 +152,7 @@ impl<E: SlotEntry, const N: usize> SlotTable<E, N> {
         self.entries[place]
     }
 
-    /// The entry with a key. It looks at one entry after the other.
+    /// The entry with a key, by a binary search.
     pub fn find(&self, key: u64) -> Option<E>
         ensures { result ≡ entry_of E.layout self.now key }
     {
@@ -179,7 +186,7 @@ impl<E: SlotEntry, const N: usize> SlotTable<E, N> {
     {
         let _ = &self.entries;
         store_entry(keeper, place, &entry)?;
-        self.entries[place] = entry;
+        self.replace(place, entry);
         Ok(())
     }
 
@@ -200,8 +207,8 @@ impl<E: SlotEntry, const N: usize> SlotTable<E, N> {
         ensures either { IsOldOrNew (IsStored E.layout) self.old (self.old ++ entry ∷ []) (K.store keeper.new).records }
         ensures elsewhere { OutsideStays E.layout.first (last_of E.layout) (K.store keeper.old) (K.store keeper.new) }
     {
-        store_entry(keeper, self.entries.len(), &entry)?;
-        self.entries.push(entry);
+        store_entry(keeper, self.len(), &entry)?;
+        self.push(entry);
         Ok(())
     }
 
@@ -212,41 +219,65 @@ impl<E: SlotEntry, const N: usize> SlotTable<E, N> {
         ensures table { self.new ≡ set self.old place entry }
         ensures kept { (records : Records) → IsStored E.layout self.old records → IsStored E.layout self.new records }
     {
-        self.entries[place] = entry;
+        overwrite(&mut self.entries, place, entry);
     }
-}
 
-// Reads the table that the keeper's records give, where none is held yet.
-fn read_all<E: SlotEntry, K: Keeper, const N: usize>(
-    entries: &mut ArrayVec<E, N>,
-    keeper: &K,
-) -> Result<(), BadStore>
-    requires slots { N ≡ E.layout.slots }
-    requires none { entries.old.items ≡ [] }
-    ensures read { read_into result entries.new.items ≡ opened E.layout (K.store keeper.now).records }
-    ensures table { IsTable E.layout entries.new.items }
-{
-    for place in 0..N {
-        let slot = E::slot(place);
-        let Some(octets) = keeper.get(slot) else {
-            break;
-        };
-        let Some(entry) = E::read(place, octets.octets()) else {
-            return Err(BadStore { slot });
-        };
-        if place_of(entries, entry.key()).is_some() {
-            return Err(BadStore { slot });
+    // Reads the entries that the keeper's records give, where none is held yet.
+    fn read_all<K: Keeper>(&mut self, keeper: &K) -> Result<(), BadStore>
+        requires slots { N ≡ E.layout.slots }
+        requires none { self.old ≡ [] }
+        ensures { read_into result self.new ≡ opened E.layout (K.store keeper.now).records }
+    {
+        for place in 0..N {
+            let slot = E::slot(place);
+            let Some(octets) = keeper.get(slot) else {
+                break;
+            };
+            let Some(entry) = E::read(place, octets.octets()) else {
+                return Err(BadStore { slot });
+            };
+            if self.place_of(entry.key()).is_some() {
+                return Err(BadStore { slot });
+            }
+            self.push(entry);
         }
-        entries.push(entry);
+        Ok(())
     }
-    Ok(())
+
+    // Holds an entry of a new key behind the others.
+    fn push(&mut self, entry: E)
+        requires room { length self.old < E.layout.slots }
+        requires fits { length self.old < 65536 }
+        requires free { IsFree E.layout self.old (length self.old) (E.layout.key entry) }
+        ensures { self.new ≡ self.old ++ entry ∷ [] }
+    {
+        let place = self.entries.len() as u16;
+        self.entries.push(entry);
+        self.order.insert(self.entries.as_slice(), place);
+    }
+
+    // Holds an entry in place of another one, whose key it may have.
+    fn replace(&mut self, place: usize, entry: E)
+        requires within { place < length self.old }
+        requires free { IsFree E.layout self.old place (E.layout.key entry) }
+        ensures { self.new ≡ set self.old place entry }
+    {
+        if self.entries[place].key() == entry.key() {
+            overwrite(&mut self.entries, place, entry);
+            return;
+        }
+        let taken = self.order.remove(self.entries.as_slice(), place);
+        overwrite(&mut self.entries, place, entry);
+        self.order.insert(self.entries.as_slice(), taken);
+    }
 }
 
-// The place of the entry with a key.
-fn place_of<E: SlotEntry, const N: usize>(entries: &ArrayVec<E, N>, key: u64) -> Option<usize>
-    ensures { result ≡ place_of E.layout entries.now.items key }
+// Writes an entry over another one.
+fn overwrite<E: SlotEntry, const N: usize>(entries: &mut ArrayVec<E, N>, place: usize, entry: E)
+    requires { place < length entries.old.items }
+    ensures { entries.new.items ≡ set entries.old.items place entry }
 {
-    entries.iter().position(|entry| entry.key() == key)
+    entries[place] = entry;
 }
 
 // Stores an entry at a place.
@@ -261,6 +292,7 @@ fn store_entry<E: SlotEntry, K: Keeper>(
         (is_ok result) (K.store keeper.new) }
     ensures reads_back { E.layout.read place (E.layout.octets place entry.now) ≡ Some (E.layout.rest entry.now) }
     ensures elsewhere { OutsideStays E.layout.first (last_of E.layout) (K.store keeper.old) (K.store keeper.new) }
+    ensures fits { place < 65536 }
 {
     keeper.put(E::slot(place), &entry.record(place))
 }

@@ -1,6 +1,7 @@
 use Rattle.std.proofs.Common.{Some, arith}
 use Rattle.plc_base.specs.SlotTables.{entry_write}
 use Rattle.plc_base.proofs.StoreLemmas.{stores_elsewhere}
+use Rattle.plc_base.proofs.SlotOrders.{slot_fits}
 use Rattle.plc_base.proofs.slot_table.store_entry.Goals as goal
 
 pub returns-clause-store : goal.returns-clause-store
@@ -12,3 +13,6 @@ returns-clause-elsewhere g c =
     let old = g.K.Keeper.store c.args.keeper.now in
     let new = g.K.Keeper.store c.put.new.self in
     stores_elsewhere old new (Some (entry_write layout c.args.place c.args.entry.now)) _ layout.first _ (returns-clause-store g c) (omega arith, omega (arith, c.requires.place))
+
+pub returns-clause-fits : goal.returns-clause-fits
+returns-clause-fits g c = let fits = slot_fits c.slot.result c.slot.ensures.valid in omega (arith, c.slot.ensures.value)

@@ -1,4 +1,4 @@
-use Rattle.std.proofs.Common.{arith, ℕ, ◌+◌, ◌++◌, ◌≡◌, length, take, [], refl, sym, subst, ap, ◌∙◌, length-append, length-take-le, Err}
+use Rattle.std.proofs.Common.{arith, ◌+◌, ◌++◌, ◌≡◌, length, take, [], refl, subst, length-append, length-take-le}
 use Rattle.std.proofs.KnownBytes.{Appends-trans, Appends-nil}
 use Rattle.std.proofs.lemmas.Result.{err_from_is_err_and}
 use Rattle.plc_base.specs.Streams.{SinkFaults}

@@ -1,10 +1,10 @@
-use Rattle.std.proofs.Common.{◌≡◌, ◌≤◌, [], ◌∷◌, ◌++◌, length, set, ℕ, Some, None, Option, true, refl, arith, sym, ap, subst, ◌∙◌}
+use Rattle.std.proofs.Common.{rules, ◌≡◌, ◌≤◌, [], ◌∷◌, ◌++◌, length, set, ℕ, Some, None, Option, true, refl, arith, sym, ap, subst, ◌∙◌}
 use Rattle.std.specs.Prelude.{is_ok, OnOk}
 use Rattle.plc_base.specs.Keeper.{Stores, Write, IsOldOrNew}
 use Rattle.plc_base.specs.SlotTables.{IsFree, entry_write}
 use Rattle.plc_base.specs.declared.marks.Mark.{Mark}
 use Rattle.plc_base.specs.Marks.{Table, layout, place_of, has_room, kept_after, keep_write, IsKept}
-use Rattle.plc_base.proofs.MarkEntries.{kept_low, write_low, kept_high, write_high, kept_new, write_new, ahead_covered, set_covered, room_new}
+use Rattle.plc_base.proofs.MarkEntries.{kept_low, write_low, kept_high, write_high, kept_new, write_new, ahead_covered, set_covered, push_covered, room_new}
 use Rattle.plc_base.proofs.marks.MarkTable.keep.Goals as goal
 
 pub push_stored-requires : goal.push_stored-requires
@@ -97,3 +97,14 @@ returns-in-None-clause-either g c =
     ∙ sym (kept_new g.row.FIRST g.row.SLOTS items c.args.address c.args.number new) ∙ ap (λ (t : Table g.row.FIRST g.row.SLOTS). kept_after g.row.FIRST g.row.SLOTS t c.args.address c.args.number) c.self.view_is in
     subst (λ (t : Table g.row.FIRST g.row.SLOTS). IsOldOrNew (IsKept g.row.FIRST g.row.SLOTS) c.args.self.now t records) after
     (subst (λ (t : Table g.row.FIRST g.row.SLOTS). IsOldOrNew (IsKept g.row.FIRST g.row.SLOTS) t (items ++ c.ahead_of-in-None.result ∷ []) records) c.self.view_is c.push_stored.ensures.either)
+
+pub set_stored-requires : goal.set_stored-requires
+set_stored-requires g c =
+    let items = c.self.inside.table in
+    let key : c.key.result ≡ c.ahead_of.result.address = c.key.ensures.value ∙ sym (ap (λ (m : Mark g.row.FIRST g.row.SLOTS). m.address) c.ahead_of.ensures) in
+    (search rules, (c.in-Some.ensures.within, (subst (λ (k : ℕ). IsFree (layout g.row.FIRST g.row.SLOTS) items c.in-Some.place k) key c.in-Some.ensures.free, (refl, subst (λ (t : Table g.row.FIRST g.row.SLOTS). IsKept g.row.FIRST g.row.SLOTS t (g.K.Keeper.store c.args.keeper.now).records) (sym c.self.view_is) c.requires.kept))))
+
+pub invariant_of-self-in-None : goal.invariant_of-self-in-None
+invariant_of-self-in-None g c =
+    let ahead = subst (λ (m : Mark g.row.FIRST g.row.SLOTS). m.mark ≤ m.stored) (sym c.ahead_of-in-None.ensures) (ahead_covered g.row.FIRST g.row.SLOTS c.args.address c.args.number (omega arith)) in
+    push_covered g.row.FIRST g.row.SLOTS c.push_stored.result c.self.inside.table c.push_stored.new.self c.ahead_of-in-None.result c.self.invariant ahead c.push_stored.ensures.table c.push_stored.ensures.same

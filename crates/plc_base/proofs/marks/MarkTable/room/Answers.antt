@@ -1,4 +1,4 @@
-use Rattle.std.proofs.Common.{◌≡◌, ℕ, Some, None, false, length, arith, sym, ap, ◌∙◌}
+use Rattle.std.proofs.Common.{◌≡◌, Some, None, false, length, sym, ap, ◌∙◌}
 use Rattle.std.specs.Prelude.{◌==◌}
 use Rattle.plc_base.specs.Marks.{Table, slots_of, place_of, room_for}
 use Rattle.plc_base.proofs.MarkEntries.{room_low, room_above, room_free}

@@ -1,4 +1,4 @@
-use Rattle.std.proofs.Common.{rules, ℕ, ◌+◌, ◌-◌, ◌∙◌, ◌≡◌, false, List, take, drop, length, min, true, nat_eq, refl, sym, ap, arith, length-drop, length-append}
+use Rattle.std.proofs.Common.{rules, ℕ, ◌+◌, ◌-◌, ◌∙◌, ◌≡◌, false, List, take, drop, length, min, refl, sym, ap, arith, length-drop, length-append}
 use Rattle.plc_base.proofs.Fronts.{copied}
 use Rattle.plc_base.specs.Streams.{is_listed}
 use Rattle.plc_base.specs.Causes.{one_more}

@@ -6,7 +6,7 @@ pub returns-in-Ok : goal.returns-in-Ok
 returns-in-Ok g c =
     let layout = g.E.SlotEntry.layout in
     let records = (g.K.Keeper.store c.args.keeper.now).records in
-    let opens = c.in-Ok.ensures.read in
+    let opens = c.in-Ok.ensures in
     record {
       table = opens;
       reading = opened_reads layout records _ opens;
@@ -19,7 +19,7 @@ pub returns-in-Err : goal.returns-in-Err
 returns-in-Err g c =
     let layout = g.E.SlotEntry.layout in
     let records = (g.K.Keeper.store c.args.keeper.now).records in
-    let opens = c.in-Err.ensures.read in
+    let opens = c.in-Err.ensures in
     record {
       table = opens;
       reading = tt;

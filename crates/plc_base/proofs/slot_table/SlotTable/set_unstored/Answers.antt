@@ -1,7 +1,8 @@
 use Rattle.std.proofs.Common.{◌≡◌, ◌<◌, length, List, arith, ap, sym, subst}
 use Rattle.std.specs.Prelude.{IfSome, slice_get}
 use Rattle.plc_base.specs.SlotTables.{IsStored}
-use Rattle.plc_base.proofs.SlotTables.{refill-set, IsTable-set, free_same_rest, stored_rest}
+use Rattle.plc_base.proofs.SlotTables.{free_same_rest, stored_rest}
+use Rattle.plc_base.proofs.SlotOrders.{same_table, same_rest_key}
 use Rattle.plc_base.proofs.slot_table.SlotTable.set_unstored.Goals as goal
 
 pub invariant_of-self : goal.invariant_of-self
@@ -9,19 +10,18 @@ invariant_of-self g c =
     let layout = g.E.SlotEntry.layout in
     let items = c.self.inside.entries.items in
     let within : c.args.place < length items = omega (arith, ap length c.self.view_is) in
-    rw (c.deref_mut.ensures.value, refill-set items c.args.place c.args.entry) (record {
-      sound = IsTable-set layout items c.args.place c.args.entry c.self.invariant.sound within
-          (free_same_rest layout items c.args.place c.args.entry g.met.E.SlotEntry.keeps_key c.self.invariant.sound within
-          (subst (λ (t : List g.row.E.Denot). IfSome (slice_get t c.args.place) (λ before. layout.rest c.args.entry ≡ layout.rest before)) (sym c.self.view_is) c.requires.same));
-      whole = c.self.invariant.whole;
-    })
+    let rests = subst (λ (t : List g.row.E.Denot). IfSome (slice_get t c.args.place) (λ before. layout.rest c.args.entry ≡ layout.rest before)) (sym c.self.view_is) c.requires.same in
+    rw c.overwrite.ensures
+    (same_table layout items c.args.place c.args.entry c.self.inside.order g.row.N c.self.invariant within
+    (same_rest_key layout items c.args.place c.args.entry g.met.E.SlotEntry.keeps_key within rests)
+    (free_same_rest layout items c.args.place c.args.entry g.met.E.SlotEntry.keeps_key c.self.invariant.sound within rests))
 
 pub returns-clause-kept : goal.returns-clause-kept
 returns-clause-kept g c records kept =
     let layout = g.E.SlotEntry.layout in
     let items = c.self.inside.entries.items in
     let within : c.args.place < length items = omega (arith, ap length c.self.view_is) in
-    rw (c.deref_mut.ensures.value, refill-set items c.args.place c.args.entry)
+    rw c.overwrite.ensures
     (stored_rest layout items records c.args.place c.args.entry within
     (subst (λ (t : List g.row.E.Denot). IfSome (slice_get t c.args.place) (λ before. layout.rest c.args.entry ≡ layout.rest before)) (sym c.self.view_is) c.requires.same)
     (subst (λ (t : List g.row.E.Denot). IsStored layout t records) (sym c.self.view_is) kept))
