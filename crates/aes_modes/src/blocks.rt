@@ -33,24 +33,9 @@ pub(crate) fn block_at(text: &[u8], at: usize) -> [u8; 16]
     requires { at + 16 ≤ length text.now }
     ensures { result ≡ take 16 (drop at text.now) }
 {
-    [
-        text[at],
-        text[at + 1],
-        text[at + 2],
-        text[at + 3],
-        text[at + 4],
-        text[at + 5],
-        text[at + 6],
-        text[at + 7],
-        text[at + 8],
-        text[at + 9],
-        text[at + 10],
-        text[at + 11],
-        text[at + 12],
-        text[at + 13],
-        text[at + 14],
-        text[at + 15],
-    ]
+    let mut block = [0; 16];
+    block.copy_from_slice(&text[at..at + 16]);
+    block
 }
 
 /// The octets of `text` from `at` on, and zeros up to a block.

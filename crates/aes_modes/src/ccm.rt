@@ -85,13 +85,13 @@ fn first_block(nonce: &[u8; 13], header: &[u8], text: &[u8], tag_len: usize) -> 
     ]
 }
 
-/// `x` after the blocks of the header: its length, the header, and zeros; none for an empty header (section 2.2).
-fn absorb_header(aes: &Aes, x: [u8; 16], header: &[u8]) -> [u8; 16]
+/// Takes the blocks of the header into `x`: its length, the header, and zeros; none for an empty header (section 2.2).
+fn absorb_header(aes: &Aes, x: &mut [u8; 16], header: &[u8])
     requires { length header.now < 65280 }
-    ensures { result ≡ chained_all aes.now x (ccm_header_blocks header.now) }
+    ensures { x.new ≡ chained_all aes.now x.old (ccm_header_blocks header.now) }
 {
     if header.is_empty() {
-        return x;
+        return;
     }
     let [high, low] = (header.len() as u16).to_be_bytes();
     let mut block = [0; 16];
@@ -99,8 +99,9 @@ fn absorb_header(aes: &Aes, x: [u8; 16], header: &[u8]) -> [u8; 16]
     block[1] = low;
     let count = header.len().min(14);
     block[2..2 + count].copy_from_slice(&header[..count]);
-    let x = aes.encrypt_block(&xor_blocks(&x, &block));
-    absorb(aes, x, &header[count..])
+    let next = aes.encrypt_block(&xor_blocks(x, &block));
+    *x = next;
+    absorb(aes, x, &header[count..]);
 }
 
 /// The tag for `tag_len` octets before it is cut to them: the CBC-MAC with S_0 added (section 2.3). `text` is the plain text.
@@ -110,9 +111,9 @@ fn whole_tag(aes: &Aes, nonce: &[u8; 13], header: &[u8], text: &[u8], tag_len: u
     requires tag { (tag_len ≡ 4) ⊎ (tag_len ≡ 8) }
     ensures { take tag_len result ≡ ccm_tag tag_len aes.now nonce.now header.now text.now }
 {
-    let x = aes.encrypt_block(&first_block(nonce, header, text, tag_len));
-    let x = absorb_header(aes, x, header);
-    let x = absorb(aes, x, text);
+    let mut x = aes.encrypt_block(&first_block(nonce, header, text, tag_len));
+    absorb_header(aes, &mut x, header);
+    absorb(aes, &mut x, text);
     xor_blocks(&x, &aes.encrypt_block(&counter(nonce, 0)))
 }
 

@@ -112,7 +112,12 @@ fn column(a: u32, b: u32, c: u32, d: u32, k: u32) -> u32
     let [_, b1, _, _] = b.to_be_bytes();
     let [_, _, c2, _] = c.to_be_bytes();
     let [_, _, _, d3] = d.to_be_bytes();
-    row0(a0) ^ row1(b1) ^ row2(c2) ^ row3(d3) ^ k
+    // Where the tables are read in this order the compiler keeps most words in registers.
+    let second = row1(b1);
+    let last = row3(d3);
+    let third = row2(c2);
+    let first = row0(a0);
+    first ^ second ^ third ^ last ^ k
 }
 
 /// The same in the last round, which has no MixColumns.

@@ -8,30 +8,30 @@ ghost use Rattle.aes_modes.specs.Resumed.{mac_from};
 use crate::blocks::{block_at, padded_block, xor_blocks};
 use crate::cipher::Aes;
 
-/// `x` after the first `count` blocks of `text`, all whole.
-pub(crate) fn chain(aes: &Aes, x: [u8; 16], text: &[u8], count: usize) -> [u8; 16]
+/// Takes the first `count` blocks of `text`, all whole, into `x`.
+///
+/// `x` changes in place here and below: by value it would be copied octet by octet.
+pub(crate) fn chain(aes: &Aes, x: &mut [u8; 16], text: &[u8], count: usize)
     requires { 16 * count ≤ length text.now }
-    ensures { result ≡ chained aes.now x text.now count }
+    ensures { x.new ≡ chained aes.now x.old text.now count }
 {
-    let mut x = x;
     'whole: for i in 0..count {
-        let next = aes.encrypt_block(&xor_blocks(&x, &block_at(text, 16 * i)));
-        x = next;
+        let next = aes.encrypt_block(&xor_blocks(x, &block_at(text, 16 * i)));
+        *x = next;
     }
-    x
 }
 
-/// `x` after all of `text`, with zeros up to a whole block.
-pub(crate) fn absorb(aes: &Aes, x: [u8; 16], text: &[u8]) -> [u8; 16]
-    ensures { result ≡ chained_all aes.now x (padded text.now) }
+/// Takes all of `text` into `x`, with zeros up to a whole block.
+pub(crate) fn absorb(aes: &Aes, x: &mut [u8; 16], text: &[u8])
+    ensures { x.new ≡ chained_all aes.now x.old (padded text.now) }
 {
     let count = text.len() / 16;
-    let x = chain(aes, x, text, count);
+    chain(aes, x, text, count);
     if text.len() % 16 == 0 {
-        x
-    } else {
-        aes.encrypt_block(&xor_blocks(&x, &padded_block(text, 16 * count)))
+        return;
     }
+    let next = aes.encrypt_block(&xor_blocks(x, &padded_block(text, 16 * count)));
+    *x = next;
 }
 
 /// Twice an element of GF(2^128) (section 2.3).
@@ -75,7 +75,8 @@ pub(crate) fn mac_from(aes: &Aes, subkey: u128, x: [u8; 16], text: &[u8]) -> [u8
     ensures { result ≡ mac_from aes.now x text.now }
 {
     let count = text.len().saturating_sub(1) / 16;
-    let x = chain(aes, x, text, count);
+    let mut x = x;
+    chain(aes, &mut x, text, count);
     let last = last_block(aes, subkey, text, 16 * count);
     aes.encrypt_block(&xor_blocks(&x, &last))
 }

@@ -27,7 +27,7 @@ pub(crate) fn constant(i: usize) -> u8
 pub(crate) fn row0(b: u8) -> u32
     ensures { to_be_bytes w32 result ≡ from_row0 (s_box b) }
 {
-    T0[b as usize]
+    ROWS[0][b as usize]
 }
 
 /// What SubBytes and MixColumns make of an octet of row 1: its part of the column's sum.
@@ -35,7 +35,7 @@ pub(crate) fn row0(b: u8) -> u32
 pub(crate) fn row1(b: u8) -> u32
     ensures { to_be_bytes w32 result ≡ from_row1 (s_box b) }
 {
-    T1[b as usize]
+    ROWS[1][b as usize]
 }
 
 /// What SubBytes and MixColumns make of an octet of row 2: its part of the column's sum.
@@ -43,7 +43,7 @@ pub(crate) fn row1(b: u8) -> u32
 pub(crate) fn row2(b: u8) -> u32
     ensures { to_be_bytes w32 result ≡ from_row2 (s_box b) }
 {
-    T2[b as usize]
+    ROWS[2][b as usize]
 }
 
 /// What SubBytes and MixColumns make of an octet of row 3: its part of the column's sum.
@@ -51,7 +51,7 @@ pub(crate) fn row2(b: u8) -> u32
 pub(crate) fn row3(b: u8) -> u32
     ensures { to_be_bytes w32 result ≡ from_row3 (s_box b) }
 {
-    T3[b as usize]
+    ROWS[3][b as usize]
 }
 
 const S_BOX: [u8; 256] = [
@@ -72,6 +72,9 @@ const S_BOX: [u8; 256] = [
     0xe1, 0xf8, 0x98, 0x11, 0x69, 0xd9, 0x8e, 0x94, 0x9b, 0x1e, 0x87, 0xe9, 0xce, 0x55, 0x28, 0xdf,
     0x8c, 0xa1, 0x89, 0x0d, 0xbf, 0xe6, 0x42, 0x68, 0x41, 0x99, 0x2d, 0x0f, 0xb0, 0x54, 0xbb, 0x16,
 ];
+
+/// The tables of the four rows side by side, so that one base address serves all look-ups of a round.
+const ROWS: [[u32; 256]; 4] = [T0, T1, T2, T3];
 
 const RCON: [u8; 10] = [0x01, 0x02, 0x04, 0x08, 0x10, 0x20, 0x40, 0x80, 0x1b, 0x36];
 

@@ -11,7 +11,7 @@ pub returns-then-is_empty : goal.returns-then-is_empty
 returns-then-is_empty c =
     let key = c.args.aes.now in
     let none = ccm_head_none c.args.header.now (eqb-true (length c.args.header.now) 0 (sym c.if-is_empty.ensures)) in
-    sym (ap (chained_all key c.args.x) none ∙ chained_none key c.args.x [])
+    sym (ap (chained_all key c.args.x.now) none ∙ chained_none key c.args.x.now [])
 
 pub returns : goal.returns
 returns c =
@@ -33,5 +33,5 @@ returns c =
     head_block (get_or bs 0 0) (get_or bs 1 0) (2 + n - 2) n ys (omega arith)
     ∙ (λ i. (get_or (c.to_be_bytes.ensures i) 0 0 ∷ get_or (c.to_be_bytes.ensures i) 1 0 ∷ []) ++ taken i ++ replicate (14 - n) 0) in
     c.absorb.ensures
-    ∙ (λ i. chained_all key ((c.encrypt_block-x.ensures ∙ (λ j. encrypted key (c.xor_blocks.ensures j))) i) (padded (take_rest h n i)))
-    ∙ chained_head key c.args.x h (get_or bs 0 0 ∷ get_or bs 1 0 ∷ (ys ++ drop (2 + n - 2) (replicate 14 0))) n some cases (omega arith) (omega arith) block
+    ∙ (λ i. chained_all key ((c.encrypt_block-next.ensures ∙ (λ j. encrypted key (c.xor_blocks.ensures j))) i) (padded (take_rest h n i)))
+    ∙ chained_head key c.args.x.now h (get_or bs 0 0 ∷ get_or bs 1 0 ∷ (ys ++ drop (2 + n - 2) (replicate 14 0))) n some cases (omega arith) (omega arith) block

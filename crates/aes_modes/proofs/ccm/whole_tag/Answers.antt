@@ -12,8 +12,8 @@ returns c =
     let head = ccm_header_blocks c.args.header.now in
     let text = padded c.args.text.now in
     let e1 = c.encrypt_block-x.ensures ∙ (λ i. encrypted key (c.first_block.ensures i)) in
-    let e2 = c.absorb_header-x.ensures ∙ (λ i. chained_all key (e1 i) head) in
-    let e3 = c.absorb-x.ensures ∙ (λ i. chained_all key (e2 i) text)
+    let e2 = c.absorb_header.ensures ∙ (λ i. chained_all key (e1 i) head) in
+    let e3 = c.absorb.ensures ∙ (λ i. chained_all key (e2 i) text)
     ∙ ccm_mac_is c.args.tag_len key c.args.nonce.now c.args.header.now c.args.text.now (omega arith) in
     let e4 = c.encrypt_block.ensures ∙ (λ i. encrypted key (c.counter.ensures i)) in
     ap (take c.args.tag_len) (c.xor_blocks.ensures ∙ (λ i. xor_bytes (e3 i) (e4 i)))

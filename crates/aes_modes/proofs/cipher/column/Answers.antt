@@ -7,7 +7,7 @@ use Rattle.aes_modes.proofs.cipher.column.Goals as goal
 
 pub returns : goal.returns
 returns c =
-    column_of_rows _ _ _ _ c.args.k _ _ _ _ c.row0.ensures c.row1.ensures c.row2.ensures c.row3.ensures
+    column_of_rows _ _ _ _ c.args.k _ _ _ _ c.row0-first.ensures c.row1-second.ensures c.row2-third.ensures c.row3-last.ensures
     ∙ (λ i. xor_bytes
     (mixed_column (s_box (get_or (c.to_be_bytes.ensures i) 0 0)) (s_box (get_or (c.to_be_bytes-2.ensures i) 1 0))
     (s_box (get_or (c.to_be_bytes-3.ensures i) 2 0)) (s_box (get_or (c.to_be_bytes-4.ensures i) 3 0)))

@@ -4,10 +4,10 @@ use Rattle.aes_modes.proofs.Chains.{chained_none, chained_more}
 use Rattle.aes_modes.proofs.mac.chain.Goals as goal
 
 pub whole-init : goal.whole-init
-whole-init c = sym (chained_none c.args.aes.now c.args.x c.args.text.now)
+whole-init c = sym (chained_none c.args.aes.now c.args.x.now c.args.text.now)
 
 pub whole-preserved : goal.whole-preserved
 whole-preserved c =
     c.encrypt_block-next.ensures
     ∙ (λ i. encrypted c.args.aes.now ((c.xor_blocks.ensures ∙ (λ j. xor_bytes (c.whole.invariant j) (c.block_at.ensures j))) i))
-    ∙ sym (chained_more c.args.aes.now c.args.x c.args.text.now c.whole.i)
+    ∙ sym (chained_more c.args.aes.now c.args.x.now c.args.text.now c.whole.i)
