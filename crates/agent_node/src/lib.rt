@@ -3,7 +3,5 @@
 #![tactic(auto)]
 
 mod relaying;
-#[cfg(test)]
-mod tests;
 
 pub use relaying::{NotRelayed, relay_down, relay_up};

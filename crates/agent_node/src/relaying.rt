@@ -4,7 +4,7 @@ ghost use Rattle.joining_messages.specs.Messages.{IsMessage};
 ghost use Rattle.agent_node.specs.Relaying.{goes_up, goes_down, command_up, frame_down};
 
 use joining_messages::{JoinBody, JoinMessage, write_join};
-use mac_frames::{MacHead, plain_frame};
+use mac_frames::{MacHead, write_header};
 use plc_base::{FrameBuf, PAN, Short};
 use thiserror::Error;
 
@@ -74,10 +74,6 @@ fn write_down(message: &JoinMessage, agent: Short, out: &mut FrameBuf)
     requires { IsMessage message.now }
     ensures { out.new ≡ frame_down message.now agent }
 {
-    let mut payload = FrameBuf::new();
-    payload.push(0x40);
-    payload.push(2);
-    write_join(message, &mut payload);
     let head = MacHead::Down {
         ack: true,
         version: 1,
@@ -86,5 +82,8 @@ fn write_down(message: &JoinMessage, agent: Short, out: &mut FrameBuf)
         to: message.eui,
         from: agent,
     };
-    plain_frame(&head, payload.octets(), out);
+    write_header(&head, out);
+    out.push(0x40);
+    out.push(2);
+    write_join(message, out);
 }

@@ -1,5 +1,5 @@
 -- Which fault of a packet is the first, at each end. All tests are of octets.
-use Rattle.std.specs.Prelude.{ℕ, ◌*◌, Bool, List, length, Option, Some, nat_lt, ◌==◌, ◌&&◌, if◌then◌else◌}
+use Rattle.std.specs.Prelude.{ℕ, ◌*◌, Bool, List, length, Option, Some, nat_lt, ◌==◌, ◌&&◌}
 use Rattle.std.specs.Str.{bytes_eq}
 use Rattle.plc_base.specs.Fields.{after, octet, two, four, part}
 use Rattle.plc_base.specs.Faults.{◌then◌, ◌unless◌}

@@ -13,8 +13,6 @@ pub mod laws;
 mod peer;
 mod reading;
 mod server;
-#[cfg(test)]
-mod tests;
 mod writing;
 
 pub use fault::EapFault;

@@ -14,7 +14,7 @@ use crate::writing::{
     fourth_header, granting_text, mac_p_input, mac_s_input, third_header, write_head,
 };
 use aes_modes::cmac;
-use plc_base::{EapBuf, Eui, Grant, PairTag, Rand, TagList, TagText, rest_at};
+use plc_base::{EapBuf, Eui, Grant, PairTag, PairTags, Rand, TagList, TagText, rest_at};
 
 /// The random values of a session that both ends have shown to share.
 #[derive(Clone, Copy, Debug, PartialEq, Eq)]
@@ -98,7 +98,31 @@ impl Server {
             &cmac(keys.authentication(), answer.octets()),
             EapFault::BadMac,
         )?;
-        let rand_p = second.rand_p;
+        tags.opened.push(PairTag::MacP {
+            eui: self.eui,
+            text: answer,
+        });
+        self.write_third(keys, second.rand_p, grant, out, &mut tags.made);
+        Ok(Server {
+            rand_p: Some(second.rand_p),
+            ..*self
+        })
+    }
+
+    // Writes the third message into `out`, and its two tags into `made`.
+    fn write_third(
+        &self,
+        keys: &PskKeys,
+        rand_p: Rand,
+        grant: &Grant,
+        out: &mut EapBuf,
+        made: &mut PairTags,
+    )
+        requires out { out.old ≡ [] }
+        requires made { made.old ≡ [] }
+        ensures written { out.new ≡ third_packet keys.now 2 (peer_of self.now rand_p) grant.now }
+        ensures made { made.new ≡ (second_tags (peer_of self.now rand_p) grant.now).made }
+    {
         let claim = mac_s_input(&self.id_s, &rand_p);
         let text = granting_text(grant);
         let header = third_header(2, &self.rand_s, text.octets());
@@ -111,25 +135,17 @@ impl Server {
             text.octets(),
             out,
         );
-        tags.opened.push(PairTag::MacP {
-            eui: self.eui,
-            text: answer,
-        });
-        tags.made.push(PairTag::MacS {
+        made.push(PairTag::MacS {
             eui: self.eui,
             text: claim,
         });
-        tags.made.push(PairTag::Channel {
+        made.push(PairTag::Channel {
             eui: self.eui,
             rand_p,
             nonce: 0,
             header,
             text,
         });
-        Ok(Server {
-            rand_p: Some(rand_p),
-            ..*self
-        })
     }
 
     /// Takes the fourth message. Where it is right, both ends hold the same random values, which are answered.

@@ -11,8 +11,6 @@ mod granting;
 pub mod laws;
 mod message;
 mod reading;
-#[cfg(test)]
-mod tests;
 mod writing;
 
 pub use fault::{JoinFault, JoinFaultKind};

@@ -19,11 +19,11 @@ use Rattle.mac_frames.specs.Laws.{FramesAreRead}
 use Rattle.mac_frames.proofs.Headers.{header_then-append, length-header}
 use Rattle.mac_frames.proofs.NoFault.{no_fault}
 
-low_sealed : (ack : Bool) (rest : List ℕ) → (is_sealed (low_control true ack ∷ rest) ≡ true) × (ack_in (low_control true ack ∷ rest) ≡ ack)
+pub low_sealed : (ack : Bool) (rest : List ℕ) → (is_sealed (low_control true ack ∷ rest) ≡ true) × (ack_in (low_control true ack ∷ rest) ≡ ack)
 low_sealed true rest = rw (octet_behind [] (low_control true true) rest) (refl, refl)
 low_sealed false rest = rw (octet_behind [] (low_control true false) rest) (refl, refl)
 
-low_plain : (ack : Bool) (rest : List ℕ) → (is_sealed (low_control false ack ∷ rest) ≡ false) × (ack_in (low_control false ack ∷ rest) ≡ ack)
+pub low_plain : (ack : Bool) (rest : List ℕ) → (is_sealed (low_control false ack ∷ rest) ≡ false) × (ack_in (low_control false ack ∷ rest) ≡ ack)
 low_plain true rest = rw (octet_behind [] (low_control false true) rest) (refl, refl)
 low_plain false rest = rw (octet_behind [] (low_control false false) rest) (refl, refl)
 

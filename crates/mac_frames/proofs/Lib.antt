@@ -4,5 +4,6 @@ pub mod NoFault
 pub mod Values
 pub mod Opening
 pub mod HeadsRead
+pub mod HeadsSaid
 pub mod FrameOctets
 pub mod OpensAgain

@@ -92,3 +92,8 @@ opens_exactly (Err e) key head front body out tag right is =
     let other : bytes_eq (sealed_tag body) (ccm_tag 4 key (nonce_of head) front (payload_in key head body)) ≡ false =
     false_from_ne_true _ (λ same. absurd (cc (right ((bytes_decides (sealed_tag body) (ccm_tag 4 key (nonce_of head) front (payload_in key head body))).0 same)))) in
     rw other refl
+
+pub fits_tag : (head : MacHead) (body : List ℕ) → IsSealed head → 4 ≤ length body → IsBody head body
+fits_tag (Sealed ack seq pan to from counter index) body sealed rest = rest
+fits_tag (Up ack version seq pan to from) body sealed rest = tt
+fits_tag (Down ack version seq pan to from) body sealed rest = tt

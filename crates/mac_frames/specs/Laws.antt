@@ -1,10 +1,10 @@
--- A frame is read as it was spelled; what frames of octets spell, seal and open is octets; what a key sealed, it opens.
-use Rattle.std.specs.Prelude.{◌≡◌, ℕ, ◌+◌, ◌<◌, ◌≤◌, List, length, take, Some, None}
-use Rattle.plc_base.specs.Fields.{AreOctets}
+-- A frame is read as it was spelled, and so is its nonce; what frames of octets spell, seal and open is octets; what a key sealed, it opens.
+use Rattle.std.specs.Prelude.{◌≡◌, ℕ, ◌+◌, ◌<◌, ◌≤◌, ◌^◌, Bool, true, false, List, length, take, Some, None}
+use Rattle.plc_base.specs.Fields.{AreOctets, little_two, little_four}
 use Rattle.mac_frames.specs.declared.head.MacHead.{MacHead}
 use Rattle.mac_frames.specs.declared.head.MacHead.TheVariants.{Sealed, Up, Down}
-use Rattle.mac_frames.specs.Faults.{frame_fault}
-use Rattle.mac_frames.specs.Grammar.{Frame, header, header_then}
+use Rattle.mac_frames.specs.Faults.{is_sealed, frame_fault}
+use Rattle.mac_frames.specs.Grammar.{IsPlain, Frame, header, header_then}
 use Rattle.mac_frames.specs.Reading.{head_in, body_in}
 use Rattle.mac_frames.specs.Sealing.{opened_in}
 use Rattle.mac_frames.specs.Sent.{sealed_body}
@@ -20,6 +20,31 @@ pub record IsRead (head : MacHead) (body octets : List ℕ) : Type 0 where
 
 abbrev pub FramesAreRead : Type 0
 FramesAreRead = (head : MacHead) (body octets : List ℕ) → Frame head body octets → IsRead head body octets
+
+-- # Nonces
+
+-- A frame is sealed, and the sender and the counter of its head stand at their places, whatever its other fields are.
+pub record SaysItsNonce (from counter : ℕ) (octets : List ℕ) : Type 0 where
+  pub sealed : is_sealed octets ≡ true
+  pub sender : from < 2 ^ 16 → little_two 7 octets ≡ from
+  pub number : counter < 2 ^ 32 → little_four 10 octets ≡ counter
+
+-- so it is of each sealed head
+abbrev pub SealedHeadsSayTheirNonces : Type 0
+SealedHeadsSayTheirNonces =
+    (ack : Bool) (seq pan to from counter index : ℕ) (body : List ℕ)
+    → SaysItsNonce from counter (header_then (Sealed ack seq pan to from counter index) body)
+
+-- no plain head is taken for a sealed one
+abbrev pub PlainHeadsAreNotSealed : Type 0
+PlainHeadsAreNotSealed =
+    (head : MacHead) (body : List ℕ) → IsPlain head → is_sealed (header_then head body) ≡ false
+
+-- where octets have no fault, the sender that a sealed head says is an address, and the counter has 32 bits
+abbrev pub ReadNoncesAreInRange : Type 0
+ReadNoncesAreInRange =
+    (octets : List ℕ) (ack : Bool) (seq pan to from counter index : ℕ) → AreOctets octets → frame_fault octets ≡ None
+    → head_in octets ≡ Sealed ack seq pan to from counter index → (from < 0xFFFE) × (counter < 2 ^ 32)
 
 -- # Octets
 

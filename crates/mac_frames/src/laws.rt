@@ -3,7 +3,7 @@
 //! The functions without arguments do nothing: each states a law over the definitions as its contract.
 ghost use Rattle.std.specs.Prelude.{◌≡◌, ◌≤◌, length, IsOk};
 ghost use Rattle.mac_frames.specs.Grammar.{IsAllowed, IsSealed};
-ghost use Rattle.mac_frames.specs.Laws.{BodiesAreOctets, FramesAreRead, HeadersAreOctets, OpenedPayloadsAreOctets, SealedBodiesAreLonger, SealedBodiesAreOctets, SealedBodiesOpen};
+ghost use Rattle.mac_frames.specs.Laws.{BodiesAreOctets, FramesAreRead, HeadersAreOctets, OpenedPayloadsAreOctets, PlainHeadsAreNotSealed, ReadNoncesAreInRange, SealedBodiesAreLonger, SealedBodiesAreOctets, SealedBodiesOpen, SealedHeadsSayTheirNonces};
 
 use crate::head::MacHead;
 use crate::reading::read_frame;
@@ -58,4 +58,12 @@ pub fn sealed_bodies_open()
 /// The head and the body of a frame are read out of its octets, which have no fault.
 pub fn frames_are_read()
     ensures { FramesAreRead }
+{}
+
+/// The sender and the counter of a sealed head stand at their places, whatever its other fields are; a plain head is not taken for a
+/// sealed one; and what a sealed head says of them is in range where the octets have no fault.
+pub fn heads_say_their_nonces()
+    ensures sealed { SealedHeadsSayTheirNonces }
+    ensures plain { PlainHeadsAreNotSealed }
+    ensures range { ReadNoncesAreInRange }
 {}

@@ -16,8 +16,5 @@ mod writing;
 pub use fault::{FrameFault, FrameFaultKind};
 pub use head::MacHead;
 pub use reading::{RawFrame, read_frame};
-pub use sealing::{open_frame, seal_frame};
-pub use writing::plain_frame;
-
-#[cfg(test)]
-mod tests;
+pub use sealing::{open_frame, seal_frame, seal_written};
+pub use writing::{plain_frame, write_header};

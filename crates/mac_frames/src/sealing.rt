@@ -1,7 +1,7 @@
 //! Seals and opens frames.
-ghost use Rattle.std.specs.Prelude.{◌≡◌, ◌≤◌, ◌↔◌, ◌++◌, ℕ, List, [], length, IsOk, OnOk, OnErr, MatchResult, Some, None};
+ghost use Rattle.std.specs.Prelude.{◌≡◌, ◌≤◌, ◌↔◌, ◌++◌, ℕ, List, [], length, take, drop, IsOk, OnOk, OnErr, MatchResult, Some, None};
 ghost use Rattle.aes_modes.specs.Ccm.{ccm_tag, ccm_text};
-ghost use Rattle.mac_frames.specs.Grammar.{Frame, IsAllowed, IsSealed};
+ghost use Rattle.mac_frames.specs.Grammar.{Frame, IsAllowed, IsHead, IsSealed, header};
 ghost use Rattle.mac_frames.specs.Sealing.{HasTag, SealedFrame, nonce, nonce_of, opened_in, payload_in};
 
 use crate::head::MacHead;
@@ -13,8 +13,8 @@ use plc_base::{FrameBuf, Short, four_octets, two_octets};
 // How many octets a tag has.
 const TAG: usize = 4;
 
-// The most octets that the payload of a sealed frame has.
-const PAYLOAD: usize = 381;
+// How many octets a header has.
+const HEADER: usize = 15;
 
 // The nonce: the extended address that the PAN id and the short address make, the frame counter, the security level.
 fn nonce(pan: u16, from: Short, counter: u32) -> [u8; 13]
@@ -56,19 +56,34 @@ pub fn seal_frame(aes: &Aes, head: &MacHead, payload: &[u8], out: &mut FrameBuf)
     ensures one_spelling { (octets : List ℕ) → SealedFrame head.now aes.now payload.now octets → octets ≡ out.new }
 {
     write_header(head, out);
-    let count = payload.len();
-    let mut text = [0; PAYLOAD];
-    text[..count].copy_from_slice(payload);
+    out.append(payload);
+    seal_written(aes, head, out);
+}
+
+/// Seals a frame in place, whose payload stands in the clear behind the header of a head `Sealed`.
+///
+/// So a payload is spelled right behind what [`write_header`] writes, and not copied. What it has to be, and what a frame counter
+/// may serve for, is as for [`seal_frame`].
+pub fn seal_written(aes: &Aes, head: &MacHead, out: &mut FrameBuf)
+    requires sealed { IsSealed head.now }
+    requires fields { IsHead head.now }
+    requires header { take 15 out.old ≡ header head.now }
+    requires room { length out.old ≤ 396 }
+    ensures { SealedFrame head.now aes.now (drop 15 out.old) out.new }
+{
     let mut tag = [0; TAG];
-    ccm_seal(
-        aes,
-        &nonce_of(head),
-        out.octets(),
-        &mut text[..count],
-        &mut tag,
-    );
-    out.append(&text[..count]);
+    seal_tail(aes, &nonce_of(head), out, &mut tag);
     out.append(&tag);
+}
+
+// Encrypts what stands behind a header, in place, and makes the tag of both.
+fn seal_tail(aes: &Aes, nonce: &[u8; 13], out: &mut FrameBuf, tag: &mut [u8; 4])
+    requires { 15 ≤ length out.old }
+    ensures text { out.new ≡ take 15 out.old ++ ccm_text aes.now nonce.now (drop 15 out.old) }
+    ensures tag { tag.new ≡ ccm_tag 4 aes.now nonce.now (take 15 out.old) (drop 15 out.old) }
+{
+    let (header, text) = out.octets_mut().split_at_mut(HEADER);
+    ccm_seal(aes, nonce, header, text, tag);
 }
 
 // Opens an encrypted payload: what it is, in place of what `out` held, and nothing where the tag is another.
@@ -90,11 +105,11 @@ fn open_text(
     ensures fits { length out.new ≤ 381 }
 {
     out.clear();
-    let count = sealed.len();
-    let mut text = [0; PAYLOAD];
-    text[..count].copy_from_slice(sealed);
-    ccm_open(aes, nonce, header, &mut text[..count], tag)?;
-    out.append(&text[..count]);
+    out.append(sealed);
+    if let Err(bad) = ccm_open(aes, nonce, header, out.octets_mut(), tag) {
+        out.clear();
+        return Err(bad);
+    }
     Ok(())
 }
 

@@ -1,11 +1,13 @@
 //! Writes headers and plain frames.
-ghost use Rattle.std.specs.Prelude.{◌≡◌, ◌≤◌, ◌+◌, ◌++◌, ℕ, List, length, reverse};
+ghost use Rattle.std.specs.Prelude.{◌≡◌, ◌≤◌, ◌+◌, ◌++◌, ◌∷◌, ℕ, List, [], length, reverse};
 ghost use Rattle.byteorder.specs.Endian.{little_bytes};
-ghost use Rattle.mac_frames.specs.Grammar.{Frame, IsAllowed, IsEightOctets, IsHead, IsPlain, header, low_control};
+ghost use Rattle.plc_base.specs.Addresses.{IsAddress};
+ghost use Rattle.mac_frames.specs.Grammar.{Frame, IsAllowed, IsEightOctets, IsEui, IsHead, IsPlain, header, low_control};
+ghost use Rattle.mac_frames.specs.declared.head.MacHead.TheVariants.{Sealed, Up, Down};
 
 use crate::head::MacHead;
 use byteorder::{ByteOrder, LittleEndian};
-use plc_base::FrameBuf;
+use plc_base::{Eui, FrameBuf, Short};
 
 // The first octet of the frame control.
 fn low_control(sealed: bool, ack: bool) -> u8
@@ -50,8 +52,69 @@ fn push_reversed(out: &mut FrameBuf, octets: &[u8; 8])
     out.append(&reversed);
 }
 
+// Appends what each header begins with: the frame control, the sequence number and the PAN id.
+fn push_front(out: &mut FrameBuf, low: u8, high: u8, seq: u8, pan: u16)
+    requires { length out.old + 5 ≤ 400 }
+    ensures { out.new ≡ out.old ++ low ∷ high ∷ seq ∷ little_bytes 2 pan }
+{
+    out.push(low);
+    out.push(high);
+    out.push(seq);
+    push_u16(out, pan);
+}
+
+// Writes the header of a sealed frame.
+fn write_sealed(
+    out: &mut FrameBuf,
+    ack: bool,
+    seq: u8,
+    pan: u16,
+    to: u16,
+    from: Short,
+    counter: u32,
+    index: u8,
+)
+    requires { out.old ≡ [] }
+    ensures spelled { out.new ≡ header (Sealed ack seq pan to from counter index) }
+    ensures address { IsAddress from }
+{
+    push_front(out, low_control(true, ack), 0x98, seq, pan);
+    push_u16(out, to);
+    push_u16(out, from.number());
+    out.push(0x0D);
+    push_u32(out, counter);
+    out.push(index);
+}
+
+// Writes the header of a frame from a device without a short address.
+fn write_up(out: &mut FrameBuf, ack: bool, version: u8, seq: u8, pan: u16, to: u16, from: &Eui)
+    requires empty { out.old ≡ [] }
+    requires version { version ≤ 1 }
+    ensures spelled { out.new ≡ header (Up ack version seq pan to from.now) }
+    ensures octets { IsEui from.now }
+{
+    let high = 0xC8 + 0x10 * version;
+    push_front(out, low_control(false, ack), high, seq, pan);
+    push_u16(out, to);
+    push_reversed(out, &from.0);
+}
+
+// Writes the header of a frame to a device without a short address.
+fn write_down(out: &mut FrameBuf, ack: bool, version: u8, seq: u8, pan: u16, to: &Eui, from: Short)
+    requires empty { out.old ≡ [] }
+    requires version { version ≤ 1 }
+    ensures spelled { out.new ≡ header (Down ack version seq pan to.now from) }
+    ensures octets { IsEui to.now }
+    ensures address { IsAddress from }
+{
+    let high = 0x8C + 0x10 * version;
+    push_front(out, low_control(false, ack), high, seq, pan);
+    push_reversed(out, &to.0);
+    push_u16(out, from.number());
+}
+
 /// Writes the header of 15 octets in place of what `out` held.
-pub(crate) fn write_header(head: &MacHead, out: &mut FrameBuf)
+pub fn write_header(head: &MacHead, out: &mut FrameBuf)
     requires { IsAllowed head.now }
     ensures spelled { out.new ≡ header head.now }
     ensures fields { IsHead head.now }
@@ -67,17 +130,7 @@ pub(crate) fn write_header(head: &MacHead, out: &mut FrameBuf)
             from,
             counter,
             index,
-        } => {
-            out.push(low_control(true, *ack));
-            out.push(0x98);
-            out.push(*seq);
-            push_u16(out, *pan);
-            push_u16(out, *to);
-            push_u16(out, from.number());
-            out.push(0x0D);
-            push_u32(out, *counter);
-            out.push(*index);
-        }
+        } => write_sealed(out, *ack, *seq, *pan, *to, *from, *counter, *index),
         MacHead::Up {
             ack,
             version,
@@ -85,14 +138,7 @@ pub(crate) fn write_header(head: &MacHead, out: &mut FrameBuf)
             pan,
             to,
             from,
-        } => {
-            out.push(low_control(false, *ack));
-            out.push(0xC8 + 0x10 * *version);
-            out.push(*seq);
-            push_u16(out, *pan);
-            push_u16(out, *to);
-            push_reversed(out, &from.0);
-        }
+        } => write_up(out, *ack, *version, *seq, *pan, *to, from),
         MacHead::Down {
             ack,
             version,
@@ -100,14 +146,7 @@ pub(crate) fn write_header(head: &MacHead, out: &mut FrameBuf)
             pan,
             to,
             from,
-        } => {
-            out.push(low_control(false, *ack));
-            out.push(0x8C + 0x10 * *version);
-            out.push(*seq);
-            push_u16(out, *pan);
-            push_reversed(out, &to.0);
-            push_u16(out, from.number());
-        }
+        } => write_down(out, *ack, *version, *seq, *pan, to, *from),
     }
 }
 

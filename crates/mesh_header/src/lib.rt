@@ -12,8 +12,6 @@ mod loads;
 mod meshes;
 mod piece;
 mod reading;
-#[cfg(test)]
-mod tests;
 mod unit;
 mod writing;
 
@@ -21,4 +19,4 @@ pub use fault::{UnitFault, UnitFaultKind};
 pub use piece::Piece;
 pub use reading::read_unit;
 pub use unit::{Mesh, Unit};
-pub use writing::write_unit;
+pub use writing::{append_unit, write_unit};

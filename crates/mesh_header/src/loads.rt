@@ -10,10 +10,10 @@ ghost use Rattle.mesh_header.specs.Faults.{size_fault, octets_fault, tag_fault, 
 use crate::fault::{UnitFault, UnitFaultKind};
 use crate::piece::Piece;
 use crate::unit::{Mesh, Unit};
-use plc_base::{Fault, FrameBuf, octet_at, rest_at, two_at};
+use plc_base::{Fault, OctetRef, octet_at, rest_at, two_at};
 
 #[tactic(auto, unfolding(crate::specs::Faults::data_fault))]
-fn data_of(octets: &[u8], at: usize) -> Result<FrameBuf, UnitFault>
+fn data_of(octets: &[u8], at: usize) -> Result<OctetRef<'_>, UnitFault>
     requires within { at ≤ length octets.now }
     requires frame { length octets.now ≤ 400 }
     ensures { ReadsUnless (data_fault at octets.now) result
@@ -23,7 +23,7 @@ fn data_of(octets: &[u8], at: usize) -> Result<FrameBuf, UnitFault>
     if rest.is_empty() || rest.len() > 375 {
         return Err(Fault::at(UnitFaultKind::DataSize, at));
     }
-    Ok(FrameBuf::from_octets(rest))
+    Ok(OctetRef::new(rest))
 }
 
 // The size of a piece, which stands above a base in two octets.
@@ -62,23 +62,23 @@ fn one_at(octets: &[u8], at: usize) -> Result<u8, UnitFault>
 }
 
 #[tactic(auto, unfolding(crate::specs::Faults::octets_fault))]
-fn piece_octets(octets: &[u8], size: u16, offset: u8, at: usize) -> Result<FrameBuf, UnitFault>
+fn piece_octets(octets: &[u8], size: u16, offset: u8, at: usize) -> Result<OctetRef<'_>, UnitFault>
     requires within { at ≤ length octets.now }
     requires frame { length octets.now ≤ 400 }
     ensures { ReadsUnless (octets_fault size offset at octets.now) result
-        (λ x. (0 < length x) × (offset * 8 + length x ≤ size) × (offset * 8 + length x < size → length x % 8 ≡ 0)
-        × (x ≡ after at octets.now)) }
+        (λ x. (0 < length x) × (length x ≤ 400) × (offset * 8 + length x ≤ size)
+        × (offset * 8 + length x < size → length x % 8 ≡ 0) × (x ≡ after at octets.now)) }
 {
     let rest = rest_at(octets, at);
     let end = offset as usize * 8 + rest.len();
     if rest.is_empty() || end > size as usize || (end < size as usize && rest.len() % 8 != 0) {
         return Err(Fault::at(UnitFaultKind::PieceForm, at));
     }
-    Ok(FrameBuf::from_octets(rest))
+    Ok(OctetRef::new(rest))
 }
 
 #[tactic(auto, unfolding(crate::specs::Faults::first_piece_fault, crate::specs::Grammar::piece_spelling))]
-fn first_piece(octets: &[u8], at: usize) -> Result<Piece, UnitFault>
+fn first_piece(octets: &[u8], at: usize) -> Result<Piece<'_>, UnitFault>
     requires low { 0xC0 ≤ octet at octets.now }
     requires place { at ≤ 6 }
     requires frame { length octets.now ≤ 400 }
@@ -92,11 +92,11 @@ fn first_piece(octets: &[u8], at: usize) -> Result<Piece, UnitFault>
         return Err(Fault::at(UnitFaultKind::Dispatch, at + 4));
     }
     let octets = piece_octets(octets, size, 0, at + 5)?;
-    Ok(Piece::new(size, tag, 0, octets).unwrap())
+    Ok(Piece::new(size, tag, 0, octets.octets()).unwrap())
 }
 
 #[tactic(auto, unfolding(crate::specs::Faults::later_piece_fault, crate::specs::Grammar::piece_spelling))]
-fn later_piece(octets: &[u8], at: usize) -> Result<Piece, UnitFault>
+fn later_piece(octets: &[u8], at: usize) -> Result<Piece<'_>, UnitFault>
     requires low { 0xE0 ≤ octet at octets.now }
     requires place { at ≤ 6 }
     requires frame { length octets.now ≤ 400 }
@@ -110,12 +110,12 @@ fn later_piece(octets: &[u8], at: usize) -> Result<Piece, UnitFault>
         return Err(Fault::at(UnitFaultKind::PieceForm, at + 5));
     }
     let octets = piece_octets(octets, size, offset, at + 5)?;
-    Ok(Piece::new(size, tag, offset, octets).unwrap())
+    Ok(Piece::new(size, tag, offset, octets.octets()).unwrap())
 }
 
 // A command after a mesh header, from its code on.
 #[tactic(auto, unfolding(crate::specs::Faults::carried_fault))]
-fn carried(octets: &[u8], at: usize) -> Result<FrameBuf, UnitFault>
+fn carried(octets: &[u8], at: usize) -> Result<OctetRef<'_>, UnitFault>
     requires place { at ≤ 7 }
     requires frame { length octets.now ≤ 400 }
     ensures { ReadsUnless (carried_fault at octets.now) result
@@ -125,12 +125,12 @@ fn carried(octets: &[u8], at: usize) -> Result<FrameBuf, UnitFault>
     if code != 2 {
         return Err(Fault::at(UnitFaultKind::Dispatch, at));
     }
-    Ok(FrameBuf::from_octets(rest_at(octets, at + 1)))
+    Ok(OctetRef::new(rest_at(octets, at + 1)))
 }
 
 // A command alone, from its code on.
 #[tactic(auto, unfolding(crate::specs::Faults::local_fault))]
-pub(crate) fn local(octets: &[u8], at: usize) -> Result<Unit, UnitFault>
+pub(crate) fn local(octets: &[u8], at: usize) -> Result<Unit<'_>, UnitFault>
     requires place { at ≤ 7 }
     requires frame { length octets.now ≤ 400 }
     ensures { ReadsUnless (local_fault at octets.now) result
@@ -142,13 +142,13 @@ pub(crate) fn local(octets: &[u8], at: usize) -> Result<Unit, UnitFault>
     }
     Ok(Unit::Local {
         code,
-        body: FrameBuf::from_octets(rest_at(octets, at + 1)),
+        body: OctetRef::new(rest_at(octets, at + 1)),
     })
 }
 
 // What stands behind a mesh header.
 #[tactic(auto, unfolding(crate::specs::Faults::load_fault))]
-pub(crate) fn load_of(octets: &[u8], mesh: Mesh, at: usize) -> Result<Unit, UnitFault>
+pub(crate) fn load_of(octets: &[u8], mesh: Mesh, at: usize) -> Result<Unit<'_>, UnitFault>
     requires mesh { IsMesh mesh }
     requires place { at ≤ 6 }
     requires frame { length octets.now ≤ 400 }

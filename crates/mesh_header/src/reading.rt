@@ -23,7 +23,7 @@ fn first_of(octets: &[u8]) -> u8
 }
 
 // The unit that the octets spell, or the first fault.
-fn unit_of(octets: &[u8]) -> Result<Unit, UnitFault>
+fn unit_of(octets: &[u8]) -> Result<Unit<'_>, UnitFault>
     requires { length octets.now ≤ 400 }
     ensures found { IfOk result (λ unit. Spells unit octets.now) }
     ensures exact { MatchResult result (λ unit. unit_fault octets.now ≡ None) (λ e. unit_fault octets.now ≡ Some e) }
@@ -44,7 +44,7 @@ fn unit_of(octets: &[u8]) -> Result<Unit, UnitFault>
 /// The unit that the octets spell, all of them. Where they spell none, the first fault from the left, with its place.
 ///
 /// A frame's payload has at most 381 octets; here at most 400 are allowed.
-pub fn read_unit(octets: &[u8]) -> Result<Unit, UnitFault>
+pub fn read_unit(octets: &[u8]) -> Result<Unit<'_>, UnitFault>
     requires { length octets.now ≤ 400 }
     // What is read is spelled so.
     ensures found { IfOk result (λ unit. Spells unit octets.now) }

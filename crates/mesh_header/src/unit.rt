@@ -1,6 +1,6 @@
 //! Units.
 use crate::piece::Piece;
-use plc_base::{FrameBuf, Short};
+use plc_base::{OctetRef, Short};
 
 /// A mesh header with short addresses (RFC 4944, 5.2).
 #[derive(Clone, Copy, Debug, PartialEq, Eq, Drop)]
@@ -13,35 +13,35 @@ pub struct Mesh {
     pub to: Short,
 }
 
-/// The payload of a MAC frame.
-#[derive(Debug, Drop)]
-pub enum Unit {
+/// The payload of a MAC frame. Its octets stay where they are, so that nothing is copied with it.
+#[derive(Drop)]
+pub enum Unit<'a> {
     /// A whole datagram of 1 to 375 octets.
     Whole {
         /// The mesh header in front.
         mesh: Mesh,
         /// The datagram.
-        octets: FrameBuf,
+        octets: OctetRef<'a>,
     },
     /// A piece of a datagram.
     Part {
         /// The mesh header in front.
         mesh: Mesh,
         /// The piece.
-        piece: Piece,
+        piece: Piece<'a>,
     },
     /// A joining command that is carried over the mesh.
     Carried {
         /// The mesh header in front.
         mesh: Mesh,
         /// What stands behind the code 02.
-        body: FrameBuf,
+        body: OctetRef<'a>,
     },
     /// A command for the neighbour that hears it, with no mesh header.
     Local {
         /// The code: 1 to 5.
         code: u8,
         /// What stands behind the code.
-        body: FrameBuf,
+        body: OctetRef<'a>,
     },
 }

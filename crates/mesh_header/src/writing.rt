@@ -1,7 +1,7 @@
 //! Writes units.
 ghost use Rattle.std.specs.Prelude.{ℕ, ◌≡◌, ◌≤◌, ◌+◌, ◌++◌, List, [], length};
 ghost use Rattle.mesh_header.specs.Pieces.{IsPiece};
-ghost use Rattle.mesh_header.specs.Grammar.{IsAllowed, Spells, spelled_length, piece_spelling, spelling};
+ghost use Rattle.mesh_header.specs.Grammar.{IsAllowed, IsUnit, Spells, spelled_length, piece_spelling, spelling};
 
 use crate::meshes::write_mesh;
 use crate::piece::Piece;
@@ -9,7 +9,7 @@ use crate::unit::Unit;
 use plc_base::FrameBuf;
 
 #[tactic(auto, unfolding(crate::specs::Grammar::piece_spelling))]
-fn write_piece(piece: &Piece, out: &mut FrameBuf)
+fn write_piece(piece: &Piece<'_>, out: &mut FrameBuf)
     requires { length out.old + (5 + length piece.now.octets) ≤ 400 }
     ensures spelled { out.new ≡ out.old ++ piece_spelling piece.now }
     ensures longer { length out.new ≡ length out.old + (5 + length piece.now.octets) }
@@ -32,8 +32,7 @@ fn write_piece(piece: &Piece, out: &mut FrameBuf)
 /// Writes the one spelling of the unit, in place of what `out` held.
 ///
 /// A whole datagram has 1 to 375 octets and a command alone a code of 1 to 5; the spelling has at most 400 octets.
-#[tactic(auto, using(crate::proofs::Headers::hops_joins))]
-pub fn write_unit(unit: &Unit, out: &mut FrameBuf)
+pub fn write_unit(unit: &Unit<'_>, out: &mut FrameBuf)
     requires allowed { IsAllowed unit.now }
     requires room { spelled_length unit.now ≤ 400 }
     ensures spelled { Spells unit.now out.new }
@@ -42,6 +41,18 @@ pub fn write_unit(unit: &Unit, out: &mut FrameBuf)
     ensures one_spelling { (octets : List ℕ) → Spells unit.now octets → octets ≡ out.new }
 {
     out.clear();
+    append_unit(unit, out);
+}
+
+/// Appends the one spelling of the unit, as [`write_unit`] writes it.
+#[tactic(auto, using(crate::proofs::Headers::hops_joins))]
+pub fn append_unit(unit: &Unit<'_>, out: &mut FrameBuf)
+    requires allowed { IsAllowed unit.now }
+    requires room { length out.old + spelled_length unit.now ≤ 400 }
+    ensures spelled { out.new ≡ out.old ++ spelling unit.now }
+    ensures longer { length out.new ≡ length out.old + spelled_length unit.now }
+    ensures unit { IsUnit unit.now }
+{
     match unit {
         Unit::Whole { mesh, octets } => {
             write_mesh(mesh, out);

@@ -10,8 +10,6 @@ mod acks;
 mod checks;
 pub mod laws;
 mod tables;
-#[cfg(test)]
-mod tests;
 
 pub use acks::{read_ack, write_ack};
 pub use checks::{Checks, NotAwaited};

@@ -10,8 +10,6 @@ pub mod laws;
 mod message;
 mod reading;
 mod scan;
-#[cfg(test)]
-mod tests;
 mod writing;
 
 pub use agents::Agent;

@@ -10,8 +10,6 @@ mod message;
 mod reading;
 mod step;
 mod taking;
-#[cfg(test)]
-mod tests;
 mod walk;
 mod writing;
 
