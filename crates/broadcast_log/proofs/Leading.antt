@@ -1,5 +1,5 @@
 -- The put of a number and that of an admission lead from what the records gave to what they give.
-use Rattle.std.proofs.Common.{◌≡◌, ℕ, ◌+◌, ◌<◌, ◌≤◌, Bool, true, false, List, Option, Some, None, Ok, ap, ◌∙◌, cond, arith}
+use Rattle.std.proofs.Common.{◌≡◌, ℕ, ◌+◌, ◌<◌, ◌≤◌, Bool, true, false, List, Option, Some, None, ap, ◌∙◌, cond, arith}
 use Rattle.std.specs.Prelude.{IfSome}
 use Rattle.std.specs.FinMap.{insert}
 use Rattle.std.proofs.lemmas.Bool.{eqb-false}
@@ -7,7 +7,6 @@ use Rattle.byteorder.specs.Endian.{big_bytes}
 use Rattle.plc_base.specs.Keeper.{Records, Write}
 use Rattle.plc_base.specs.Writes.{puts_of}
 use Rattle.plc_base.specs.SlotTables.{slot_of}
-use Rattle.plc_base.specs.LeadingPuts.{PutsLead}
 use Rattle.plc_base.specs.Numberings.{IsCountingIn, passes, raised, limit_write}
 use Rattle.plc_base.specs.Marks.{AreMarksIn, has_room}
 use Rattle.plc_base.proofs.StoreLemmas.{get-insert_other}
@@ -17,7 +16,7 @@ use Rattle.plc_base.proofs.MarkEntries.{room_has, keep_write-within}
 use Rattle.plc_base.proofs.LeadingMarks.{admissions_lead}
 use Rattle.broadcast_log.specs.declared.fault.LogFault.TheVariants.{Old, OriginsFull}
 use Rattle.broadcast_log.specs.NextNumber.{Numbering, limit_in, limit_slot, number_put, numbered, is_spent}
-use Rattle.broadcast_log.specs.OriginMarks.{Marks, marks, room_for, keep_write, kept_after}
+use Rattle.broadcast_log.specs.OriginMarks.{Marks, marks, keep_write, kept_after}
 use Rattle.broadcast_log.specs.Log.{Log, numbered_log, admitted_log}
 use Rattle.broadcast_log.specs.Laws.{IsLogIn, NumbersLead, AdmissionsLead}
 

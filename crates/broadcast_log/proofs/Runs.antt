@@ -1,11 +1,11 @@
 -- Over any calls, failed puts and new starts.
-use Rattle.std.proofs.Common.{◌≡◌, ℕ, ◌+◌, ◌^◌, ◌<◌, ◌≤◌, true, false, List, ◌∷◌, Option, Some, Result, Ok, Err, refl, inl, inr, ap, subst, arith}
+use Rattle.std.proofs.Common.{◌≡◌, ℕ, ◌+◌, ◌^◌, ◌<◌, ◌≤◌, true, false, List, ◌∷◌, Option, Some, Result, Ok, Err, refl, inl, inr, subst, arith}
 use Rattle.std.specs.Option.{option_map}
 use Rattle.std.specs.FinMap.{get}
 use Rattle.std.proofs.lemmas.Bool.{eqb-false}
 use Rattle.plc_base.specs.Keeper.{Records, SameOutside}
 use Rattle.plc_base.specs.SlotTables as slots
-use Rattle.plc_base.specs.SlotTables.{IsGapless, slot_of}
+use Rattle.plc_base.specs.SlotTables.{slot_of}
 use Rattle.plc_base.specs.declared.keeper.BadStore.{BadStore}
 use Rattle.plc_base.specs.Numberings.{AllBelow}
 use Rattle.plc_base.specs.Marks.{has_room}

@@ -7,16 +7,20 @@ use Rattle.plc_base.specs.declared.marks.Mark.{Mark}
 use Rattle.broadcast_log.specs.declared.fault.LogFault.{LogFault}
 use Rattle.broadcast_log.specs.declared.fault.LogFault.TheVariants.{Old, OriginsFull}
 
+-- an origin: its address, the number that was last admitted of it, and the stored mark
+abbrev pub OriginMark : Type 0
+OriginMark = Mark 0x0300 32
+
 -- the origins in the order of their slots
 abbrev pub Marks : Type 0
 Marks = tables.Table 0x0300 32
 
 -- an origin as a new start finds it
-abbrev pub at_rest : Mark 0x0300 32 → Mark 0x0300 32
+abbrev pub at_rest : OriginMark → OriginMark
 at_rest entry = tables.at_rest 0x0300 32 entry
 
 -- how the origins are stored
-abbrev pub marks : slots.Layout (Mark 0x0300 32)
+abbrev pub marks : slots.Layout OriginMark
 marks = tables.layout 0x0300 32
 
 -- no mark is above the stored one
@@ -26,6 +30,22 @@ IsCovered table = tables.IsCovered 0x0300 32 table
 -- What the table holds as stored is what the records give, and no record stands behind them.
 abbrev pub AreMarksKept : Marks → Records → Type 0
 AreMarksKept table records = tables.IsKept 0x0300 32 table records
+
+-- the place of an origin in the table
+abbrev pub place_of : Marks → ℕ → Option ℕ
+place_of table origin = tables.place_of 0x0300 32 table origin
+
+-- the entry at a place of the table
+abbrev pub mark_at : Marks → ℕ → OriginMark
+mark_at table place = tables.mark_at 0x0300 32 table place
+
+-- an entry whose stored mark is ahead of its number
+abbrev pub mark_ahead : ℕ → ℕ → OriginMark
+mark_ahead origin number = tables.mark_ahead 0x0300 32 origin number
+
+-- an entry with a later number: its stored mark stays where it covers the number, and goes ahead of it where not
+abbrev pub advanced : OriginMark → ℕ → ℕ → OriginMark
+advanced entry origin number = tables.advanced 0x0300 32 entry origin number
 
 -- the mark of an origin, if it is held
 abbrev pub mark_of : Marks → ℕ → Option ℕ

@@ -1,5 +1,5 @@
 -- What may happen to a log: numbers given out, broadcasts admitted, failed puts and new starts.
-use Rattle.std.specs.Prelude.{◌≡◌, ◌≢◌, ℕ, ◌^◌, ◌<◌, true, false, List, [], ◌∷◌, Option, Some, None, Ok}
+use Rattle.std.specs.Prelude.{◌≡◌, ℕ, ◌^◌, ◌<◌, true, false, List, [], ◌∷◌, Option, Some, None, Ok}
 use Rattle.std.specs.FinMap.{get}
 use Rattle.plc_base.specs.Keeper.{Records, Store, Stores}
 use Rattle.plc_base.specs.SlotTables.{IsGapless, slot_of}

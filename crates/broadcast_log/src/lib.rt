@@ -10,8 +10,6 @@ mod fault;
 pub mod laws;
 mod log;
 mod reading;
-#[cfg(test)]
-mod tests;
 mod writing;
 
 pub use broadcast::{Broadcast, BroadcastBuf};

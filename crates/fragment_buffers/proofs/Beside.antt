@@ -1,7 +1,7 @@
 -- Chains of the pool that no reassembly has leave the reassemblies as they are.
 use Rattle.std.proofs.Common.{◌≡◌, ℕ, ◌<◌, List, length, ap, subst, ◌∙◌}
 use Rattle.block_pool.specs.Pool.{PoolState, IsChain, chain_octets}
-use Rattle.fragment_buffers.specs.Entries.{Entry, Keeps, IsBounded, IsOther, entry_at}
+use Rattle.fragment_buffers.specs.Entries.{Entry, Keeps, IsBounded, entry_at}
 use Rattle.fragment_buffers.specs.Laws.{IsBeside, AreKept}
 use Rattle.fragment_buffers.proofs.Keeping.{kept_chain, told_same}
 

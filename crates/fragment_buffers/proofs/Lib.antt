@@ -1,6 +1,7 @@
 pub mod Apart
 pub mod Cuts
 pub mod Expiring
+pub mod FirstEnds
 pub mod Octets
 pub mod PiecesHeld
 pub mod Keeping

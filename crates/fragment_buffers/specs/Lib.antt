@@ -2,6 +2,7 @@ pub mod Answers
 pub mod Buffer
 pub mod Cutting
 pub mod Entries
+pub mod FirstEnd
 pub mod Holding
 pub mod Laws
 pub mod Loads

@@ -9,12 +9,13 @@ ghost use Rattle.mesh_header.specs.Pieces.{IsPiece};
 ghost use Rattle.fragment_buffers.specs.Entries.{Entry, IsEntry, reassembly_in, place_of, same_place, meet, covers, IsCovered, HasGap};
 ghost use Rattle.fragment_buffers.specs.Reassembly.{begun, placed, datagram_of};
 ghost use Rattle.fragment_buffers.specs.Taking.{grown};
+ghost use Rattle.fragment_buffers.specs.FirstEnd.{end_by};
 
 use crate::place::Place;
 use arrayvec::ArrayVec;
 use block_pool::{Chain, Pool};
 use mesh_header::Piece;
-use plc_base::{DatagramBuf, Short, is_within};
+use plc_base::{DatagramBuf, Short, earlier_end, is_within};
 use std::marker::Model;
 
 /// The most pieces of a datagram: each begins at a unit of 8 octets of its own, of which 1,280 octets have 160.
@@ -52,7 +53,7 @@ impl Buffer {
     pub(crate) fn begin(
         pool: &mut Pool,
         origin: Short,
-        piece: &Piece,
+        piece: &Piece<'_>,
         note: u32,
         now: u64,
     ) -> Buffer
@@ -96,8 +97,15 @@ impl Buffer {
         !is_within(60, now, self.since)
     }
 
+    /// A time, or when it expires, where that is earlier.
+    pub(crate) fn end_by(&self, time: u64) -> u64
+        ensures { result ≡ end_by time self.now }
+    {
+        earlier_end(60, time, self.since)
+    }
+
     /// Whether a held piece has the place and the length of this one.
-    pub(crate) fn repeats(&self, piece: &Piece) -> bool
+    pub(crate) fn repeats(&self, piece: &Piece<'_>) -> bool
         ensures value { result ≡ list_any (same_place (place_of piece.now)) self.now.places }
         ensures rule { IsEntry self.now }
     {
@@ -106,7 +114,7 @@ impl Buffer {
     }
 
     /// Whether a held piece has an octet where this one has one.
-    fn overlaps(&self, piece: &Piece) -> bool
+    fn overlaps(&self, piece: &Piece<'_>) -> bool
         ensures value { result ≡ list_any (meet (place_of piece.now)) self.now.places }
         ensures rule { IsEntry self.now }
     {
@@ -119,7 +127,7 @@ impl Buffer {
     }
 
     /// Writes the piece's octets to their place in the chain, and lists the place.
-    fn write(&mut self, pool: &mut Pool, piece: &Piece)
+    fn write(&mut self, pool: &mut Pool, piece: &Piece<'_>)
         requires rule { IsPiece piece.now }
         requires size { self.old.size ≡ piece.now.size }
         requires chain { length (chain_octets pool.old self.old.chain) ≡ self.old.size }
@@ -139,7 +147,7 @@ impl Buffer {
     }
 
     /// Takes a piece of its name in. Where the piece overlaps another one, all is discarded, and it begins anew with this piece.
-    pub(crate) fn grow(&mut self, pool: &mut Pool, piece: &Piece, note: u32, now: u64)
+    pub(crate) fn grow(&mut self, pool: &mut Pool, piece: &Piece<'_>, note: u32, now: u64)
         requires rule { IsPiece piece.now }
         requires size { self.old.size ≡ piece.now.size }
         requires tag { self.old.tag ≡ piece.now.tag }

@@ -3,7 +3,6 @@ ghost use Rattle.std.specs.Prelude.{◌≡◌, ◌≤◌, ◌<◌, Some, length,
 ghost use Rattle.fragment_buffers.specs.Cutting.{pieces_of, piece_of, cut};
 
 use mesh_header::Piece;
-use plc_base::FrameBuf;
 
 /// The octets of each piece but the last.
 const PIECE: usize = 368;
@@ -24,7 +23,7 @@ pub fn pieces(octets: u16) -> u8
 ///
 /// The piece has the datagram's size and this tag, stands at 46 times `k` units of 8 octets, and has 368 octets or, as the last
 /// one, those that are left.
-pub fn cut_piece(datagram: &[u8], tag: u16, k: u8) -> Piece
+pub fn cut_piece(datagram: &[u8], tag: u16, k: u8) -> Piece<'_>
     requires long { (376 ≤ length datagram.now) × (length datagram.now ≤ 1280) }
     requires there { k < pieces_of (length datagram.now) }
     ensures value { result ≡ piece_of datagram.now tag k }
@@ -32,6 +31,6 @@ pub fn cut_piece(datagram: &[u8], tag: u16, k: u8) -> Piece
 {
     let size = datagram.len() as u16;
     let left = &datagram[PIECE * k as usize..];
-    let octets = FrameBuf::from_octets(&left[..PIECE.min(left.len())]);
+    let octets = &left[..PIECE.min(left.len())];
     Piece::new(size, tag, 46 * k, octets).unwrap()
 }

@@ -12,8 +12,6 @@ mod laws;
 mod next_tag;
 mod place;
 mod reassembly;
-#[cfg(test)]
-mod tests;
 
 pub use cutting::{cut_piece, pieces};
 pub use laws::{

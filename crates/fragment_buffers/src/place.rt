@@ -14,7 +14,7 @@ pub struct Place {
 }
 
 impl Place {
-    pub(crate) fn of(piece: &Piece) -> Place
+    pub(crate) fn of(piece: &Piece<'_>) -> Place
         ensures { result ≡ place_of piece.now }
     {
         Place {

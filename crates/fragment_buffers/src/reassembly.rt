@@ -1,10 +1,11 @@
 //! The reassemblies of a node.
 ghost use Rattle.std.specs.Prelude.{◌≡◌, ℕ, ◌+◌, ◌<◌, ◌≤◌, ◌↔◌, ◌⊎◌, [], ◌∷◌, ◌++◌, length, false, IsErr, OnErr, IfSome, IfNone, slice_set};
 ghost use Rattle.std.specs.List.{remove};
-ghost use Rattle.block_pool.specs.Pool.{IsChain, chain_octets};
+ghost use Rattle.block_pool.specs.Pool.{PoolState, IsChain, chain_octets};
 ghost use Rattle.mesh_header.specs.Pieces.{IsPiece};
 ghost use Rattle.fragment_buffers.specs.Reassembly.{begun, placed};
 ghost use Rattle.fragment_buffers.specs.Taking.{taken, unexpired, blocks, grown};
+ghost use Rattle.fragment_buffers.specs.FirstEnd.{first_end, IsStill};
 ghost use Rattle.fragment_buffers.specs.Entries.{entry_at, blocks_used, reassembly_in, told, Keeps, Moves, IsBounded, IsOther};
 ghost use Rattle.fragment_buffers.specs.Answers.{answer_of, taken_of, octets_of, has_name, joined_at, settled_at, NoneIsNamed};
 
@@ -93,7 +94,7 @@ impl Reassembly {
         &mut self,
         pool: &mut Pool,
         origin: Short,
-        piece: &Piece,
+        piece: &Piece<'_>,
         note: u32,
         now: u64,
         out: &mut DatagramBuf,
@@ -134,6 +135,25 @@ impl Reassembly {
         }
     }
 
+    // When the first reassembly expires, the last second of 64 bits where none does.
+    #[tactic(auto, unfolding(crate::specs::FirstEnd::first_end))]
+    fn first_end(&self) -> u64
+        ensures { result ≡ first_end self.now }
+    {
+        let mut end = u64::MAX;
+        for buffer in self.buffers.iter() {
+            end = buffer.end_by(end);
+        }
+        end
+    }
+
+    /// When a reassembly expires at the earliest: before that, none does.
+    pub fn next_end(&self) -> u64
+        ensures { (pool : PoolState) → IsStill result (told pool self.now) }
+    {
+        self.first_end()
+    }
+
     /// Drops all reassemblies, and gives their chains back.
     pub fn clear(&mut self, pool: &mut Pool)
         requires keeps { Keeps pool.old self.old }
@@ -168,7 +188,7 @@ impl Reassembly {
         &mut self,
         pool: &mut Pool,
         origin: Short,
-        piece: &Piece,
+        piece: &Piece<'_>,
         note: u32,
         now: u64,
         out: &mut DatagramBuf,
@@ -195,7 +215,7 @@ impl Reassembly {
     }
 
     /// Begins a reassembly behind all others.
-    fn push(&mut self, pool: &mut Pool, origin: Short, piece: &Piece, note: u32, now: u64)
+    fn push(&mut self, pool: &mut Pool, origin: Short, piece: &Piece<'_>, note: u32, now: u64)
         requires keeps { Keeps pool.old self.old }
         requires rule { IsPiece piece.now }
         requires room { (length self.old < 8) × (blocks_used self.old + blocks piece.now.size ≤ 80) }
@@ -214,7 +234,7 @@ impl Reassembly {
         &mut self,
         pool: &mut Pool,
         index: usize,
-        piece: &Piece,
+        piece: &Piece<'_>,
         note: u32,
         now: u64,
         out: &mut DatagramBuf,
@@ -240,7 +260,7 @@ impl Reassembly {
     }
 
     /// Adds a piece to a reassembly, or begins it anew with the piece where that overlaps another one.
-    fn grow(&mut self, pool: &mut Pool, index: usize, piece: &Piece, note: u32, now: u64)
+    fn grow(&mut self, pool: &mut Pool, index: usize, piece: &Piece<'_>, note: u32, now: u64)
         requires keeps { Keeps pool.old self.old }
         requires rule { IsPiece piece.now }
         requires there { index < length self.old }

@@ -1,6 +1,6 @@
 -- A counter is admitted only above all that were admitted of its sender.
 use Rattle.std.proofs.Common.{◌≡◌, ℕ, ◌^◌, ◌<◌, true, List, Option, Some, Ok}
-use Rattle.plc_base.specs.Keeper.{Records, Store}
+use Rattle.plc_base.specs.Keeper.{Records}
 use Rattle.plc_base.specs.Marks.{has_room}
 use Rattle.plc_base.specs.AdmittedNumbers.{Admitted, AllEarlier}
 use Rattle.plc_base.proofs.MarkEntries.{room_has}

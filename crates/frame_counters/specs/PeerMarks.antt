@@ -1,5 +1,5 @@
 -- The marks of the senders, and what the calls on them do: a table of marks (`Marks` of `plc_base`) at the slots 0100 to 013F.
-use Rattle.std.specs.Prelude.{◌≡◌, ℕ, Bool, true, false, if◌then◌else◌, List, Option, Some, None, Result, Ok, Err}
+use Rattle.std.specs.Prelude.{ℕ, Bool, true, false, if◌then◌else◌, List, Option, None, Result, Ok, Err}
 use Rattle.std.specs.Coded.{Coded}
 use Rattle.plc_base.specs.Keeper.{Records, Write}
 use Rattle.plc_base.specs.SlotTables as slots

@@ -5,8 +5,6 @@ mod fault;
 pub mod laws;
 mod peer_marks;
 mod send_counter;
-#[cfg(test)]
-mod tests;
 
 pub use fault::{CounterFault, PeerFault};
 pub use peer_marks::{Peer, PeerMarks};

@@ -1,15 +1,13 @@
 -- What is looked up after an entry was written, and that the puts of a ring and of an entry lead to what the records give.
-use Rattle.std.proofs.Common.{◌≡◌, ◌≢◌, ℕ, zero, suc, ◌+◌, ◌≤◌, ◌<◌, Bool, true, false, cond, List, [], ◌∷◌, ◌++◌, length, set, get_or, Option, Some, None, refl, sym, ap, ◌∙◌, subst, arith}
-use Rattle.std.specs.Prelude.{if◌then◌else◌, All, is_some, ◌||◌, ◌==◌, nat_lt, slice_get, IfSome}
+use Rattle.std.proofs.Common.{◌≡◌, ◌≢◌, ℕ, ◌+◌, ◌<◌, Bool, true, false, [], ◌∷◌, ◌++◌, length, set, Option, Some, None, refl, sym, ap, ◌∙◌, subst, arith}
+use Rattle.std.specs.Prelude.{if◌then◌else◌, All, is_some, ◌||◌, nat_lt, slice_get, IfSome}
 use Rattle.std.specs.Option.{option_map, option_map_or, option_and_then}
 use Rattle.std.specs.FinMap.{insert}
 use Rattle.std.proofs.lemmas.Bool.{ltb-true}
-use Rattle.std.proofs.lemmas.Bool.Decides.{nat_tests}
 use Rattle.std.proofs.lemmas.List.Elements.{All-set, All-push}
-use Rattle.plc_base.specs.Keeper.{Records, Write}
+use Rattle.plc_base.specs.Keeper.{Records}
 use Rattle.plc_base.specs.Writes.{puts_of}
 use Rattle.plc_base.specs.LeadingPuts.{PutsLead}
-use Rattle.plc_base.specs.SlotTables as slots
 use Rattle.plc_base.proofs.LeadingPuts.{leads_one, leads_beside}
 use Rattle.plc_base.proofs.LookUps.{entry_set, entry_set_other, entry_push, entry_push_other, place_push}
 use Rattle.plc_base.proofs.StoreLemmas.{get-insert_same}

@@ -6,8 +6,6 @@ mod fields;
 mod key_book;
 mod key_ring;
 pub mod laws;
-#[cfg(test)]
-mod tests;
 
 pub use fault::{BookFault, RingFault};
 pub use key_book::{BookEntry, KeyBook};

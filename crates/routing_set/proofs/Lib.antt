@@ -2,6 +2,7 @@ pub mod Limits
 pub mod Entries
 pub mod FloorRecords
 pub mod Endings
+pub mod FirstEnds
 pub mod Offers
 pub mod Gapless
 pub mod RankOrder

@@ -1,13 +1,13 @@
 -- Each next hop stays but that of the route that ends.
 use Rattle.std.proofs.Common.{◌≡◌, ◌≢◌, ◌⊎◌, inl, inr, ℕ, Bool, true, false, cond, List, [], ◌∷◌, map, Option, Some, None, refl, sym, ap, ◌∙◌}
-use Rattle.std.specs.Prelude.{◌==◌, ◌&&◌, if◌then◌else◌}
+use Rattle.std.specs.Prelude.{◌==◌, ◌&&◌}
 use Rattle.std.specs.List.{find}
 use Rattle.std.specs.Option.{option_map, option_and_then}
 use Rattle.std.proofs.lemmas.Bool.{cases_eq}
 use Rattle.routing_set.specs.declared.rank.Rank.{Rank}
 use Rattle.routing_set.specs.declared.entry.Route.{Route}
 use Rattle.routing_set.specs.declared.entry.RoutingEntry.{RoutingEntry}
-use Rattle.routing_set.specs.RoutingSet.{Routing, goes_by, without_route, without_next_to, next_of, route_of}
+use Rattle.routing_set.specs.RoutingSet.{Routing, goes_by, without_route, without_next_to, next_of}
 use Rattle.routing_set.specs.Laws.{hop_after}
 use Rattle.routing_set.proofs.LookUps.{is_at, is_at-true, is_at-false}
 use Rattle.routing_set.proofs.Rising.{route-by}

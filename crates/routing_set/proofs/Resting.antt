@@ -1,9 +1,9 @@
 -- What is opened has no valid route.
-use Rattle.std.proofs.Common.{◌≡◌, ℕ, zero, Bool, true, false, cond, List, [], ◌∷◌, Option, Some, None, refl, sym, ap, ◌∙◌}
+use Rattle.std.proofs.Common.{◌≡◌, ℕ, zero, Bool, true, false, cond, List, [], ◌∷◌, Option, Some, None, get_or, refl, sym, ap, ◌∙◌}
 use Rattle.std.specs.List.{find}
 use Rattle.std.specs.Option.{option_and_then}
 use Rattle.std.specs.FinMap.{get}
-use Rattle.std.proofs.lemmas.Option.{slice_get_within}
+use Rattle.std.proofs.lemmas.Option.{slice_get_within, slice_get-get_or}
 use Rattle.plc_base.specs.Keeper.{Records}
 use Rattle.plc_base.specs.SlotTables as slots
 use Rattle.routing_set.specs.declared.entry.RoutingEntry.{RoutingEntry}
@@ -12,6 +12,8 @@ use Rattle.routing_set.specs.Laws.{Among}
 use Rattle.routing_set.proofs.Offers.{behind}
 use Rattle.routing_set.proofs.Rising.{route-by}
 use Rattle.routing_set.proofs.LookUps.{is_at}
+use Rattle.routing_set.specs.FirstEnd.{IsStill}
+use Rattle.routing_set.proofs.FirstEnds.{still_unrouted}
 
 find_among : (p : RoutingEntry → Bool) (entries : List RoutingEntry) (e : RoutingEntry) → find p entries ≡ Some e → Among entries e
 find_among p [] e h = absurd (cc (h))
@@ -40,3 +42,8 @@ pub read_unrouted : (records : Records) (floors : List ℕ) (entries : List Rout
     → route_of (record { entries = entries; floors = floors }) dest ≡ None
 read_unrouted records floors entries dest reading =
     route-by (record { entries = entries; floors = floors }) dest ∙ found_rests records entries dest (find (is_at dest) entries) reading refl
+
+-- so none ends before any time
+pub read_still : (records : Records) (entries : List RoutingEntry) (time : ℕ) → slots.IsReading ranks entries records → IsStill time entries
+read_still records entries time reading =
+    still_unrouted time entries (λ k d lt. entry_rests records entries (get_or entries k d) reading (record { place = k; there = slice_get-get_or entries k d lt }))

@@ -2,5 +2,6 @@ pub mod Ranks
 pub mod OwnNumber
 pub mod RoutingSet
 pub mod Endings
+pub mod FirstEnd
 pub mod Histories
 pub mod Laws

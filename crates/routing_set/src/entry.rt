@@ -1,10 +1,11 @@
 //! What is kept of one address.
 ghost use Rattle.std.specs.Prelude.{◌≡◌, Option};
+ghost use Rattle.routing_set.specs.FirstEnd.{end_by};
 ghost use Rattle.routing_set.specs.RoutingSet.{is_fresh, goes_before, comes_first, first_of, is_old, goes_by};
 
 use crate::Rank;
 use byteorder::{BigEndian, ByteOrder};
-use plc_base::{Record, Short, SlotEntry, is_within};
+use plc_base::{Record, Short, SlotEntry, earlier_end, is_within};
 
 /// A valid route.
 #[derive(Clone, Copy, Debug, PartialEq, Eq)]
@@ -97,6 +98,16 @@ impl RoutingEntry {
         match self.route {
             Some(route) => !is_within(VALID_TIME, now, route.offered),
             None => false,
+        }
+    }
+
+    // A time, or when its valid route ends, where that is earlier.
+    pub(crate) fn end_by(&self, time: u64) -> u64
+        ensures { result ≡ end_by time self.now }
+    {
+        match self.route {
+            Some(route) => earlier_end(VALID_TIME, time, route.offered),
+            None => time,
         }
     }
 

@@ -10,8 +10,6 @@ pub mod laws;
 mod own_number;
 mod rank;
 mod routing_set;
-#[cfg(test)]
-mod tests;
 
 pub use entry::{Route, RoutingEntry};
 pub use fault::{NumberFault, OfferFault, Offered};

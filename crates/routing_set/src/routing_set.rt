@@ -8,6 +8,7 @@ ghost use Rattle.plc_base.specs.Writes.{Wrote};
 ghost use Rattle.plc_base.specs.SlotTables.{IsTable, IsGapless, IsReading};
 ghost use Rattle.routing_set.specs.Ranks.{beats, rank_by};
 ghost use Rattle.routing_set.specs.Endings.{takes};
+ghost use Rattle.routing_set.specs.FirstEnd.{first_end, IsStill};
 ghost use Rattle.routing_set.specs.RoutingSet.{Routing, ranks, IsKept, IsSomeOffered, IsBad, SameElsewhere, opened, at_rest, place_of, rank_of, route_of, next_of, held, floor_of, is_better, is_full, is_fresh, first_to_go, offered, half_offered, offer_writes, entered, half_entered, entry_writes, Keeps, writes_of, half_of, after_of, offer_result, offer_puts, offer_after, is_stored, ended, without_next, without_next_to, expired};
 
 use crate::ending::Ending;
@@ -29,6 +30,8 @@ use std::marker::Model;
 pub struct RoutingSet {
     table: SlotTable<RoutingEntry, 64>,
     floors: [u16; 16],
+    // No valid route ends before, in seconds.
+    next_end: u64,
 }
 
 impl Model for RoutingSet {
@@ -39,6 +42,10 @@ impl Model for RoutingSet {
     ghost coded = { routing_code };
 
     ghost view = { λ r. record { entries = r.table; floors = r.floors } };
+
+    ghost use Rattle.routing_set.specs.FirstEnd.{IsStill};
+
+    ghost invariant = { λ r. IsStill r.next_end r.table };
 }
 
 impl RoutingSet {
@@ -63,7 +70,11 @@ impl RoutingSet {
             return Err(BadStore { slot: FLOOR_SLOT });
         };
         let table = SlotTable::open(keeper)?;
-        Ok(RoutingSet { table, floors })
+        Ok(RoutingSet {
+            table,
+            floors,
+            next_end: u64::MAX,
+        })
     }
 
     /// The addresses with a kept rank, in ascending order: no two of them are one.
@@ -202,6 +213,7 @@ impl RoutingSet {
         let gone = self.first_to_go(now).unwrap();
         let place = self.table.place_of(gone.address.key()).unwrap();
         let floors = raise_floor(keeper, &self.floors, &gone)?;
+        self.next_end = entry.end_by(self.next_end);
         self.table.set_stored(keeper, place, entry)?;
         self.floors = floors;
         Ok(())
@@ -225,9 +237,15 @@ impl RoutingSet {
             (is_ok result) (K.store keeper.old).records (K.store keeper.new).records }
     {
         match self.table.place_of(entry.address.key()) {
-            Some(place) => self.table.set_stored(keeper, place, entry),
+            Some(place) => {
+                self.next_end = entry.end_by(self.next_end);
+                self.table.set_stored(keeper, place, entry)
+            }
             None if self.table.is_full() => self.replace(keeper, entry, now),
-            None => self.table.push_stored(keeper, entry),
+            None => {
+                self.next_end = entry.end_by(self.next_end);
+                self.table.push_stored(keeper, entry)
+            }
         }
     }
 
@@ -303,6 +321,25 @@ impl RoutingSet {
         }
     }
 
+    // When the first valid route ends, the last second of 64 bits where none does.
+    #[tactic(auto, unfolding(crate::specs::FirstEnd::first_end))]
+    fn first_end(&self) -> u64
+        ensures { result ≡ first_end self.now.entries }
+    {
+        let mut end = u64::MAX;
+        for entry in self.table.as_slice() {
+            end = entry.end_by(end);
+        }
+        end
+    }
+
+    // When a valid route ends at the earliest: before that, none does.
+    fn next_end(&self) -> u64
+        ensures { IsStill result self.now.entries }
+    {
+        self.first_end()
+    }
+
     // Ends routes. Every rank and floor stays.
     fn end_routes(&mut self, ending: &Ending)
         ensures routing { self.new ≡ ended (takes ending.now) self.old }
@@ -343,6 +380,10 @@ impl RoutingSet {
         ensures routing { self.new ≡ expired self.old now }
         ensures kept { (records : Records) → IsKept self.old records → IsKept self.new records }
     {
+        if now < self.next_end {
+            return;
+        }
         self.end_routes(&Ending::Old(now));
+        self.next_end = self.next_end();
     }
 }

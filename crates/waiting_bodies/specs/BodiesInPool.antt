@@ -8,6 +8,7 @@ use Rattle.fragment_buffers.specs.Entries.{Entry, Keeps, IsOther, IsBounded, blo
 use Rattle.fragment_buffers.specs.Loads.{load_of}
 use Rattle.fragment_buffers.specs.Waiting.{Body}
 use Rattle.waiting_bodies.specs.Bodies.{Held, Slot}
+use Rattle.waiting_bodies.specs.FirstEnd.{IsStill}
 use Rattle.waiting_bodies.specs.declared.bodies.Waiting.TheInside as waits
 use Rattle.waiting_bodies.specs.declared.bodies.Bodies.TheInside as bodies
 
@@ -56,3 +57,4 @@ held_in b = record { reassemblies = told b.pool b.reassembly; waiting = bodies_i
 pub record AreSound (b : bodies.Inside) : Type 0 where
   pub sound : IsSound b.pool b.reassembly b.waiting.items
   pub count : b.blocks ≡ blocks_of b.waiting.items
+  pub end : IsStill b.next_end (held_in b)

@@ -1,3 +1,4 @@
 pub mod Bodies
+pub mod FirstEnd
 pub mod BodiesInPool
 pub mod Frames

@@ -1,5 +1,5 @@
 //! The bodies that a node holds: datagrams that it gathers, and what waits for a route.
-ghost use Rattle.std.specs.Prelude.{◌≡◌, ◌==◌, ◌+◌, ◌<◌, ◌≤◌, [], ◌∷◌, ◌++◌, length, false, None, not, ℕ, IfOk};
+ghost use Rattle.std.specs.Prelude.{◌≡◌, ◌==◌, ◌+◌, ◌<◌, ◌≤◌, [], ◌∷◌, ◌++◌, length, false, None, not, ℕ, IfOk, fold};
 ghost use Rattle.std.specs.Int.{div_ceil};
 ghost use Rattle.std.specs.List.{remove, list_any, filter};
 ghost use Rattle.std.specs.FinMap as map;
@@ -10,6 +10,7 @@ ghost use Rattle.fragment_buffers.specs.Taking.{unexpired};
 ghost use Rattle.plc_base.specs.Times.{is_within};
 ghost use Rattle.fragment_buffers.specs.Loads.{load_of, units_in};
 ghost use Rattle.fragment_buffers.specs.Waiting.{waits_for, is_awaited_in, waiting_blocks, no_room_in, still_waiting, units_by, leaving};
+ghost use Rattle.waiting_bodies.specs.FirstEnd.{end_by, IsStill};
 ghost use Rattle.waiting_bodies.specs.Frames.{body_at, frames_of, with_frames};
 
 use crate::sealing::seal_load;
@@ -18,7 +19,7 @@ use arrayvec::ArrayVec;
 use block_pool::{Chain, Pool};
 use fragment_buffers::{BufferFull, Reassembly, Taken, pieces};
 use mesh_header::Piece;
-use plc_base::{DatagramBuf, Grant, Key, Out, Short, is_within};
+use plc_base::{DatagramBuf, Grant, Key, Out, Short, earlier_end, is_within};
 use std::alloc::{AllocError, Global};
 use std::marker::Model;
 
@@ -48,6 +49,13 @@ impl Model for Waiting {
 }
 
 impl Waiting {
+    // A time, or when it has waited for too long, where that is earlier.
+    fn end_by(&self, time: u64) -> u64
+        ensures { result ≡ end_by time self.now }
+    {
+        earlier_end(30, time, self.since)
+    }
+
     // Gives the chain back.
     fn give_back(self, pool: &mut Pool)
         requires some { 0 < self.size }
@@ -71,6 +79,8 @@ pub struct Bodies {
     reassembly: Reassembly,
     waiting: ArrayVec<Waiting, 8>,
     blocks: u16,
+    // Nothing ends before, in seconds.
+    next_end: u64,
 }
 
 impl Model for Bodies {
@@ -99,6 +109,17 @@ fn any_for(waiting: &ArrayVec<Waiting, 8>, to: Short) -> bool
         .any(|waiting| waiting.to.number() == to.number())
 }
 
+// A time, or when the first of the bodies has waited for too long, where that is earlier.
+fn first_end(waiting: &ArrayVec<Waiting, 8>, time: u64) -> u64
+    ensures { result ≡ fold end_by time waiting.now.items }
+{
+    let mut end = time;
+    for body in waiting.iter() {
+        end = body.end_by(end);
+    }
+    end
+}
+
 impl Bodies {
     /// No datagram and no body, over a pool of 160 blocks, which is all the memory that they ever take.
     ///
@@ -112,6 +133,7 @@ impl Bodies {
             reassembly: Reassembly::empty(),
             waiting: ArrayVec::new(),
             blocks: 0,
+            next_end: u64::MAX,
         })
     }
 
@@ -121,7 +143,7 @@ impl Bodies {
     pub fn gather(
         &mut self,
         origin: Short,
-        piece: &Piece,
+        piece: &Piece<'_>,
         note: u32,
         now: u64,
         out: &mut DatagramBuf,
@@ -131,6 +153,7 @@ impl Bodies {
         ensures held { self.new
             ≡ record self.old { reassemblies = (taken self.old.reassemblies origin piece.now note now).held } }
     {
+        self.next_end = earlier_end(60, self.next_end, now);
         self.reassembly
             .take(&mut self.pool, origin, piece, note, now, out)
     }
@@ -178,6 +201,7 @@ impl Bodies {
         };
         self.pool.write_at(&chain, 0, octets);
         self.blocks += size.div_ceil(64);
+        self.next_end = earlier_end(30, self.next_end, since);
         self.waiting.push(Waiting {
             to,
             note,
@@ -396,6 +420,13 @@ impl Bodies {
         }
     }
 
+    // When something ends at the earliest: before that, nothing does.
+    fn next_end(&self) -> u64
+        ensures { IsStill result self.now }
+    {
+        first_end(&self.waiting, self.reassembly.next_end())
+    }
+
     /// Drops the reassemblies that began 60 seconds ago or before, and the bodies that came 30 seconds ago or before.
     pub fn expire(&mut self, now: u64)
         ensures { self.new ≡ record {
@@ -403,7 +434,11 @@ impl Bodies {
           waiting = still_waiting now self.old.waiting;
         } }
     {
+        if now < self.next_end {
+            return;
+        }
         self.expire_gathered(now);
         self.expire_waiting(now);
+        self.next_end = self.next_end();
     }
 }

@@ -8,9 +8,9 @@ ghost use Rattle.waiting_bodies.specs.Frames.{unit_frame, frames_of, with_frames
 
 use aes_modes::Aes;
 use fragment_buffers::{cut_piece, pieces};
-use mac_frames::{MacHead, seal_frame};
-use mesh_header::{Mesh, Unit, write_unit};
-use plc_base::{FrameBuf, Grant, Key, Out, OutFrame, PAN, Short};
+use mac_frames::{MacHead, seal_written, write_header};
+use mesh_header::{Mesh, Unit, append_unit};
+use plc_base::{Grant, Key, OctetRef, Out, OutFrame, PAN, Short};
 
 /// Seals a unit under the active key of a grant, with a counter, and appends its frame to the others.
 ///
@@ -21,7 +21,7 @@ pub fn seal(
     aes: &Aes,
     counter: u32,
     to: u16,
-    unit: &Unit,
+    unit: &Unit<'_>,
     note: u32,
     out: &mut Out,
 )
@@ -33,8 +33,30 @@ pub fn seal(
     ensures { out.new ≡ with_frames (out.old.frames ++ unit_frame grant.now key.now counter
         (record { to = to; unit = unit.now; note = note }) ∷ []) out.old }
 {
-    let mut payload = FrameBuf::new();
-    write_unit(unit, &mut payload);
+    let Some(frame) = out.frames.push_blank() else {
+        unreachable!()
+    };
+    write_sealed(grant, key, aes, counter, to, unit, note, frame);
+}
+
+// Writes the frame of a unit where it stays: the header, the unit behind it, and then all of it sealed in place.
+fn write_sealed(
+    grant: &Grant,
+    key: &Key,
+    aes: &Aes,
+    counter: u32,
+    to: u16,
+    unit: &Unit<'_>,
+    note: u32,
+    frame: &mut OutFrame,
+)
+    requires aes { aes.now ≡ key.now.0 }
+    requires target { to ≢ 0xFFFE }
+    requires allowed { IsAllowed unit.now }
+    requires fits { spelled_length unit.now ≤ 381 }
+    ensures { frame.new ≡ unit_frame grant.now key.now counter
+        (record { to = to; unit = unit.now; note = note }) }
+{
     let head = MacHead::Sealed {
         ack: to != 0xFFFF,
         seq: (counter % 256) as u8,
@@ -44,13 +66,11 @@ pub fn seal(
         counter,
         index: grant.active,
     };
-    let mut octets = FrameBuf::new();
-    seal_frame(aes, &head, payload.octets(), &mut octets);
-    out.frames.push(OutFrame {
-        octets,
-        note,
-        key: Some(*key),
-    });
+    write_header(&head, &mut frame.octets);
+    append_unit(unit, &mut frame.octets);
+    seal_written(aes, &head, &mut frame.octets);
+    frame.note = note;
+    frame.key = Some(*key);
 }
 
 /// The mesh header of what a node sends itself.
@@ -131,7 +151,7 @@ pub fn seal_load(
     let Some(tag) = tag else {
         let unit = Unit::Carried {
             mesh: own_mesh(grant, to),
-            body: FrameBuf::from_octets(&octets[1..]),
+            body: OctetRef::new(&octets[1..]),
         };
         seal(grant, key, aes, first, hop.number(), &unit, note, out);
         return;
@@ -142,7 +162,7 @@ pub fn seal_load(
     }
     let unit = Unit::Whole {
         mesh: own_mesh(grant, to),
-        octets: FrameBuf::from_octets(octets),
+        octets: OctetRef::new(octets),
     };
     seal(grant, key, aes, first, hop.number(), &unit, note, out);
 }

@@ -11,7 +11,7 @@ of_octets size tag offset octets = record { size = size; tag = tag; offset = off
 cut_is : (c : goal.After-unwrap) → c.unwrap.result ≡ piece_of c.args.datagram.now c.args.tag c.args.k
 cut_is c =
     let value = rw c.unwrap.ensures at c.new.ensures.value in
-    let octets = c.from_octets-octets.ensures ∙ cut_octets c.args.datagram.now (368 * c.args.k) _ c.min.ensures in
+    let octets = cut_octets c.args.datagram.now (368 * c.args.k) _ c.min.ensures in
     value ∙ ap (of_octets (length c.args.datagram.now) c.args.tag (46 * c.args.k)) octets
 
 pub returns-clause-value : goal.returns-clause-value

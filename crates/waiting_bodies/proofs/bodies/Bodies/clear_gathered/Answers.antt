@@ -1,6 +1,8 @@
-use Rattle.std.proofs.Common.{ap}
+use Rattle.std.proofs.Common.{sym, subst, ap}
 use Rattle.fragment_buffers.specs.Entries.{told}
 use Rattle.waiting_bodies.proofs.Sound.{seen_moved, sound_moves, bounded_none}
+use Rattle.waiting_bodies.specs.FirstEnd.{IsStill}
+use Rattle.waiting_bodies.proofs.FirstEnds.{still_cleared}
 use Rattle.waiting_bodies.proofs.bodies.Bodies.clear_gathered.Goals as goal
 
 pub returns : goal.returns
@@ -13,4 +15,5 @@ invariant_of-self c = record {
   sound = sound_moves c.self.inside.pool c.clear.new.pool c.self.inside.reassembly c.clear.new.self c.self.inside.waiting.items c.self.invariant.sound c.clear.ensures.keeps
       (bounded_none c.clear.new.self c.clear.ensures.empty) c.clear.ensures.moves;
   count = c.self.invariant.count;
+  end = subst (IsStill c.self.inside.next_end) (sym (returns c)) (still_cleared c.args.self.now c.self.inside.next_end (subst (IsStill c.self.inside.next_end) c.self.view_is c.self.invariant.end));
 }

@@ -6,6 +6,8 @@ use Rattle.fragment_buffers.proofs.Writing.{stays-remove}
 use Rattle.waiting_bodies.specs.Bodies.{Held, Slot}
 use Rattle.waiting_bodies.specs.BodiesInPool.{IsSound, IsHeld, body_in, bodies_in}
 use Rattle.waiting_bodies.proofs.Sound.{Returns, sound_remove, told_remove, bodies_remove, seen_waiting, read_slot, blocks_less}
+use Rattle.waiting_bodies.specs.FirstEnd.{IsStill}
+use Rattle.waiting_bodies.proofs.FirstEnds.{still_removed}
 use Rattle.waiting_bodies.proofs.bodies.Bodies.drop_at.Goals as goal
 
 there : (c : goal.After-give_back) → c.args.index < length c.self.inside.waiting.items
@@ -24,6 +26,14 @@ returned c = record {
   others = λ d ne is. stays-remove c.self.inside.pool c.give_back.new.pool _ d c.give_back.ensures.chains ne is;
 }
 
+pub returns : goal.returns
+returns c =
+    seen_waiting c.self.inside.pool c.give_back.new.pool c.self.inside.reassembly c.self.inside.waiting.items c.remove-waiting.new.self.items c.args.self.now _ c.self.view_is
+    (told_remove c.self.inside.pool c.give_back.new.pool c.self.inside.reassembly c.self.inside.waiting.items c.args.index c.remove-waiting.result c.self.invariant.sound (returned c))
+    (ap (bodies_in c.give_back.new.pool) c.remove-waiting.ensures.items
+    ∙ bodies_remove c.self.inside.pool c.give_back.new.pool c.self.inside.reassembly c.self.inside.waiting.items c.args.index c.remove-waiting.result c.self.invariant.sound (returned c)
+    ∙ ap (λ (h : Held). remove h.waiting c.args.index) c.self.view_is)
+
 pub invariant_of-self : goal.invariant_of-self
 invariant_of-self c =
     let less = blocks_less c.self.inside.waiting.items c.remove-waiting.new.self.items c.args.index c.remove-waiting.result c.remove-waiting.ensures.items (there c)
@@ -33,12 +43,5 @@ invariant_of-self c =
       sound = subst (IsSound c.give_back.new.pool c.self.inside.reassembly) (sym c.remove-waiting.ensures.items)
           (sound_remove c.self.inside.pool c.give_back.new.pool c.self.inside.reassembly c.self.inside.waiting.items c.args.index c.remove-waiting.result c.self.invariant.sound (returned c));
       count = omega (arith, c.self.invariant.count, less, size);
+      end = subst (IsStill c.self.inside.next_end) (sym (returns c)) (still_removed c.args.self.now c.args.index c.self.inside.next_end (subst (IsStill c.self.inside.next_end) c.self.view_is c.self.invariant.end));
     }
-
-pub returns : goal.returns
-returns c =
-    seen_waiting c.self.inside.pool c.give_back.new.pool c.self.inside.reassembly c.self.inside.waiting.items c.remove-waiting.new.self.items c.args.self.now _ c.self.view_is
-    (told_remove c.self.inside.pool c.give_back.new.pool c.self.inside.reassembly c.self.inside.waiting.items c.args.index c.remove-waiting.result c.self.invariant.sound (returned c))
-    (ap (bodies_in c.give_back.new.pool) c.remove-waiting.ensures.items
-    ∙ bodies_remove c.self.inside.pool c.give_back.new.pool c.self.inside.reassembly c.self.inside.waiting.items c.args.index c.remove-waiting.result c.self.invariant.sound (returned c)
-    ∙ ap (λ (h : Held). remove h.waiting c.args.index) c.self.view_is)

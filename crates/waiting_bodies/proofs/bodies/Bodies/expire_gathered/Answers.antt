@@ -1,8 +1,10 @@
-use Rattle.std.proofs.Common.{ap, ◌∙◌, List}
+use Rattle.std.proofs.Common.{sym, subst, ap, ◌∙◌, List}
 use Rattle.fragment_buffers.specs.Taking.{unexpired}
 use Rattle.fragment_buffers.specs.Reassembly.{Reassembly}
 use Rattle.waiting_bodies.specs.Bodies.{Held}
 use Rattle.waiting_bodies.proofs.Sound.{seen_moved, sound_moves}
+use Rattle.waiting_bodies.specs.FirstEnd.{IsStill}
+use Rattle.waiting_bodies.proofs.FirstEnds.{still_left}
 use Rattle.waiting_bodies.proofs.bodies.Bodies.expire_gathered.Goals as goal
 
 pub returns : goal.returns
@@ -15,4 +17,5 @@ invariant_of-self c = record {
   sound = sound_moves c.self.inside.pool c.expire.new.pool c.self.inside.reassembly c.expire.new.self c.self.inside.waiting.items c.self.invariant.sound c.expire.ensures.keeps
       c.expire.ensures.bounded c.expire.ensures.moves;
   count = c.self.invariant.count;
+  end = subst (IsStill c.self.inside.next_end) (sym (returns c)) (still_left c.args.self.now c.args.now c.self.inside.next_end (subst (IsStill c.self.inside.next_end) c.self.view_is c.self.invariant.end));
 }

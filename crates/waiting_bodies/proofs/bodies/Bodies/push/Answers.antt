@@ -7,6 +7,8 @@ use Rattle.fragment_buffers.specs.Loads.{load_of}
 use Rattle.waiting_bodies.specs.Bodies.{Held, Slot}
 use Rattle.waiting_bodies.specs.BodiesInPool.{IsSound, bodies_in}
 use Rattle.waiting_bodies.proofs.Sound.{Reserves, HasRoom, room_is, sound_push, told_push, bodies_push, seen_waiting, blocks_more}
+use Rattle.waiting_bodies.specs.FirstEnd.{IsStill}
+use Rattle.waiting_bodies.proofs.FirstEnds.{still_pushed}
 use Rattle.waiting_bodies.proofs.bodies.Bodies.push.Goals.{After-push}
 use Rattle.waiting_bodies.proofs.bodies.Bodies.push.Goals as goal
 
@@ -55,14 +57,6 @@ write_at-requires-clause-ours c = IsChain-insert c.self.inside.pool c.reserve.ne
 pub write_at-requires-clause-room : goal.write_at-requires-clause-room
 write_at-requires-clause-room c = omega (arith, ap length (chain_octets-insert c.self.inside.pool c.reserve.new.self c.in-Ok.chain _ c.in-Ok.ensures.chains) ∙ length-replicate _ 0)
 
-pub invariant_of-self : goal.invariant_of-self
-unfolding slot
-invariant_of-self c = record {
-  sound = subst (IsSound c.write_at.new.self c.self.inside.reassembly) (sym c.push.ensures.items)
-      (sound_push c.self.inside.pool c.write_at.new.self c.self.inside.reassembly c.self.inside.waiting.items (slot c) c.args.octets.now c.self.invariant.sound (reserves c) (has_room c));
-  count = omega (arith, c.self.invariant.count, blocks_more c.self.inside.waiting.items _ (slot c) c.push.ensures.items);
-}
-
 pub returns : goal.returns
 unfolding slot
 returns c =
@@ -71,3 +65,14 @@ returns c =
     (ap (bodies_in c.write_at.new.self) c.push.ensures.items
     ∙ bodies_push c.self.inside.pool c.write_at.new.self c.self.inside.reassembly c.self.inside.waiting.items (slot c) c.args.octets.now c.self.invariant.sound (reserves c)
     ∙ ap (λ (h : Held). h.waiting ++ record { to = c.args.to; note = c.args.note; since = c.args.since; load = load_of c.args.tag c.args.octets.now } ∷ []) c.self.view_is)
+
+pub invariant_of-self : goal.invariant_of-self
+unfolding slot
+invariant_of-self c = record {
+  sound = subst (IsSound c.write_at.new.self c.self.inside.reassembly) (sym c.push.ensures.items)
+      (sound_push c.self.inside.pool c.write_at.new.self c.self.inside.reassembly c.self.inside.waiting.items (slot c) c.args.octets.now c.self.invariant.sound (reserves c) (has_room c));
+  count = omega (arith, c.self.invariant.count, blocks_more c.self.inside.waiting.items _ (slot c) c.push.ensures.items);
+  end = subst (IsStill c.earlier_end-self-inside.result) (sym (returns c))
+      (still_pushed c.args.self.now (record { to = c.args.to; note = c.args.note; since = c.args.since; load = load_of c.args.tag c.args.octets.now }) c.self.inside.next_end
+      c.earlier_end-self-inside.result c.earlier_end-self-inside.ensures (subst (IsStill c.self.inside.next_end) c.self.view_is c.self.invariant.end));
+}

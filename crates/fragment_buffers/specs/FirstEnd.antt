@@ -1,0 +1,18 @@
+-- When the first reassembly expires.
+use Rattle.std.specs.Prelude.{ℕ, ◌+◌, ◌≤◌, List, fold}
+use Rattle.std.specs.List.{All}
+use Rattle.plc_base.specs.Times.{earlier_end}
+use Rattle.fragment_buffers.specs.Reassembly.{Reassembly}
+use Rattle.fragment_buffers.specs.Entries.{Entry}
+
+-- a time, or when a reassembly expires, where that is earlier
+abbrev pub end_by : ℕ → Entry → ℕ
+end_by time e = earlier_end 60 time e.since
+
+-- when the first one expires, 2^64 - 1 where none is there or none expires before
+unfoldable pub first_end : List Entry → ℕ
+first_end entries = fold end_by 18446744073709551615 entries
+
+-- no reassembly expires before a time
+abbrev pub IsStill : ℕ → List Reassembly → Type 0
+IsStill time held = All (λ r. time ≤ r.since + 60) held

@@ -1,0 +1,78 @@
+-- Before the first valid route ends, none does.
+use Rattle.std.proofs.Common.{◌≡◌, ℕ, ◌+◌, ◌<◌, ◌≤◌, not, Bool, true, false, cond, List, [], ◌∷◌, Option, Some, None, map, get_or, refl, sym, ap, subst, ◌∙◌, arith}
+use Rattle.std.specs.Prelude.{fold}
+use Rattle.std.specs.List.{All}
+use Rattle.std.specs.Option.{option_map_or}
+use Rattle.std.proofs.lemmas.Bool.{cond-false, lt-ltb}
+use Rattle.std.proofs.lemmas.List.Elements.{All-nil, All-cons, All-head, All-tail, All-map}
+use Rattle.plc_base.specs.Times.{is_within, earlier_end}
+use Rattle.plc_base.proofs.EarlierEnds.{earlier}
+use Rattle.routing_set.specs.declared.entry.Route.{Route}
+use Rattle.routing_set.specs.declared.entry.RoutingEntry.{RoutingEntry}
+use Rattle.routing_set.specs.RoutingSet.{Routing, is_old, without_route, expired}
+use Rattle.routing_set.specs.FirstEnd.{end_by, first_end, Lasts, IsStill}
+
+-- a route lasts until every time before one until which it lasts
+sooner : (a b : ℕ) (route : Option Route) → a ≤ b → Lasts b route → Lasts a route
+sooner a b None le h = tt
+sooner a b (Some r) le h = omega (arith, le, h)
+
+-- with an entry more, the time is no later, and its route lasts until then
+with_one : (time : ℕ) (route : Option Route)
+    → (option_map_or (λ r. earlier_end 21600 time r.offered) route time ≤ time)
+    × Lasts (option_map_or (λ r. earlier_end 21600 time r.offered) route time) route
+with_one time None = (omega arith, tt)
+with_one time (Some r) = earlier time (r.offered + 21600)
+
+all_last : (entries : List RoutingEntry) (time : ℕ) → (fold end_by time entries ≤ time) × IsStill (fold end_by time entries) entries
+all_last [] time = (omega arith, All-nil (λ (e : RoutingEntry). Lasts time e.route))
+all_last (e ∷ entries) time =
+    let first : ℕ = fold end_by (end_by time e) entries in
+    let rest = all_last entries (end_by time e) in
+    let one = with_one time e.route in (
+      omega (arith, rest.0, one.0),
+      All-cons (λ (x : RoutingEntry). Lasts first x.route) e entries (sooner first (end_by time e) e.route rest.0 one.1) rest.1,
+    )
+
+-- what is computed is such a time
+pub still : (entries : List RoutingEntry) → IsStill (first_end entries) entries
+unfolding first_end
+still entries = (all_last entries 18446744073709551615).1
+
+-- # Routes end
+
+ended_lasts : (b : Bool) (time : ℕ) (e : RoutingEntry) → Lasts time e.route → Lasts time (cond b (without_route e) e).route
+ended_lasts true time e h = tt
+ended_lasts false time e h = h
+
+pub still_ended : (test : RoutingEntry → Bool) (time : ℕ) (entries : List RoutingEntry) → IsStill time entries → IsStill time (map (λ e. cond (test e) (without_route e) e) entries)
+still_ended test time entries h =
+    All-map (λ (e : RoutingEntry). Lasts time e.route) (λ e. cond (test e) (without_route e) e) entries
+    (λ k d lt. ended_lasts (test (get_or entries k d)) time (get_or entries k d) (h k d lt))
+
+-- where no route is valid, none ends
+pub still_unrouted : (time : ℕ) (entries : List RoutingEntry) → All (λ e. e.route ≡ None) entries → IsStill time entries
+still_unrouted time entries h = λ k d lt. subst (Lasts time) (sym (h k d lt)) tt
+
+-- # A tick
+
+-- a route that lasts is not old before
+not_old : (time now : ℕ) (route : Option Route) → now < time → Lasts time route → option_map_or (λ r. not (is_within 21600 now r.offered)) route false ≡ false
+not_old time now None lt h = refl
+not_old time now (Some r) lt h = ap not (lt-ltb now (r.offered + 21600) (omega (arith, lt, h)))
+
+-- an entry after the old routes have ended
+abbrev rested : ℕ → RoutingEntry → RoutingEntry
+rested now e = cond (is_old now e) (without_route e) e
+
+all_stay : (entries : List RoutingEntry) (time now : ℕ) → now < time → IsStill time entries → map (rested now) entries ≡ entries
+all_stay [] time now lt h = refl
+all_stay (e ∷ entries) time now lt h =
+    let one = not_old time now e.route lt (All-head (λ (x : RoutingEntry). Lasts time x.route) e entries h) in
+    let same : rested now e ≡ e = cond-false _ _ _ one in
+    ap (λ x. x ∷ map (rested now) entries) same
+    ∙ ap (λ es. e ∷ es) (all_stay entries time now lt (All-tail (λ (x : RoutingEntry). Lasts time x.route) e entries h))
+
+-- before the first end, a tick changes nothing
+pub none_ends : (routing : Routing) (time now : ℕ) → now < time → IsStill time routing.entries → expired routing now ≡ routing
+none_ends routing time now lt h = ap (λ (es : List RoutingEntry). record routing { entries = es }) (all_stay routing.entries time now lt h)
