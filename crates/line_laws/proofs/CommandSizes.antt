@@ -1,7 +1,6 @@
 -- What a meter and the coordinator of the network say to each other fits a command, and goes to one node.
 use Rattle.std.proofs.Common.{◌≡◌, ℕ, ◌≤◌, ◌<◌, length, Option, Some, subst, arith}
 use Rattle.std.specs.Prelude.{All, IfSome, position}
-use Rattle.std.proofs.lemmas.List.{length-append}
 use Rattle.plc_base.specs.Fields.{AreOctets}
 use Rattle.plc_base.specs.declared.address.Eui.{Eui}
 use Rattle.plc_base.specs.declared.key.Key.{Key}
@@ -29,7 +28,7 @@ use Rattle.line_laws.proofs.IssueNodes.{place_is}
 use Rattle.line_laws.proofs.Made.{Given}
 use Rattle.line_laws.proofs.MeterForms.{OfOther, Second, Fourth}
 use Rattle.line_laws.proofs.MeterOctets.{part_short, oldest_speaks}
-use Rattle.line_laws.proofs.OctetDrafts.{PeerSpeaks, SessionSpeaks, ServerSpeaks, MemorySpeaks}
+use Rattle.line_laws.proofs.OctetDrafts.{command_short, PeerSpeaks, SessionSpeaks, ServerSpeaks, MemorySpeaks}
 use Rattle.line_laws.proofs.RangeCoordinator.{HasEight, SpeaksWell}
 use Rattle.line_laws.proofs.RangeHeard.{SaysShort}
 use Rattle.joining_messages.proofs.JoinRanges.{read_fits}
@@ -37,20 +36,20 @@ use Rattle.line_laws.proofs.StoreBook.{looked_up, stands}
 
 -- # Packets
 
-command_short : (join : JoinMessage) → length join.eui.0 ≡ 8 → length (rest_of join.body) ≤ 365 → length (command_of join) ≤ 375
-command_short join eight rest = let both = length-append join.eui.0 (rest_of join.body) in omega arith
+command_fits : (join : JoinMessage) → length join.eui.0 ≡ 8 → length (rest_of join.body) ≤ 364 → length (command_of join) ≤ 375
+command_fits join eight rest = let short = command_short join eight rest in omega arith
 
 -- # A meter
 
 module _ (eui : Eui) (psk : Key) (eight : length eui.0 ≡ 8) (m : Memory) (h : MemorySpeaks m) where
   pub says_short : SaysShort (record { eui = eui; psk = psk; ciphers = network }) m
-  says_short join (OfOther octets other read) = command_short join (read_fits join octets read).eui (let rest = (read_fits join octets read).rest in omega arith)
+  says_short join (OfOther octets other read) = command_fits join (read_fits join octets read).eui (let rest = (read_fits join octets read).rest in omega arith)
   says_short join (Second packet value here) =
-      command_short (message eui (body.Join (network.second psk (identifier_of packet) (peer_for eui value packet)))) eight
+      command_fits (message eui (body.Join (network.second psk (identifier_of packet) (peer_for eui value packet)))) eight
       (let fits = second_fits (keys_of psk.0) (identifier_of packet) (peer_for eui value packet) (part_short 6 16 packet) (oldest_speaks m value h here).1 eight in omega arith)
   says_short join (Fourth packet s peer there has) =
       let p : PeerSpeaks peer = subst (λ (o : Option Peer). IfSome o PeerSpeaks) has (subst (λ (o : Option MeterSession). IfSome o SessionSpeaks) there h.session) in
-      command_short (message eui (body.Join (network.fourth psk (identifier_of packet) peer))) eight (let fits = fourth_fits (keys_of psk.0) (identifier_of packet) peer p.2 in omega arith)
+      command_fits (message eui (body.Join (network.fourth psk (identifier_of packet) peer))) eight (let fits = fourth_fits (keys_of psk.0) (identifier_of packet) peer p.2 in omega arith)
 
 -- # The coordinator
 
@@ -83,16 +82,16 @@ module _ (eui : Eui) (eight : length eui.0 ≡ 8) (m : Memory) (h : MemorySpeaks
   reached to (AsBooked meter address booked) = booked_low m.book meter to b.short booked
 
   short : (join : JoinMessage) → IsSaidDown HasEight own m join → length (command_of join) ≤ 375
-  short join (SaysDecline meter known) = command_short (message meter body.Decline) known (omega arith)
-  short join (SaysChallenge meter value known here) = command_short (message meter (body.Challenge (first_packet (server_for meter eui value)))) known (let fits = first_fits 1 value.0 eui.0 (oldest_speaks m value h here).1 eight in omega arith)
+  short join (SaysDecline meter known) = command_fits (message meter body.Decline) known (omega arith)
+  short join (SaysChallenge meter value known here) = command_fits (message meter (body.Challenge (first_packet (server_for meter eui value)))) known (let fits = first_fits 1 value.0 eui.0 (oldest_speaks m value h here).1 eight in omega arith)
   short join (SaysGrant s e meter rand_p granted there allowed is) =
-      command_short (message s.server.eui (body.Challenge (network.third e.psk s.server rand_p granted))) (named_at meter s there).0
+      command_fits (message s.server.eui (body.Challenge (network.third e.psk s.server rand_p granted))) (named_at meter s there).0
       (let readable = granted_readable m.station.ring m.book s.server.eui granted b.ring b.short is in
       let fits = third_fits (keys_of e.psk.0) 2 (peer_of s.server rand_p) granted (server_at meter s there).2 (place_is granted.key0 readable.key0) (place_is granted.key1 readable.key1) in
       omega arith)
-  short join (SaysAccept s meter there) = command_short (message s.server.eui (body.Accept 2)) (named_at meter s there).0 (omega arith)
-  short join (SaysActivate e meter index allowed) = command_short (message e.eui (body.Activate index)) (entry_at meter e allowed) (omega arith)
-  short join (SaysKick e meter allowed) = command_short (message e.eui body.Kick) (entry_at meter e allowed) (omega arith)
+  short join (SaysAccept s meter there) = command_fits (message s.server.eui (body.Accept 2)) (named_at meter s there).0 (omega arith)
+  short join (SaysActivate e meter index allowed) = command_fits (message e.eui (body.Activate index)) (entry_at meter e allowed) (omega arith)
+  short join (SaysKick e meter allowed) = command_fits (message e.eui body.Kick) (entry_at meter e allowed) (omega arith)
 
   pub speaks_well : SpeaksWell own g m
   speaks_well = record { reached = reached; short = short }

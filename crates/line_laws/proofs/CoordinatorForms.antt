@@ -32,7 +32,7 @@ use Rattle.node_rules.specs.declared.refusal.Dropped.TheVariants as drops
 use Rattle.node_rules.specs.declared.refusal.CoordinatorRefusal.TheVariants as refusal
 use Rattle.node_rules.specs.Memory.{StationMemory, Memory, Command, CoordinatorSession, address_of, next_hop}
 use Rattle.node_rules.specs.Plans.{Plan}
-use Rattle.node_rules.specs.Drafts.{Draft, Lack, alone, empty_draft, with_ring, lack, counters_left, sealing, refused, checked, choose, sets_out}
+use Rattle.node_rules.specs.Drafts.{Draft, Lack, alone, empty_draft, with_ring, lack, counters_left, sealing, refused, sets_out}
 use Rattle.node_rules.specs.Hearing as station_rules
 use Rattle.node_rules.specs.Drafts as drafts
 use Rattle.node_rules.specs.Hearing.{dropped}

@@ -36,15 +36,20 @@ use Rattle.node_rules.specs.Hearing.{dropped}
 use Rattle.node_rules.specs.Joining.{message, first_packet, server_for}
 use Rattle.node_rules.specs.MemoryDrafts.{in_memory, with_memory_by, is_commanded, oldest, without_oldest, Unread, unread}
 use Rattle.node_rules.specs.Coordinators.{CoordinatorIdentity, drop_it, is_of, session_of, with_session, without_session, grant_for, says, with_book_entry, declines, opens, challenges, open_session, asked, keys_for, take_second, accepts, take_fourth, take_packet, answered, hear_join, hear_join_in, heard_by, hear_coordinator, orders, allowed_entry, changes, changed, allow, depot_by, depot, rekey, activate_self, challenge_by, challenge_at, challenge, allowed_address, activate_by, activate, kick_goes, kick_by, kick}
-use Rattle.line_laws.specs.Stores.{IsHeld, IsReadable}
+use Rattle.line_laws.specs.Stores.{IsHeld, IsReadable, HasEui}
 use Rattle.line_laws.proofs.Answered.{booked_low}
 use Rattle.plc_base.proofs.OctetLists.{front}
 use Rattle.joining_messages.specs.Laws.{GrantHasOctets}
 use Rattle.joining_messages.proofs.JoinOctets.{read_octets}
+use Rattle.eap_psk.specs.Keys.{keys_of}
 use Rattle.eap_psk.proofs.PacketOctets.{first_octets, third_octets}
+use Rattle.eap_psk.proofs.PacketSizes.{first_fits, third_fits}
+use Rattle.joining_messages.specs.Grants.{IsPlace}
+use Rattle.joining_messages.proofs.JoinRanges.{read_fits}
 use Rattle.node_rules.specs.OctetLaws.{WayFits, UnreadFits}
 use Rattle.node_rules.proofs.HeardOctets.{unreads_fit}
 use Rattle.line_laws.proofs.HearingForms.{Handed, MadeOf, hear_is}
+use Rattle.line_laws.proofs.IssueNodes.{place_is}
 use Rattle.line_laws.proofs.Made.{Given, IsCome, Draws, Activates}
 use Rattle.line_laws.proofs.MeterOctets.{comes_speaking, oldest_speaks}
 use Rattle.line_laws.proofs.NodeCalls.{NoWord, heard_given}
@@ -55,7 +60,7 @@ use Rattle.line_laws.proofs.StoreFold.{WordFits, ring_fits}
 
 -- the book names meters, and has their pair keys
 abbrev pub EntrySpeaks : BookEntry → Type 0
-EntrySpeaks e = AreOctets e.eui.0 × AreOctets e.psk.0
+EntrySpeaks e = HasEui e.eui × AreOctets e.psk.0
 
 -- a key that is held is octets where its record is
 key_held : (key : Option Key) → AreOctets (held_octets key) → IfSome key (λ k. AreOctets k.0)
@@ -63,12 +68,16 @@ key_held None held = tt
 key_held (Some key) held = All-tail (λ n. n < 256) 1 key.0 held
 
 -- the grant of a meter has the keys of the ring
-grant_speaks : (r : ring.Ring) (address : Option ℕ) (granted : Granted) → IfSome r IsReadable → option_and_then (λ a. option_map (λ (g : Granted). record g { address = a }) r) address ≡ Some granted → GrantHasOctets granted
+abbrev GrantSpeaks : Granted → Type 0
+GrantSpeaks granted = GrantHasOctets granted × IsPlace granted.key0 × IsPlace granted.key1
+
+grant_speaks : (r : ring.Ring) (address : Option ℕ) (granted : Granted) → IfSome r IsReadable → option_and_then (λ a. option_map (λ (g : Granted). record g { address = a }) r) address ≡ Some granted → GrantSpeaks granted
 grant_speaks r None granted reads e = absurd (cc)
 grant_speaks None (Some a) granted reads e = absurd (cc)
-grant_speaks (Some g) (Some a) granted reads e = subst GrantHasOctets (same_Some (record g { address = a }) granted e) (record { active = let low = reads.grant.index in omega arith; key0 = key_held g.key0 reads.key0.1; key1 = key_held g.key1 reads.key1.1 })
+grant_speaks (Some g) (Some a) granted reads e = subst GrantSpeaks (same_Some (record g { address = a }) granted e)
+    (record { active = let low = reads.grant.index in omega arith; key0 = key_held g.key0 reads.key0.1; key1 = key_held g.key1 reads.key1.1 }, place_is g.key0 reads.key0, place_is g.key1 reads.key1)
 
-module _ (eui : Eui) (own : AreOctets eui.0) (m : Memory) (h : MemorySpeaks m) (reads : IfSome m.station.ring IsReadable) (booked : All EntrySpeaks m.book) (now : ℕ) where
+module _ (eui : Eui) (own : HasEui eui) (m : Memory) (h : MemorySpeaks m) (reads : IfSome m.station.ring IsReadable) (booked : All EntrySpeaks m.book) (now : ℕ) where
   abbrev self : CoordinatorIdentity
   self = record { eui = eui; ciphers = network }
 
@@ -119,13 +128,14 @@ module _ (eui : Eui) (own : AreOctets eui.0) (m : Memory) (h : MemorySpeaks m) (
   none = All-nil (λ n. n < 256)
 
   -- the first packet
-  first_speaks : (meter : Eui) (value : Rand) → AreOctets meter.0 → RandSpeaks value → JoinSpeaks (message meter (body.Challenge (first_packet (server_for meter eui value))))
-  first_speaks meter value named is = join_speaks meter (body.Challenge (first_packet (server_for meter eui value))) named (first_octets 1 value.0 eui.0 (omega arith) is.0 own)
+  first_speaks : (meter : Eui) (value : Rand) → HasEui meter → RandSpeaks value → JoinSpeaks (message meter (body.Challenge (first_packet (server_for meter eui value))))
+  first_speaks meter value named is = join_speaks meter (body.Challenge (first_packet (server_for meter eui value))) named (first_octets 1 value.0 eui.0 (omega arith) is.0 own.1)
+      (let fits = first_fits 1 value.0 eui.0 is.1 own.0 in omega arith)
 
-  declines_is : (way : Way) (meter : Eui) → AreOctets meter.0 → PlanSpeaks (declines m way (message meter body.Decline) now)
-  declines_is way meter named = checked_speaks m h _ (λ e. sealed_speaks m h _ _ _ (says_speaks way (message meter body.Decline) (empty_draft m) (join_speaks meter body.Decline named none) begun))
+  declines_is : (way : Way) (meter : Eui) → HasEui meter → PlanSpeaks (declines m way (message meter body.Decline) now)
+  declines_is way meter named = checked_speaks m h _ (λ e. sealed_speaks m h _ _ _ (says_speaks way (message meter body.Decline) (empty_draft m) (join_speaks meter body.Decline named none (omega arith)) begun))
 
-  open_is : (way : Way) (meter : Eui) → AreOctets meter.0 → WayFits way → PlanSpeaks (open_session self m way meter now)
+  open_is : (way : Way) (meter : Eui) → HasEui meter → WayFits way → PlanSpeaks (open_session self m way meter now)
   open_is way meter named near = checked_speaks m h _ (λ e.
       option_speaks (λ value. challenges m way (server_for meter eui value) now) (oldest m) (drop_it m drops.NoRandom)
       (λ value here. checked_speaks m h _ (λ lacks.
@@ -135,16 +145,17 @@ module _ (eui : Eui) (own : AreOctets eui.0) (m : Memory) (h : MemorySpeaks m) (
       sealed_speaks m h _ _ _ (says_speaks way (message meter (body.Challenge (first_packet (server_for meter eui value)))) (opens s (empty_draft m)) said (opened_speaks s (named, is.0, is.1, near)))))
       (refuses m h _ _))
 
-  asked_is : (way : Way) (meter : Eui) → AreOctets meter.0 → WayFits way → PlanSpeaks (asked self m way meter now)
+  asked_is : (way : Way) (meter : Eui) → HasEui meter → WayFits way → PlanSpeaks (asked self m way meter now)
   asked_is way meter named near = choose_speaks (λ allowed. open_is way meter named near) (λ other. declines_is way meter named)
 
   -- # Packets
 
-  keys_is : (s : CoordinatorSession) (e : BookEntry) (rand_p : Rand) (granted : Granted) → ServerSpeaks s → EntrySpeaks e → GrantHasOctets granted → PlanSpeaks (keys_for self m s e rand_p granted now)
+  keys_is : (s : CoordinatorSession) (e : BookEntry) (rand_p : Rand) (granted : Granted) → ServerSpeaks s → EntrySpeaks e → GrantSpeaks granted → PlanSpeaks (keys_for self m s e rand_p granted now)
   keys_is s e rand_p granted k pair g = checked_speaks m h _ (λ lacks.
       let t : CoordinatorSession = record s { server = record s.server { rand_p = Some rand_p } } in
       let said : JoinSpeaks (message s.server.eui (body.Challenge (network.third e.psk s.server rand_p granted)))
-      = join_speaks s.server.eui (body.Challenge (network.third e.psk s.server rand_p granted)) k.0 (third_octets e.psk.0 2 (peer_of s.server rand_p) granted pair.1 (omega arith) k.1 g) in
+      = join_speaks s.server.eui (body.Challenge (network.third e.psk s.server rand_p granted)) k.0 (third_octets e.psk.0 2 (peer_of s.server rand_p) granted pair.1 (omega arith) k.1 g.0)
+      (let fits = third_fits (keys_of e.psk.0) 2 (peer_of s.server rand_p) granted k.2 g.1 g.2 in omega arith) in
       sealed_speaks m h _ _ _ (says_speaks s.way (message s.server.eui (body.Challenge (network.third e.psk s.server rand_p granted))) _ said
       (tagged_speaks _ _ (with_book_entry (book.issued_entry s.server.eui granted e) (with_memory_by (with_session t) (empty_draft m)))
       (entered_speaks (book.issued_entry s.server.eui granted e) (with_memory_by (with_session t) (empty_draft m)) (answered_speaks t (k.0, k.1, k.2, k.3))))))
@@ -157,7 +168,7 @@ module _ (eui : Eui) (own : AreOctets eui.0) (m : Memory) (h : MemorySpeaks m) (
   accepts_is : (s : CoordinatorSession) (rand_p : Rand) → ServerSpeaks s → PlanSpeaks (accepts m s rand_p now)
   accepts_is s rand_p k = checked_speaks m h _ (λ lacks.
       sealed_speaks m h _ _ _ (says_speaks s.way (message s.server.eui (body.Accept 2)) _
-      (join_speaks s.server.eui (body.Accept 2) k.0 (front 3 (2 ∷ 0 ∷ 4 ∷ []) (omega arith) (front 2 (0 ∷ 4 ∷ []) (omega arith) (front 0 (4 ∷ []) (omega arith) (front 4 [] (omega arith) none)))))
+      (join_speaks s.server.eui (body.Accept 2) k.0 (front 3 (2 ∷ 0 ∷ 4 ∷ []) (omega arith) (front 2 (0 ∷ 4 ∷ []) (omega arith) (front 0 (4 ∷ []) (omega arith) (front 4 [] (omega arith) none)))) (omega arith))
       (tagged_speaks _ _ (with_memory_by (without_session s.server.eui) (empty_draft m)) (closed_speaks s.server.eui))))
 
   packet_is : (e : BookEntry) (packet : List ℕ) (s : CoordinatorSession) → ServerSpeaks s → EntrySpeaks e → PlanSpeaks (take_packet self m e packet now s)
@@ -171,14 +182,14 @@ module _ (eui : Eui) (own : AreOctets eui.0) (m : Memory) (h : MemorySpeaks m) (
 
   -- # What is heard
 
-  join_is : (way : Way) (meter : Eui) (b : JoinBody) → AreOctets meter.0 → WayFits way → PlanSpeaks (hear_join self m way meter b now)
+  join_is : (way : Way) (meter : Eui) (b : JoinBody) → HasEui meter → WayFits way → PlanSpeaks (hear_join self m way meter b now)
   join_is way meter (body.Join []) named near = asked_is way meter named near
   join_is way meter (body.Join (x ∷ packet)) named near = answered_is meter (x ∷ packet)
   join_is way meter _ named near = refuses m h _ _
 
   join_in_is : (octets : List ℕ) (way : Way) (join : Option JoinMessage) → AreOctets octets → WayFits way → join_in octets ≡ join → PlanSpeaks (hear_join_in self m way join now)
   join_in_is octets way None are near read = refuses m h _ _
-  join_in_is octets way (Some join) are near read = choose_speaks (λ may. join_is way join.eui join.body (read_octets join octets are read).eui near) (λ other. refuses m h _ _)
+  join_in_is octets way (Some join) are near read = choose_speaks (λ may. join_is way join.eui join.body ((read_fits join octets read).eui, (read_octets join octets are read).eui) near) (λ other. refuses m h _ _)
 
   heard_by_is : (g : Given) → ((by : ℕ) (all : Bool) (u : MeshUnit) → IsCome g by all u → UnitSpeaks u) → (p : Plan StationMemory (Result Heard Dropped)) (u : Option Unread) → IfSome u UnreadFits
       → Planned alone dropped m.station (Handed g m.station) (MadeOf NoWord g m.station) p → PlanSpeaks (heard_by self m now p u)
@@ -220,7 +231,7 @@ module _ (eui : Eui) (own : AreOctets eui.0) (m : Memory) (h : MemorySpeaks m) (
       (λ held. sealing_speaks orders _ tt (ringed_speaks (ring.with_active m.station.ring index) (empty_draft m) begun (ring_fits WordFits (λ w k. k) m.station.ring (ring.with_active m.station.ring index) (Activates index low held) reads)))
       (λ none. refuses m h _ _)
 
-  challenge_at_speaks : (meter : Eui) (to : ℕ) → AreOctets meter.0 → to < 0xFFFE → PlanSpeaks (challenge_at eui m meter now to)
+  challenge_at_speaks : (meter : Eui) (to : ℕ) → HasEui meter → to < 0xFFFE → PlanSpeaks (challenge_at eui m meter now to)
   challenge_at_speaks meter to named near = checked_speaks m h _ (λ full.
       option_speaks (λ value. challenge_by eui m to now (server_for meter eui value)) (oldest m) (refused orders m refusal.NoRandom)
       (λ value here. checked_speaks m h _ (λ lacks.
@@ -237,12 +248,12 @@ module _ (eui : Eui) (own : AreOctets eui.0) (m : Memory) (h : MemorySpeaks m) (
       by_allowed true e = booked_low m.book meter to short e
       by_allowed false e = absurd (cc)
 
-  pub challenge_speaks : (meter : Eui) → AreOctets meter.0 → length m.book ≤ 999 → PlanSpeaks (challenge eui m meter now)
+  pub challenge_speaks : (meter : Eui) → HasEui meter → length m.book ≤ 999 → PlanSpeaks (challenge eui m meter now)
   challenge_speaks meter named short = option_speaks (challenge_at eui m meter now) (allowed_address m meter) (refused orders m refusal.NotAllowed) (λ to here. challenge_at_speaks meter to named (allowed_low meter to short here)) (refuses m h _ _)
 
   activate_by_speaks : (e : BookEntry) (index to : ℕ) → index ≤ 1 → EntrySpeaks e → PlanSpeaks (activate_by m e index now to)
   activate_by_speaks e index to low k = choose_speaks
-      (λ issued. checked_speaks m h _ (λ lacks. sealed_speaks m h _ _ _ (commanded_speaks to (message e.eui (body.Activate index)) now (empty_draft m) (join_speaks e.eui (body.Activate index) k.0 (front index [] (omega arith) none)) begun)))
+      (λ issued. checked_speaks m h _ (λ lacks. sealed_speaks m h _ _ _ (commanded_speaks to (message e.eui (body.Activate index)) now (empty_draft m) (join_speaks e.eui (body.Activate index) k.0 (front index [] (omega arith) none) (omega arith)) begun)))
       (λ none. refuses m h _ _)
 
   pub activate_speaks : (meter : Eui) (index : ℕ) → index ≤ 1 → PlanSpeaks (activate m meter index now)
@@ -258,7 +269,7 @@ module _ (eui : Eui) (own : AreOctets eui.0) (m : Memory) (h : MemorySpeaks m) (
       by_route false = s
 
   kick_by_speaks : (e : BookEntry) (to : ℕ) → EntrySpeaks e → PlanSpeaks (kick_by m e to)
-  kick_by_speaks e to k = sealing_speaks orders _ tt (kick_goes_speaks to (message e.eui body.Kick) _ (join_speaks e.eui body.Kick k.0 none) (noted_speaks (book.kicked_entry e.eui e) e.eui))
+  kick_by_speaks e to k = sealing_speaks orders _ tt (kick_goes_speaks to (message e.eui body.Kick) _ (join_speaks e.eui body.Kick k.0 none (omega arith)) (noted_speaks (book.kicked_entry e.eui e) e.eui))
 
   pub kick_speaks : (meter : Eui) → PlanSpeaks (kick m meter)
   kick_speaks meter = option_speaks (λ e. option_map_or (kick_by m e) (book.address_of m.book meter) (refused orders m refusal.NotAllowed)) (allowed_entry m meter) (refused orders m refusal.NotAllowed)

@@ -13,7 +13,7 @@ use Rattle.line_laws.proofs.AddressBook.{Grows}
 use Rattle.line_laws.proofs.AddressWorlds.{one_meter, above_nought, meter_address, coordinator_address}
 use Rattle.line_laws.proofs.IssueWorlds.{Keyed}
 use Rattle.line_laws.proofs.Worlds.{WorldOk, within as place_within}
-use Rattle.line_laws.proofs.Homed.{Homes, Addressed}
+use Rattle.line_laws.proofs.Homed.{Addressed}
 use Rattle.line_laws.proofs.Homed as homed
 pub use Rattle.line_laws.specs.Ranked.{homes_of}
 

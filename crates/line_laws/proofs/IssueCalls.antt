@@ -38,13 +38,12 @@ use Rattle.node_rules.specs.Calls as calls
 use Rattle.node_rules.specs.Coordinators as coordinators
 use Rattle.node_rules.specs.NodeSteps.{of_station}
 use Rattle.line_laws.specs.Stores.{IsHeld, IsReadable, HasEui, IsPair}
-use Rattle.line_laws.specs.Sizes.{IsMemorySized}
+use Rattle.line_laws.specs.Sizes.{IsAnyLoad, IsMemorySized}
 use Rattle.line_laws.specs.Owed.{AreOctets, KeepsRanges}
 use Rattle.line_laws.proofs.Keeping.{Leads, leads_beside}
 use Rattle.line_laws.proofs.Beside.{low_one}
 use Rattle.line_laws.proofs.StoreWords.{limit_kept, number_kept}
 use Rattle.line_laws.proofs.StoreRanks.{EntryFits}
-use Rattle.node_rules.specs.Laws.{IsLoad}
 use Rattle.line_laws.proofs.StoreFold.{WordFits, ring_fits, ended_kept}
 use Rattle.line_laws.proofs.StoreBook.{Rest, rest_lasts}
 use Rattle.line_laws.proofs.StoreMarks.{Accepts, Turned, Plain, Marked, accept_is, marks_lead}
@@ -67,7 +66,7 @@ use Rattle.line_laws.proofs.Untagged.{allow_untagged, depot_untagged, rekey_unta
 
 -- a body is sent out, and the ring stays
 abbrev NoWord : RingWord → Type 0
-NoWord (Carry to note load) = IsLoad load
+NoWord (Carry to note load) = IsAnyLoad load
 NoWord Drop = ⊥
 NoWord (Install granted) = ⊥
 NoWord (Draw index key) = ⊥
@@ -239,7 +238,7 @@ module _ (ciphers : Ciphers) (fits : KeepsRanges ciphers) (octets : List ℕ) (a
 
 -- what the coordinator does to its ring
 abbrev pub CoordinatorWord : RingWord → Type 0
-CoordinatorWord (Carry to note load) = IsLoad load
+CoordinatorWord (Carry to note load) = IsAnyLoad load
 CoordinatorWord Drop = ⊥
 CoordinatorWord (Install granted) = ⊥
 CoordinatorWord (Draw index key) = IsHeld (Some key)

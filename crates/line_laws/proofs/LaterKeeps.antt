@@ -49,7 +49,6 @@ use Rattle.line_laws.proofs.CustodySteps.{falls_on, ran_at, told_at}
 use Rattle.line_laws.proofs.FlightFolds.{address_low, told_senders}
 use Rattle.line_laws.proofs.HeadsSaid.{spelled_well}
 use Rattle.line_laws.proofs.Homed as homed
-use Rattle.line_laws.proofs.Homed.{Addressed}
 use Rattle.line_laws.proofs.Homes.{addressed, at_length, homes_grow}
 use Rattle.line_laws.proofs.CustodyTrue.{SentIsOf}
 use Rattle.line_laws.proofs.Frontiers.{Numbered, same_low}

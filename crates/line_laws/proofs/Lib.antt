@@ -117,6 +117,7 @@ pub mod MeterOctets
 pub mod CoordinatorOctets
 pub mod OctetCalls
 pub mod OctetRuns
+pub mod NetworkSizes
 pub mod CommandSizes
 pub mod RangeOrders
 pub mod LettersRead

@@ -36,7 +36,7 @@ use Rattle.line_laws.proofs.Tellings.{step_is}
 use Rattle.line_laws.proofs.Running.{start_ok, taken_good}
 use Rattle.line_laws.proofs.RankSaid.{MessageBacked, UnitBacked, Says, IsWhole, IsPart, IsCarried, IsOther}
 use Rattle.line_laws.proofs.RouteParts as parts
-use Rattle.line_laws.proofs.RouteParts.{At, Own, Nearer, IsNearer, FlightBacked, IsLetter, GoodRoute, RanksHold, RoutesHold, RoutingHolds, Reached}
+use Rattle.line_laws.proofs.RouteParts.{At, Own, IsNearer, FlightBacked, IsLetter, RoutingHolds, Reached}
 use Rattle.line_laws.proofs.RouteSteps.{StepHolds, Fails, Taken, event_holds}
 use Rattle.line_laws.proofs.LoopFree.{no_loop}
 use Rattle.line_laws.proofs.OctetRuns.{WorldSpeaks, SpeaksIn, event_speaks, start_speaks}

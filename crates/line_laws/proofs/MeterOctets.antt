@@ -38,9 +38,11 @@ use Rattle.node_rules.specs.Hearing.{dropped}
 use Rattle.node_rules.specs.Joining.{message}
 use Rattle.node_rules.specs.MemoryDrafts.{goes_down, oldest, without_oldest, Unread, unread, packet_fault, with_memory_by, with_pair_tags, on_station}
 use Rattle.node_rules.specs.Meters.{Identity, with_session, drop_it, ends, leaves, carry_up, carries_down, carry_down, reply_with, reply, replies, take_with, take_by, take, takes, challenged, declined, kicked, activated, hear_near, hear_order, hear_join, hear_join_in, heard_by, hear_meter, joining_ends, join, leaving_ends, leave}
-use Rattle.line_laws.specs.Stores.{IsReadable}
+use Rattle.line_laws.specs.Stores.{IsReadable, HasEui}
 use Rattle.plc_base.proofs.OctetLists.{part_octets}
+use Rattle.eap_psk.specs.Keys.{keys_of}
 use Rattle.eap_psk.proofs.PacketOctets.{second_octets, fourth_octets}
+use Rattle.eap_psk.proofs.PacketSizes.{second_fits, fourth_fits}
 use Rattle.joining_messages.specs.Messages.{rest_of}
 use Rattle.joining_messages.proofs.JoinOctets.{read_octets}
 use Rattle.line_laws.proofs.HeardOctets.{heard_octets}
@@ -48,7 +50,7 @@ use Rattle.line_laws.proofs.HearingForms.{Handed, MadeOf, hear_is}
 use Rattle.line_laws.proofs.Made.{Given, IsCome, Activates}
 use Rattle.line_laws.proofs.MeterForms.{no_fault}
 use Rattle.line_laws.proofs.NodeCalls.{NoWord, heard_given}
-use Rattle.line_laws.proofs.OctetDrafts.{JoinSpeaks, join_speaks, BodySpeaks, RandSpeaks, PeerSpeaks, SessionSpeaks, MemorySpeaks, DraftSpeaksIn, PlanSpeaks, OutSpeaks, PlainSpeaks, UnitSpeaks, unit_speaks, choose_speaks, option_speaks, refuses, checked_speaks, sealed_speaks, sealing_speaks, line_speaks, begun_speaks, remembers_speaks, tagged_speaks, up_speaks, down_speaks, ringed_speaks, commanded_speaks}
+use Rattle.line_laws.proofs.OctetDrafts.{JoinSpeaks, command_short, join_speaks, BodySpeaks, RandSpeaks, PeerSpeaks, SessionSpeaks, MemorySpeaks, DraftSpeaksIn, PlanSpeaks, OutSpeaks, PlainSpeaks, UnitSpeaks, unit_speaks, choose_speaks, option_speaks, refuses, checked_speaks, sealed_speaks, sealing_speaks, line_speaks, begun_speaks, remembers_speaks, tagged_speaks, up_speaks, down_speaks, ringed_speaks, commanded_speaks}
 use Rattle.line_laws.proofs.Planned.{Planned}
 use Rattle.joining_messages.proofs.JoinRanges.{read_fits}
 use Rattle.line_laws.proofs.Readings.{network_ranges}
@@ -59,7 +61,9 @@ use Rattle.line_laws.proofs.Worlds.{at_place}
 
 -- a joining message that was read in octets
 pub read_speaks : (octets : List ℕ) (join : JoinMessage) → AreOctets octets → join_in octets ≡ Some join → JoinSpeaks join
-read_speaks octets join are read = read_octets join octets are read
+read_speaks octets join are read =
+    let fits = read_fits join octets read in
+    record { octets = read_octets join octets are read; short = command_short join fits.eui (let rest = fits.rest in omega arith) }
 
 -- the units of a frame that was accepted
 pub comes_speaking : (got : Accepted) (cost note now : ℕ) → AreOctets got.payload → (by : ℕ) (all : Bool) (u : MeshUnit) → IsCome (heard_given got cost note now) by all u → UnitSpeaks u
@@ -74,7 +78,7 @@ part_short at n octets = omega (arith, length-take n (drop at octets))
 pub oldest_speaks : (m : Memory) (value : Rand) → MemorySpeaks m → oldest m ≡ Some value → RandSpeaks value
 oldest_speaks m value h e = at_place RandSpeaks m.randoms 0 value e h.randoms
 
-module _ (eui : Eui) (psk : Key) (own : AreOctets eui.0) (pair : AreOctets psk.0) (m : Memory) (h : MemorySpeaks m) (reads : IfSome m.station.ring IsReadable) (now : ℕ) where
+module _ (eui : Eui) (psk : Key) (own : HasEui eui) (pair : AreOctets psk.0) (m : Memory) (h : MemorySpeaks m) (reads : IfSome m.station.ring IsReadable) (now : ℕ) where
   abbrev x : Identity
   x = record { eui = eui; psk = psk; ciphers = network }
 
@@ -119,8 +123,10 @@ module _ (eui : Eui) (psk : Key) (own : AreOctets eui.0) (pair : AreOctets psk.0
       (λ value here. checked_speaks m h _ (λ right.
       let peer : Peer = peer_for eui value packet in
       let rand_s : AreOctets peer.rand_s.0 = part_octets 6 16 packet are in
-      replies_is course peer (message eui (body.Join (network.second psk (identifier_of packet) peer))) (own, rand_s, part_short 6 16 packet)
-      (join_speaks eui (body.Join (network.second psk (identifier_of packet) peer)) own (second_octets psk.0 (identifier_of packet) peer pair (octet_low 1 packet are) own rand_s (oldest_speaks m value h here).0))))
+      let is : RandSpeaks value = oldest_speaks m value h here in
+      let fits = second_fits (keys_of psk.0) (identifier_of packet) peer (part_short 6 16 packet) is.1 own.0 in
+      replies_is course peer (message eui (body.Join (network.second psk (identifier_of packet) peer))) (own.1, rand_s, part_short 6 16 packet)
+      (join_speaks eui (body.Join (network.second psk (identifier_of packet) peer)) own (second_octets psk.0 (identifier_of packet) peer pair (octet_low 1 packet are) own.1 rand_s is.0) (omega arith))))
       (refuses m h _ _))
 
   abbrev took : Peer → ℕ → Granted → Draft Memory
@@ -143,7 +149,8 @@ module _ (eui : Eui) (psk : Key) (own : AreOctets eui.0) (pair : AreOctets psk.0
   take_with_is course packet peer None are p right is = refuses m h _ _
   take_with_is course packet peer (Some granted) are p right is =
       takes_is course peer (identifier_of packet) granted (message eui (body.Join (network.fourth psk (identifier_of packet) peer))) p (network_ranges.granted psk peer packet granted pair are right is)
-      (join_speaks eui (body.Join (network.fourth psk (identifier_of packet) peer)) own (fourth_octets psk.0 (identifier_of packet) peer pair (octet_low 1 packet are) p.1))
+      (join_speaks eui (body.Join (network.fourth psk (identifier_of packet) peer)) own (fourth_octets psk.0 (identifier_of packet) peer pair (octet_low 1 packet are) p.1)
+      (let fits = fourth_fits (keys_of psk.0) (identifier_of packet) peer p.2 in omega arith))
 
   take_by_is : (course : Course) (packet : List ℕ) (peer : Option Peer) → AreOctets packet → IfSome peer PeerSpeaks → PlanSpeaks (take_by x m course packet now peer)
   take_by_is course packet None are p = refuses m h _ _
@@ -221,7 +228,7 @@ module _ (eui : Eui) (psk : Key) (own : AreOctets eui.0) (pair : AreOctets psk.0
 
   pub joins_speaks : (agent : ℕ) → PlanSpeaks (join x m agent now)
   joins_speaks agent = choose_speaks (λ joined. refuses m h _ _)
-      (λ outside. sealing_speaks joining_ends _ tt (up_speaks agent eui (message eui (body.Join [])) _ (asks_speaks agent) own (join_speaks eui (body.Join []) own (All-nil (λ n. n < 256)))))
+      (λ outside. sealing_speaks joining_ends _ tt (up_speaks agent eui (message eui (body.Join [])) _ (asks_speaks agent) own.1 (join_speaks eui (body.Join []) own (All-nil (λ n. n < 256)) (omega arith))))
 
   pub leave_speaks : PlanSpeaks (leave m)
   leave_speaks = choose_speaks (λ joined. sealing_speaks leaving_ends (leaves m) tt leaves_speaks) (λ outside. refuses m h _ _)

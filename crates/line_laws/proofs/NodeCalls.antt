@@ -35,9 +35,8 @@ use Rattle.node_rules.specs.Calls as calls
 use Rattle.node_rules.specs.Meters as meters
 use Rattle.node_rules.specs.NodeSteps.{of_station}
 use Rattle.node_rules.proofs.MemoryDraftShapes.{whole}
-use Rattle.node_rules.specs.Laws.{IsLoad}
 use Rattle.line_laws.specs.Stores.{IsHeld, IsReadable, IsStationKept, IsKept}
-use Rattle.line_laws.specs.Sizes.{IsMemorySized}
+use Rattle.line_laws.specs.Sizes.{IsAnyLoad, IsMemorySized}
 use Rattle.line_laws.specs.Owed.{AreOctets, KeepsRanges}
 use Rattle.joining_messages.proofs.JoinRanges.{read_fits}
 use Rattle.line_laws.proofs.Keeping.{leads_beside}
@@ -163,7 +162,7 @@ never w none = absurd none
 
 -- a body is sent out
 data IsCarried : RingWord → Type 0 where
-  Carries : (to note : ℕ) (load : Load) → IsLoad load → IsCarried (Carry to note load)
+  Carries : (to note : ℕ) (load : Load) → IsAnyLoad load → IsCarried (Carry to note load)
 
 carried_fits : (w : RingWord) → IsCarried w → WordFits w
 carried_fits w (Carries to note load fits) = fits

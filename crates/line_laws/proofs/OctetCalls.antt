@@ -72,7 +72,7 @@ answering_speaks reads d s = record { node = s.node; frames = s.frames }
 
 -- the coordinator's book is of octets
 pub booked : (x : Node) (m : Memory) → NodeOk x → x.role ≡ Coordinator → x.memory ≡ Some m → All EntrySpeaks m.book
-booked x m ok is there = All-weaker IsReadableEntry EntrySpeaks (λ e k. (k.eui.1, k.psk.1)) m.book (subst (λ (role : Role). BookKept role m.book x.store.records) is (node_kept x m ok there).book).each
+booked x m ok is there = All-weaker IsReadableEntry EntrySpeaks (λ e k. (k.eui, k.psk.1)) m.book (subst (λ (role : Role). BookKept role m.book x.store.records) is (node_kept x m ok there).book).each
 
 -- and has room for no more than 999 meters
 pub booked_short : (x : Node) (m : Memory) → NodeOk x → x.role ≡ Coordinator → x.memory ≡ Some m → length m.book ≤ 999
@@ -183,7 +183,7 @@ module _ (m : Memory) (h : MemorySpeaks m) where
         (option_planned (λ own. calls.send_from m.station own to datagram note now) (address_of m.station) (refused calls.sending_ends m.station NotJoined)
         (λ own here. checked_planned (λ e.
         let passes : SendPasses m.station to datagram = send_passes m.station to datagram e in
-        sealed_planned _ _ (sets_out_speaks own to note (Datagram datagram m.station.next_tag) now (calls.tag_taken datagram (empty_draft m.station)) (are, passes.short) (tagged_line datagram))))
+        sealed_planned _ _ (sets_out_speaks own to note (Datagram datagram m.station.next_tag) now (calls.tag_taken datagram (empty_draft m.station)) (are, passes.short, tt) (tagged_line datagram))))
         (λ none. Refuses _))
 
     pub near_speaks : (to cost now : ℕ) → PlanSpeaks (of_station m (calls.preset_near m.station to cost now))

@@ -1,8 +1,10 @@
--- What a doing keeps and sends is octets: the bodies that wait, random values and the ends of joinings; units and plain frames.
+-- What a doing keeps and sends is octets: the bodies that wait, random values and the ends of joinings; units and plain frames. A command
+-- is no longer than it may be.
 use Rattle.std.proofs.Common.{◌≡◌, ℕ, ◌+◌, ◌≤◌, Bool, true, false, List, [], ◌∷◌, length, Option, Some, None, Result, Ok, Err, refl, arith}
 use Rattle.std.specs.Prelude.{if◌then◌else◌, All, IfSome, not, nat_lt}
 use Rattle.std.specs.List.{filter, flat_map}
 use Rattle.std.specs.Option.{option_map_or}
+use Rattle.std.proofs.lemmas.List.{length-append}
 use Rattle.std.proofs.lemmas.List.Elements.{All-nil, All-cons, All-head, All-tail, All-push, All-append, All-map, All-weaker, All-filter}
 use Rattle.plc_base.specs.declared.address.TheConstants.{PAN}
 use Rattle.plc_base.specs.Fields.{AreOctets}
@@ -39,14 +41,14 @@ use Rattle.node_rules.specs.declared.heard.Heard.{Heard}
 use Rattle.node_rules.specs.Ciphers.{network}
 use Rattle.node_rules.specs.Frames.{Letter, Sent, Sealed, Up, Down, head_of, joining_unit, spelled}
 use Rattle.node_rules.specs.Hearing.{Hearing, dropped, hop_less}
-use Rattle.node_rules.specs.Memory.{StationMemory, Memory, Body, Load, Command, MeterSession, CoordinatorSession, address_of, next_hop}
+use Rattle.node_rules.specs.Memory.{StationMemory, Memory, Body, Load, Datagram, Command, MeterSession, CoordinatorSession, address_of, next_hop}
 use Rattle.node_rules.specs.Plans.{Plan, resting, within}
 use Rattle.node_rules.specs.Drafts.{Draft, Ends, Outgoing, alone, empty_draft, with_rank, with_own_number, with_next_tag, with_ring, with_routing_by, goes, body_goes, waits, leave, waits_for, all_go, units_of, is_awaited, seeks, seeks_once, sets_out, letters, sealed_by, sealing_key, counters_left, refused, sealing, sealed, checked, choose}
 use Rattle.node_rules.specs.MemoryDrafts.{in_memory, with_station, on_station, station_part, with_memory_by, with_pair_tags, goes_up, goes_down, is_commanded}
 use Rattle.node_rules.specs.Coordinators.{with_book_entry}
 use Rattle.node_rules.specs.Joining.{command_of}
 use Rattle.node_rules.proofs.MemoryDraftShapes.{whole, reading}
-use Rattle.line_laws.specs.Stores.{IsReadable}
+use Rattle.line_laws.specs.Stores.{IsReadable, HasEui}
 use Rattle.line_laws.proofs.CoordinatorCalls.{ring_key_octets}
 use Rattle.node_rules.specs.OctetLaws.{WayFits}
 use Rattle.line_laws.proofs.HearingForms.{Handed, HandsUp, HandsOn, Gathers, Completes, MadeOf}
@@ -57,16 +59,26 @@ use Rattle.line_laws.proofs.StoreFold.{ring_fits}
 
 -- # What is said
 
+-- a command that is no longer than it may be
+abbrev pub IsCommandShort : Load → Type 0
+IsCommandShort (Datagram octets tag) = Unit {0}
+IsCommandShort (Command octets) = length octets ≤ 374
+
 -- a load of octets, which is short
 abbrev pub LoadSpeaks : Load → Type 0
-LoadSpeaks load = AreOctets (load_octets load) × IsShort load
+LoadSpeaks load = AreOctets (load_octets load) × IsShort load × IsCommandShort load
 
--- a joining message of octets
-abbrev pub JoinSpeaks : JoinMessage → Type 0
-JoinSpeaks join = joins.HasOctets join
+-- A joining message of octets, which a command has room for.
+pub record JoinSpeaks (join : JoinMessage) : Type 0 where
+  pub octets : joins.HasOctets join
+  pub short : length (command_of join) ≤ 374
 
-pub join_speaks : (eui : Eui) (b : JoinBody) → AreOctets eui.0 → AreOctets (joining.rest_of b) → JoinSpeaks (record { eui = eui; body = b })
-join_speaks eui b own all = record { eui = own; rest = all }
+-- an EUI and 364 octets
+pub command_short : (join : JoinMessage) → length join.eui.0 ≡ 8 → length (joining.rest_of join.body) ≤ 364 → length (command_of join) ≤ 374
+command_short join eight rest = let both = length-append join.eui.0 (joining.rest_of join.body) in omega arith
+
+pub join_speaks : (eui : Eui) (b : JoinBody) → HasEui eui → AreOctets (joining.rest_of b) → length (joining.rest_of b) ≤ 364 → JoinSpeaks (record { eui = eui; body = b })
+join_speaks eui b own all rest = record { octets = record { eui = own.1; rest = all }; short = command_short (record { eui = eui; body = b }) own.0 rest }
 
 -- the unit of a route message
 route_octets : (m : Message) → SpellsOctets (units.Local 1 (messages.spelling m))
@@ -89,7 +101,7 @@ SessionSpeaks s = IfSome s.peer PeerSpeaks
 
 -- a server names the meter, and repeats its own random value; over the mesh it speaks to one node
 abbrev pub ServerSpeaks : CoordinatorSession → Type 0
-ServerSpeaks s = AreOctets s.server.eui.0 × AreOctets s.server.rand_s.0 × (length s.server.rand_s.0 ≤ 16) × WayFits s.way
+ServerSpeaks s = HasEui s.server.eui × AreOctets s.server.rand_s.0 × (length s.server.rand_s.0 ≤ 16) × WayFits s.way
 
 -- What a node holds beside its store and may say later is octets, no longer than a random value is, and goes to one node.
 pub record MemorySpeaks (m : Memory) : Type 0 where
@@ -133,13 +145,13 @@ unfolding spelled
 letter_octets l low fits unit = header_octets (head_of l) (sealed_body l.key.0 (head_of l) (spelling l.unit)) (remainder l.counter, omega arith) (sealed_octets l.key.0 (head_of l) (spelling l.unit) fits unit)
 
 joining_octets : (message : JoinMessage) → JoinSpeaks message → SpellsOctets (joining_unit message)
-joining_octets message h = spelling_octets (joining_unit message) (omega arith, join_octets message h)
+joining_octets message h = spelling_octets (joining_unit message) (omega arith, join_octets message h.octets)
 
 plain_octets : (f : Sent) → PlainSpeaks f → SentOctets f
 unfolding spelled
 plain_octets (Sealed l) h = absurd h
 plain_octets (Up agent from message) h = header_octets (heads.Up true 1 0 PAN agent from) (spelling (joining_unit message)) (omega arith, omega arith, h.0) (joining_octets message h.1)
-plain_octets (Down from message) h = header_octets (heads.Down true 1 0 PAN message.eui from) (spelling (joining_unit message)) (omega arith, omega arith, h.eui) (joining_octets message h)
+plain_octets (Down from message) h = header_octets (heads.Down true 1 0 PAN message.eui from) (spelling (joining_unit message)) (omega arith, omega arith, h.octets.eui) (joining_octets message h)
 
 letters_speak : (g : Granted) (key : Key) (first : ℕ) (us : List Outgoing) → g.active ≤ 1 → AreOctets key.0 → All OutSpeaks us → All SentOctets (letters g key first us)
 letters_speak g key first [] low fits all = All-nil SentOctets
@@ -363,5 +375,5 @@ commanded_speaks to message now d says s = by_address (address_of d.memory.stati
     by_address : (own : Option ℕ) → DraftSpeaksIn (option_map_or (λ own. on_station (sets_out own to 0 (Command (command_of message)) now) d) own d)
     by_address None = s
     by_address (Some own) =
-        let r = sets_out_speaks own to 0 (Command (command_of message)) now (station_part d) (front 2 (joining.spelling message) (omega arith) (join_octets message says), tt) (record { ring = s.ring; waiting = s.memory.waiting; units = s.units; plain = s.plain }) in
+        let r = sets_out_speaks own to 0 (Command (command_of message)) now (station_part d) (front 2 (joining.spelling message) (omega arith) (join_octets message says.octets), tt, says.short) (record { ring = s.ring; waiting = s.memory.waiting; units = s.units; plain = s.plain }) in
         record { ring = r.ring; memory = record { waiting = r.waiting; randoms = s.memory.randoms; session = s.memory.session; sessions = s.memory.sessions }; units = r.units; plain = r.plain }

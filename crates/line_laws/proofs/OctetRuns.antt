@@ -1,5 +1,5 @@
 -- Every event of a run of the network keeps that what nodes hold and what flies is octets.
-use Rattle.std.proofs.Common.{◌≡◌, ℕ, ◌+◌, ◌-◌, ◌<◌, Bool, true, false, List, [], ◌∷◌, Some, None, Result, Ok, Err, refl, sym, ap, ◌∙◌, subst, arith}
+use Rattle.std.proofs.Common.{◌≡◌, ℕ, ◌+◌, ◌-◌, ◌<◌, ◌≤◌, Bool, true, false, List, [], ◌∷◌, Some, None, Result, Ok, Err, refl, sym, ap, ◌∙◌, subst, arith}
 use Rattle.std.specs.Prelude.{All, IfSome, ◌==◌, if◌then◌else◌, slice_get}
 use Rattle.std.proofs.lemmas.List.Elements.{All-nil, All-cons, All-head, All-tail, All-push, All-set, All-append, All-map, All-weaker}
 use Rattle.std.proofs.lemmas.Option.{same_Some}
@@ -34,8 +34,8 @@ use Rattle.line_rules.specs.Forgery.{Comes, accepting}
 use Rattle.line_rules.specs.Runs.{Entry, IsRun, events_of}
 use Rattle.line_rules.specs.Worlds.{World, Flight, node_at, flight_at, start}
 use Rattle.line_rules.specs.Steps.{Step, step, set_up, ran, told, blank_node, ticked, flights_of, flight_by, acted, sending, sent_if, is_taken, tag_of, hears, offered_near, heard, note_by, identity, restarts, psk_of}
-use Rattle.line_laws.specs.Laws.{FlightsAreOctets, EveryFlightIsOctets}
-use Rattle.line_laws.specs.Stores.{IsReadable}
+use Rattle.line_laws.specs.Laws.{IsLineRun, EveryFlightIsOctets}
+use Rattle.line_laws.specs.Stores.{IsReadable, HasEui}
 use Rattle.line_laws.specs.Owed.{AreOctets}
 use Rattle.line_laws.proofs.Answered.{acts_answered}
 use Rattle.line_laws.proofs.CoordinatorCalls.{accept_ok, accept_failed, accepted_routes}
@@ -104,9 +104,9 @@ module _ (w : World) (ok : WorldOk w) (s : WorldSpeaks w) where
   call_speaks : (number : ℕ) (x : Node) (A : Type 0) (halted : A) (plan : Memory → Plan Memory A) → node_at w number ≡ Some x → IsCall network w number x A halted plan → DidSpeak (acts x halted plan)
   call_speaks number x A halts plan there (Gives value are) = acts_speaks x _ _ (speaks_at number x there) (λ m here h. random_speaks m h (ring_readable x m (good_at number x there) here) value (are.1, let long = are.0 in omega arith))
   call_speaks number x A halts plan there (Joins psk a ne pair other) = acts_speaks x _ _ (speaks_at number x there)
-      (λ m here h. joins_speaks x.eui psk (given_at number x there).eui.1 (pair_of number x m psk there here pair) m h (ring_readable x m (good_at number x there) here) w.clock a)
+      (λ m here h. joins_speaks x.eui psk (given_at number x there).eui (pair_of number x m psk there here pair) m h (ring_readable x m (good_at number x there) here) w.clock a)
   call_speaks number x A halts plan there (Leaves ne) = acts_speaks x _ _ (speaks_at number x there)
-      (λ m here h. leave_speaks x.eui (record { 0 = [] }) (given_at number x there).eui.1 (All-nil (λ n. n < 256)) m h (ring_readable x m (good_at number x there) here) w.clock)
+      (λ m here h. leave_speaks x.eui (record { 0 = [] }) (given_at number x there).eui (All-nil (λ n. n < 256)) m h (ring_readable x m (good_at number x there) here) w.clock)
   call_speaks number x A halts plan there (Sends a datagram other are) = acts_speaks x _ _ (speaks_at number x there)
       (λ m here h. send_speaks m h (ring_readable x m (good_at number x there) here) a datagram (w.sends + 1) w.clock are.2)
   call_speaks number x A halts plan there (Breaks a other) = acts_speaks x _ _ (speaks_at number x there) (λ m here h. broke_speaks m h a said.Broken)
@@ -116,23 +116,23 @@ module _ (w : World) (ok : WorldOk w) (s : WorldSpeaks w) where
   call_speaks number x A halts plan there (Accepts octets event says comes) = acts_speaks x _ _ (speaks_at number x there) (λ m here h. accept_speaks m h x.eui (arrived network octets))
   call_speaks number x A halts plan there (Provisions psk c g ne pair at is) = acts_speaks x _ _ (speaks_at number x there) (λ m here h. install_speaks m h g)
   call_speaks number x A halts plan there (Depots meter y psk zero_is open_is at pair) = order_speaks number x _ _ zero_is there
-      (λ m h reads here role. depot_speaks x.eui (given_at number x there).eui.1 m h reads (booked x m (good_at number x there) role here) w.clock y.eui psk)
+      (λ m h reads here role. depot_speaks x.eui (given_at number x there).eui m h reads (booked x m (good_at number x there) role here) w.clock y.eui psk)
   call_speaks number x A halts plan there (Allows meter y psk zero_is at pair) = order_speaks number x _ _ zero_is there
-      (λ m h reads here role. allow_speaks x.eui (given_at number x there).eui.1 m h reads (booked x m (good_at number x there) role here) w.clock y.eui psk)
+      (λ m h reads here role. allow_speaks x.eui (given_at number x there).eui m h reads (booked x m (good_at number x there) role here) w.clock y.eui psk)
   call_speaks number x A halts plan there (Rekeys index key zero_is low long) = order_speaks number x _ _ zero_is there
-      (λ m h reads here role. rekey_speaks x.eui (given_at number x there).eui.1 m h reads (booked x m (good_at number x there) role here) w.clock index key (held key long.0 long.1))
+      (λ m h reads here role. rekey_speaks x.eui (given_at number x there).eui m h reads (booked x m (good_at number x there) role here) w.clock index key (held key long.0 long.1))
   call_speaks number x A halts plan there (Turns index zero_is low) = order_speaks number x _ _ zero_is there
-      (λ m h reads here role. turn_speaks x.eui (given_at number x there).eui.1 m h reads (booked x m (good_at number x there) role here) w.clock index low)
+      (λ m h reads here role. turn_speaks x.eui (given_at number x there).eui m h reads (booked x m (good_at number x there) role here) w.clock index low)
   call_speaks number x A halts plan there (Challenges meter y zero_is at) = order_speaks number x _ _ zero_is there
-      (λ m h reads here role. challenge_speaks x.eui (given_at number x there).eui.1 m h reads (booked x m (good_at number x there) role here) w.clock y.eui (given_at meter y at.there).eui.1 (booked_short x m (good_at number x there) role here))
+      (λ m h reads here role. challenge_speaks x.eui (given_at number x there).eui m h reads (booked x m (good_at number x there) role here) w.clock y.eui (given_at meter y at.there).eui (booked_short x m (good_at number x there) role here))
   call_speaks number x A halts plan there (Activates meter y index zero_is at low) = order_speaks number x _ _ zero_is there
-      (λ m h reads here role. activate_speaks x.eui (given_at number x there).eui.1 m h reads (booked x m (good_at number x there) role here) w.clock y.eui index low)
+      (λ m h reads here role. activate_speaks x.eui (given_at number x there).eui m h reads (booked x m (good_at number x there) role here) w.clock y.eui index low)
   call_speaks number x A halts plan there (Kicks meter y zero_is at) = order_speaks number x _ _ zero_is there
-      (λ m h reads here role. kick_speaks x.eui (given_at number x there).eui.1 m h reads (booked x m (good_at number x there) role here) w.clock y.eui)
+      (λ m h reads here role. kick_speaks x.eui (given_at number x there).eui m h reads (booked x m (good_at number x there) role here) w.clock y.eui)
 
   -- # What comes
 
-  hears_speaks : (y : Node) (got : Accepted) (cost note now : ℕ) → NodeOk y → NodeSpeaks y → AreOctets y.eui.0 → AreOctets got.payload → DidSpeak (hears network y got cost note now)
+  hears_speaks : (y : Node) (got : Accepted) (cost note now : ℕ) → NodeOk y → NodeSpeaks y → HasEui y.eui → AreOctets got.payload → DidSpeak (hears network y got cost note now)
   hears_speaks y got cost note now good h own are = by_role y.role refl
     where
       hears_as : Role → NodeStep Reception
@@ -153,7 +153,7 @@ module _ (w : World) (ok : WorldOk w) (s : WorldSpeaks w) where
       let left = acts_speaks x (Err frames.Halted) plan (speaks_at number x there) (λ m here h. accept_speaks m h x.eui (arrived network octets)) in
       let a = acts_answered x frames.Halted frames.Store plan (λ m. accept_failed network network_ranges octets are m.station _ (accept_is m.station x.eui (arrived network octets))) got is in
       let routes : RoutesFit got = accepted_routes network network_ranges octets are a.memory.station (ring_readable x a.memory (good_at number x there) a.there) _ got (accept_is a.memory.station x.eui (arrived network octets)) a.is in
-      hears_speaks (accepting network x octets).node got cost (note_by w octets got.path) w.clock did.node left.node (subst (λ eui. AreOctets eui.0) (sym did.eui) (given_at number x there).eui.1) routes.payload
+      hears_speaks (accepting network x octets).node got cost (note_by w octets got.path) w.clock did.node left.node (subst HasEui (sym did.eui) (given_at number x there).eui) routes.payload
 
   -- # Events
 
@@ -207,7 +207,7 @@ module _ (w : World) (ok : WorldOk w) (s : WorldSpeaks w) where
       told_speaks (told network (set_up w) a (offered_near x q cost w.clock)) b (offered_near y p cost w.clock) one (answering_speaks (λ _. tt) _ (call_speaks b y _ (Ok tt) (λ m. of_station m (calls.preset_near m.station p cost w.clock)) hy second))
   event_speaks event st (Provides number x c psk g d ne open_is hx hc pair same is) =
       let did : DidSpeak d = subst (λ (z : NodeStep (Result Granted CoordinatorRefusal)). DidSpeak z) (sym same) (order_speaks 0 c (Err orders.Halted) (λ m. coordinator_rules.depot m x.eui psk) refl hc
-      (λ m h reads here role. depot_speaks c.eui (given_at 0 c hc).eui.1 m h reads (booked c m (good_at 0 c hc) role here) w.clock x.eui psk)) in
+      (λ m h reads here role. depot_speaks c.eui (given_at 0 c hc).eui m h reads (booked c m (good_at 0 c hc) role here) w.clock x.eui psk)) in
       told_speaks (told network (set_up w) 0 d) number (acts x (Ok tt) (λ m. meters.provision m g)) (told_speaks (set_up w) 0 d set_up_speaks did)
       (acts_speaks x (Ok tt) (λ m. meters.provision m g) (speaks_at number x hx) (λ m here h. install_speaks m h g))
   event_speaks event st (TurnsDown e number x octets reason d there says comes same is) =
@@ -228,19 +228,26 @@ module _ (w : World) (ok : WorldOk w) (s : WorldSpeaks w) where
 
 -- # Runs
 
-abbrev EntryFlies : Entry → Type 0
-EntryFlies x = All FlightFits x.after.flights
+-- what holds after each event
+abbrev pub EntrySpeaks : Entry → Type 0
+EntrySpeaks x = WorldOk x.after × WorldSpeaks x.after × (x.trace.happened.flights ≤ 24)
 
-octets_from : (w : World) → WorldOk w → WorldSpeaks w → (entries : List Entry) → AreEvents (events_of entries) → IsRun network w entries → FlightsAreOctets entries
-octets_from w ok s [] says run = All-nil EntryFlies
-octets_from w ok s (x ∷ xs) says run =
+speaks_from : (w : World) → WorldOk w → WorldSpeaks w → (entries : List Entry) → AreEvents (events_of entries) → IsRun network w entries → All EntrySpeaks entries
+speaks_from w ok s [] says run = All-nil EntrySpeaks
+speaks_from w ok s (x ∷ xs) says run =
     let event = All-head IsEvent x.event (events_of xs) says in
     let good = taken_good network network_ranges w ok s.flights x event run.2 in
     let next : WorldSpeaks x.after = subst (SpeaksIn w ok s) run.2 (event_speaks w ok s x.event (step network w x.event) (step_is network w x.event event)) in
-    All-cons EntryFlies x xs next.flights (octets_from x.after good.0 next xs (All-tail IsEvent x.event (events_of xs) says) run.3)
+    All-cons EntrySpeaks x xs (good.0, next, good.1) (speaks_from x.after good.0 next xs (All-tail IsEvent x.event (events_of xs) says) run.3)
 
 pub start_speaks : WorldSpeaks start
 start_speaks = record { nodes = All-nil NodeSpeaks; flights = All-nil FlightFits }
 
+pub every_entry : (entries : List Entry) → IsLineRun network entries → All EntrySpeaks entries
+every_entry entries r = speaks_from start start_ok start_speaks entries r.events r.run
+
+abbrev EntryFlies : Entry → Type 0
+EntryFlies x = All FlightFits x.after.flights
+
 pub every_flight : EveryFlightIsOctets
-every_flight entries r = octets_from start start_ok start_speaks entries r.events r.run
+every_flight entries r = All-weaker EntrySpeaks EntryFlies (λ x h. h.1.flights) entries (every_entry entries r)

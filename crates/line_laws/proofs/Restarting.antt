@@ -17,10 +17,10 @@ use Rattle.routing_set.specs.OwnNumber as own_number
 use Rattle.routing_set.proofs.Histories.{opened_again}
 use Rattle.node_rules.specs.Memory.{StationMemory, Body, Memory, Role, Coordinator, Meter}
 use Rattle.node_rules.specs.StoreReading.{station_of, memory_of, remembering}
-use Rattle.node_rules.specs.Laws.{IsShort, IsLoad}
+use Rattle.node_rules.specs.Laws.{IsShort}
 use Rattle.line_laws.specs.Stores.{IsStationKept, IsNamed, IsKept}
 use Rattle.line_laws.specs.Ranges.{HasHop}
-use Rattle.line_laws.specs.Sizes.{IsMemorySized}
+use Rattle.line_laws.specs.Sizes.{IsAnyLoad, IsMemorySized}
 use Rattle.line_laws.proofs.StoreFold.{ended_kept}
 use Rattle.line_laws.proofs.MarkOrder.{rest_covered}
 
@@ -111,7 +111,7 @@ pub record Again (role : Role) (r : Records) : Type 0 where
 rested_sized : (l : StationMemory) (b : book.Book) → l.next_tag < 2 ^ 16 → IsMemorySized (remembering (rested l) b)
 unfolding rested
 rested_sized l b low = record {
-  station = record { reassemblies = (omega arith, omega arith); waiting = record { bodies = omega arith; blocks = omega arith; datagrams = All-nil (λ (x : Body). IsShort x.load) }; loads = All-nil (λ (x : Body). IsLoad x.load); tag = low };
+  station = record { reassemblies = (omega arith, omega arith); waiting = record { bodies = omega arith; blocks = omega arith; datagrams = All-nil (λ (x : Body). IsShort x.load) }; loads = All-nil (λ (x : Body). IsAnyLoad x.load); tag = low };
   sessions = omega arith;
   randoms = omega arith;
 }

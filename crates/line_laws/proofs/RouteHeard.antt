@@ -37,7 +37,7 @@ use Rattle.line_laws.proofs.RankOrder.{beats_at_least, beats_farther}
 use Rattle.line_laws.proofs.RankFold.{IsAt, OfferFits}
 use Rattle.line_laws.proofs.RankSaid.{RankBacked, MessageBacked, UnitBacked, Says, IsWhole, IsPart, IsCarried, IsOther}
 use Rattle.line_laws.proofs.RouteParts as parts
-use Rattle.line_laws.proofs.RouteParts.{At, Own, Nearer, IsNearer, FlightBacked, IsLetter}
+use Rattle.line_laws.proofs.RouteParts.{At, Own, IsNearer, FlightBacked, IsLetter}
 use Rattle.line_laws.specs.Loops.{stored}
 use Rattle.line_laws.proofs.LettersRead.{LetterRead}
 use Rattle.line_laws.proofs.Homed.{Homes}

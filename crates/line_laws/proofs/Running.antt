@@ -13,13 +13,13 @@ use Rattle.line_rules.specs.Events.{IsEvent, AreEvents}
 use Rattle.node_rules.specs.Memory.{Memory, Role, Coordinator, Meter, Node}
 use Rattle.line_rules.specs.Worlds.{World, node_at, start}
 use Rattle.line_rules.specs.Nonces as nonces
-use Rattle.line_rules.specs.SafeRuns.{IsSized}
-use Rattle.node_rules.specs.Laws.{IsWithinSizes}
+use Rattle.line_rules.specs.SafeRuns.{IsSizedBy}
+use Rattle.node_rules.specs.Laws.{IsWithin}
 use Rattle.line_rules.specs.Runs.{Entry, IsRun, events_of}
-use Rattle.line_rules.specs.SafeRuns.{IsAlwaysSized, is_restart, RestartsAreAnswered}
+use Rattle.line_rules.specs.SafeRuns.{IsAlwaysSizedBy, is_restart, RestartsAreAnswered}
 use Rattle.line_rules.specs.Steps.{Step, step, restart, restarts, restart_word, acted, has_begun}
 use Rattle.line_laws.specs.Stores.{IsKept}
-use Rattle.line_laws.specs.Sizes.{IsMemorySized}
+use Rattle.line_laws.specs.Sizes.{IsAnyLoad, IsMemorySized}
 use Rattle.line_laws.specs.Owed.{KeepsRanges}
 use Rattle.line_laws.specs.Laws.{FlightsAreOctets, EveryCounterRises, EveryRunIsSized, EveryRestartIsAnswered}
 use Rattle.line_laws.proofs.Keeping.{Left}
@@ -44,7 +44,7 @@ taken_good ciphers fits w ok flown x says e = subst Good e (good w _ (step_good 
 
 -- # Sizes
 
-memory_sized : (role : Role) (m : Memory) (r : Records) → IsKept role m r → IsMemorySized m → IsWithinSizes m
+memory_sized : (role : Role) (m : Memory) (r : Records) → IsKept role m r → IsMemorySized m → IsWithin IsAnyLoad m
 memory_sized role m r k h = record {
   peers = k.station.range.marks.short;
   ranks = k.station.range.routing.entries.short;
@@ -61,26 +61,26 @@ memory_sized role m r k h = record {
     by_role Coordinator k = k.book.table.short
     by_role (Meter psk) k = rw k.book.0 (omega arith)
 
-node_sized : (x : Node) → NodeOk x → IfSome x.memory IsWithinSizes
+pub node_sized : (x : Node) → NodeOk x → IfSome x.memory (IsWithin IsAnyLoad)
 node_sized x ok = by_memory x.memory ok.kept ok.sized
   where
-    by_memory : (o : Option Memory) → Left (IsKept x.role) x.store.records o → IfSome o IsMemorySized → IfSome o IsWithinSizes
+    by_memory : (o : Option Memory) → Left (IsKept x.role) x.store.records o → IfSome o IsMemorySized → IfSome o (IsWithin IsAnyLoad)
     by_memory None k h = tt
     by_memory (Some m) k h = memory_sized x.role m x.store.records k h
 
 abbrev NodeSized : Node → Type 0
-NodeSized x = IfSome x.memory IsWithinSizes
+NodeSized x = IfSome x.memory (IsWithin IsAnyLoad)
 
-world_sized : (w : World) → WorldOk w → IsSized w
+world_sized : (w : World) → WorldOk w → IsSizedBy IsAnyLoad w
 world_sized w ok = record { nodes = ok.count; memories = All-weaker NodeOk NodeSized node_sized w.nodes ok.nodes }
 
 abbrev EntryFlies : Entry → Type 0
 EntryFlies x = All FlightFits x.after.flights
 
 abbrev EntrySized : Entry → Type 0
-EntrySized x = IsSized x.after × (x.trace.happened.flights ≤ 24)
+EntrySized x = IsSizedBy IsAnyLoad x.after × (x.trace.happened.flights ≤ 24)
 
-sized_from : (ciphers : Ciphers) → KeepsRanges ciphers → (w : World) → WorldOk w → All FlightFits w.flights → (entries : List Entry) → AreEvents (events_of entries) → FlightsAreOctets entries → IsRun ciphers w entries → IsAlwaysSized entries
+sized_from : (ciphers : Ciphers) → KeepsRanges ciphers → (w : World) → WorldOk w → All FlightFits w.flights → (entries : List Entry) → AreEvents (events_of entries) → FlightsAreOctets entries → IsRun ciphers w entries → IsAlwaysSizedBy IsAnyLoad entries
 sized_from ciphers fits w ok flown [] says fly run = All-nil EntrySized
 sized_from ciphers fits w ok flown (x ∷ xs) says fly run =
     let g = taken_good ciphers fits w ok flown x (All-head IsEvent x.event (events_of xs) says) run.2 in

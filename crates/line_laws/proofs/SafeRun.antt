@@ -13,7 +13,7 @@ use Rattle.line_laws.proofs.IssueRuns.{only_issued}
 use Rattle.line_laws.proofs.LoopRuns.{every_run as loop_free}
 use Rattle.line_laws.proofs.OctetRuns.{every_flight}
 use Rattle.line_laws.proofs.Readings.{network_ranges}
-use Rattle.line_laws.proofs.Running.{every_run}
+use Rattle.line_laws.proofs.NetworkSizes.{every_size}
 use Rattle.line_laws.proofs.UpsSent.{every_up}
 
 abbrev EntrySized : Entry → Type 0
@@ -33,4 +33,4 @@ safe_from w before (x ∷ xs) ups loops keys sized = λ honest.
 pub every_safe : EveryRunIsSafe
 every_safe entries r =
     safe_from start [] entries (every_up entries r) (loop_free entries r) (only_issued network network_ranges entries r (every_flight entries r))
-    (every_run network network_ranges entries r (every_flight entries r))
+    (every_size entries r)

@@ -24,8 +24,8 @@ use Rattle.node_rules.specs.Drafts.{Draft, Ends, empty_draft, waits_for, no_room
 use Rattle.node_rules.specs.MemoryDrafts.{in_memory, on_station, station_part, with_memory_by, with_pair_tags, goes_up, goes_down}
 use Rattle.node_rules.specs.Coordinators as coordinators
 use Rattle.node_rules.specs.Coordinators.{with_book_entry}
-use Rattle.node_rules.specs.Laws.{IsShort, WaitingFits, IsLoad}
-use Rattle.line_laws.specs.Sizes.{IsStationSized, IsMemorySized}
+use Rattle.node_rules.specs.Laws.{IsShort, WaitingFits}
+use Rattle.line_laws.specs.Sizes.{IsAnyLoad, IsStationSized, IsMemorySized}
 use Rattle.line_laws.proofs.Planned.{Planned, Refuses, Keeps, Ended}
 use Rattle.line_laws.proofs.StoreFold.{WordFits}
 use Rattle.line_laws.proofs.Made.{RingWord, Carry, Given, Made, Starts, Ranks, Numbers, Tags, Rings, Idles, Loses, Goes, Sends, Waits, Leaves}
@@ -118,7 +118,7 @@ has_room l octets = by_tests (nat_lt (length l.waiting) 8) (nat_lt 80 (blocks_wa
     by_tests false b ea eb e = absurd (cc)
 
 -- a load is short
-load_short : (load : Load) → IsLoad load → IsShort load
+load_short : (load : Load) → IsAnyLoad load → IsShort load
 load_short (Datagram octets tag) h = h.1
 load_short (Command octets) h = tt
 
@@ -126,7 +126,7 @@ load_short (Command octets) h = tt
 same_waiting : (l k : StationMemory) → k.waiting ≡ l.waiting → WaitingFits l → WaitingFits k
 same_waiting l k e w = record { bodies = rw e w.bodies; blocks = rw e w.blocks; datagrams = rw e w.datagrams }
 
-waits_sized : (l : StationMemory) (b : Body) → no_room l (length (load_octets b.load)) ≡ false → IsLoad b.load → IsStationSized l → IsStationSized (record l { waiting = l.waiting ++ b ∷ [] })
+waits_sized : (l : StationMemory) (b : Body) → no_room l (length (load_octets b.load)) ≡ false → IsAnyLoad b.load → IsStationSized l → IsStationSized (record l { waiting = l.waiting ++ b ∷ [] })
 waits_sized l b room load h =
     let r = has_room l (length (load_octets b.load)) room in
     let count : length l.waiting < 8 = r.count in
@@ -137,7 +137,7 @@ waits_sized l b room load h =
     record {
       reassemblies = h.reassemblies;
       waiting = record { bodies = omega arith; blocks = omega arith; datagrams = All-push (λ (x : Body). IsShort x.load) l.waiting b h.waiting.datagrams (load_short b.load load) };
-      loads = All-push (λ (x : Body). IsLoad x.load) l.waiting b h.loads load;
+      loads = All-push (λ (x : Body). IsAnyLoad x.load) l.waiting b h.loads load;
       tag = h.tag;
     }
 
@@ -152,7 +152,7 @@ stays_sized l keep h =
     record {
       reassemblies = h.reassemblies;
       waiting = record { bodies = omega arith; blocks = omega arith; datagrams = All-filter keep (λ (x : Body). IsShort x.load) l.waiting h.waiting.datagrams };
-      loads = All-filter keep (λ (x : Body). IsLoad x.load) l.waiting h.loads;
+      loads = All-filter keep (λ (x : Body). IsAnyLoad x.load) l.waiting h.loads;
       tag = h.tag;
     }
 
@@ -172,7 +172,7 @@ made_sized W words g s d (Rings x e made change) h = let k = made_sized W words 
 made_sized W words g s d (Idles e made) h = record {
   reassemblies = (omega arith, omega arith);
   waiting = record { bodies = omega arith; blocks = omega arith; datagrams = All-nil (λ (x : Body). IsShort x.load) };
-  loads = All-nil (λ (x : Body). IsLoad x.load);
+  loads = All-nil (λ (x : Body). IsAnyLoad x.load);
   tag = (made_sized W words g s e made h).tag;
 }
 made_sized W words g s d (Loses lost by e made) h = let k = made_sized W words g s e made h in record { reassemblies = k.reassemblies; waiting = same_waiting e.memory d.memory refl k.waiting; loads = k.loads; tag = k.tag }

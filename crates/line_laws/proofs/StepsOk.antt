@@ -54,13 +54,13 @@ use Rattle.line_rules.specs.Answers.{Reception, meter_reception, coordinator_rec
 use Rattle.group_keys.specs.declared.fault.RingFault.TheVariants.{Store as RingStore}
 use Rattle.node_rules.specs.Drafts.{choose}
 use Rattle.node_rules.specs.MemoryDrafts.{with_station}
-use Rattle.node_rules.specs.Laws.{IsShort, IsLoad}
+use Rattle.node_rules.specs.Laws.{IsShort}
 use Rattle.line_rules.specs.Events.{IsEvent}
 use Rattle.line_rules.specs.Worlds.{World, Flight, Trace, node_at, flight_at, is_forged_tag}
 use Rattle.line_rules.specs.Steps.{Step, set_up, ran, told, flights_of, acted, once_begun, in_setup, has_begun, takes_setup, on_node, on_meter, made_node, blank_node, identity, hears, restarts, memory_by, ticked, rand, join, joins_by, leave, send, sends_by, sent_if, breaks, breaks_by, lose, tick, restart, cut, show, psk_of, trace_of, happened, coordinator, coordinator_node, meter, is_known, depot, depot_by, provisioned, near, near_by, keeps_rank, ranks_full, offered_near, preset, allow, allowed, deliver, inject, arrives, accepted_by, received, by_coordinator, forged_by, note_by, rekey, challenge, activate, kick, step}
 use Rattle.node_rules.specs.NodeSteps.{NodeStep, acts, stays, answering, of_station}
 use Rattle.line_laws.specs.Stores.{IsReadable, IsStationKept, BookKept, IsNamed, IsKept, HasEui, IsPair}
-use Rattle.line_laws.specs.Sizes.{IsStationSized, IsMemorySized}
+use Rattle.line_laws.specs.Sizes.{IsAnyLoad, IsStationSized, IsMemorySized}
 use Rattle.line_laws.specs.Owed.{AreOctets, KeepsRanges}
 use Rattle.line_laws.proofs.Keeping.{Left, leads_beside}
 use Rattle.line_laws.proofs.StoreFold.{ended_kept, beside_kept}
@@ -210,7 +210,7 @@ pub blank_ok : (role : Role) (eui : Eui) → PairOctets role → NodeOk (blank_n
 blank_ok role eui pair = record {
   kept = record { station = blank_kept; book = by_role role pair; sessions = All-nil IsNamed };
   sized = record {
-    station = record { reassemblies = (omega arith, omega arith); waiting = record { bodies = omega arith; blocks = omega arith; datagrams = All-nil (λ (b : Body). IsShort b.load) }; loads = All-nil (λ (b : Body). IsLoad b.load); tag = omega arith };
+    station = record { reassemblies = (omega arith, omega arith); waiting = record { bodies = omega arith; blocks = omega arith; datagrams = All-nil (λ (b : Body). IsShort b.load) }; loads = All-nil (λ (b : Body). IsAnyLoad b.load); tag = omega arith };
     sessions = omega arith;
     randoms = omega arith;
   };

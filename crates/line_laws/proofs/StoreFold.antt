@@ -13,7 +13,7 @@ use Rattle.routing_set.proofs.Endings.{kept_ended}
 use Rattle.routing_set.proofs.Histories.{ended_sound}
 use Rattle.routing_set.specs.declared.entry.RoutingEntry.{RoutingEntry}
 use Rattle.std.proofs.lemmas.List.Elements.{All-map, All-weaker}
-use Rattle.node_rules.specs.Laws.{IsLoad}
+use Rattle.line_laws.specs.Sizes.{IsAnyLoad}
 use Rattle.line_laws.specs.Stores.{IsHeld, IsReadable, IsStationKept}
 use Rattle.line_laws.proofs.Keeping.{Leads, leads_beside, leads_append}
 use Rattle.line_laws.proofs.Beside.{Lasts, With, low_one}
@@ -25,7 +25,7 @@ use Rattle.line_laws.proofs.Made.{Given, Offered, RingWord, Carry, Drop, Install
 
 -- a word leaves a ring whose record is read back
 abbrev pub WordFits : RingWord → Type 0
-WordFits (Carry to note load) = IsLoad load
+WordFits (Carry to note load) = IsAnyLoad load
 WordFits Drop = Unit {0}
 WordFits (Install granted) = IsReadable granted
 WordFits (Draw index key) = IsHeld (Some key)

@@ -4,11 +4,12 @@ use Rattle.node_rules.specs.Ciphers.{Ciphers, network}
 use Rattle.line_rules.specs.Events.{AreEvents}
 use Rattle.line_rules.specs.Worlds.{Flight, start}
 use Rattle.line_rules.specs.Runs.{Entry, IsRun, events_of}
-use Rattle.line_rules.specs.SafeRuns.{IsAlwaysSized, RestartsAreAnswered}
+use Rattle.line_rules.specs.SafeRuns.{IsAlwaysSized, IsAlwaysSizedBy, RestartsAreAnswered}
 use Rattle.line_rules.specs.Nonces.{CountersRise, NoncesDiffer, AreSpelled, AreAddressed, AreApart}
 use Rattle.line_rules.specs.Forgery.{IsForgedRight}
 use Rattle.line_rules.specs.Traces.{CountsRight, AreTracedRight}
 use Rattle.line_laws.specs.Owed.{AreOctets, KeepsRanges}
+use Rattle.line_laws.specs.Sizes.{IsAnyLoad}
 
 -- A run of the line from its beginning, whose events are ones that lines can say.
 pub record IsLineRun (ciphers : Ciphers) (entries : List Entry) : Type 0 where
@@ -46,13 +47,17 @@ EveryFlightIsSpelled =
 abbrev pub EveryFlightIsOctets : Type 0
 EveryFlightIsOctets = (entries : List Entry) → IsLineRun network entries → FlightsAreOctets entries
 
+-- no table passes its size, commands that wait have at most 374 octets, and no event sends more than 24 frames
+abbrev pub EveryNetworkRunIsSized : Type 0
+EveryNetworkRunIsSized = (entries : List Entry) → IsLineRun network entries → IsAlwaysSized entries
+
 -- # Forged or not
 
--- no table passes its size, and no event sends more than 24 frames
+-- no table passes its size, and no event sends more than 24 frames; a command that waits may be of any length, since the ciphers are any
 abbrev pub EveryRunIsSized : Type 0
 EveryRunIsSized =
     (ciphers : Ciphers) → KeepsRanges ciphers → (entries : List Entry) → IsLineRun ciphers entries
-    → FlightsAreOctets entries → IsAlwaysSized entries
+    → FlightsAreOctets entries → IsAlwaysSizedBy IsAnyLoad entries
 
 -- a restart finds a store that has a reading
 abbrev pub EveryRestartIsAnswered : Type 0

@@ -13,7 +13,7 @@ use Rattle.line_laws.specs.Live.{MarksAlwaysRise, FlightsAlwaysFall}
 use Rattle.line_laws.specs.Once.{AcceptsOnce, AcceptedOnce}
 use Rattle.line_laws.specs.Issued.{IsIssuedAfter}
 use Rattle.line_laws.specs.Laws.{IsLineRun, FlightsAreOctets}
-use Rattle.line_laws.specs.Loops.{AreLoopFree}
+use Rattle.line_laws.specs.Loops.{AreLoopFree, RestartsEndRoutes}
 use Rattle.line_laws.specs.Tags.{SendsHaveOctets, TagsRise}
 use Rattle.line_laws.specs.Ups.{UpsAreSentAfter}
 
@@ -26,6 +26,7 @@ pub record IsRight (entries : List Entry) : Type 0 where
   pub octets : FlightsAreOctets entries
   pub sized : IsAlwaysSized entries
   pub answered : RestartsAreAnswered entries
+  pub ends : RestartsEndRoutes entries
   pub rises : CountersRise entries
   pub spelled : AreSpelled network entries
   pub senders : AreAddressed start entries

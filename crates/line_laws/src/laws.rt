@@ -10,7 +10,7 @@ ghost use Rattle.line_laws.specs.Tags.{EverySendHasOctets, EveryTagRises};
 ghost use Rattle.line_laws.specs.Ups.{EveryDatagramWasSent};
 ghost use Rattle.node_rules.specs.Ciphers.{OpensWhatItSeals, network};
 ghost use Rattle.line_laws.specs.Loops.{EveryRestartEndsRoutes, EveryRunIsLoopFree};
-ghost use Rattle.line_laws.specs.Laws.{EveryAddressDiffers, EveryCountIsRight, EveryCounterRises, EveryFlightIsOctets, EveryFlightIsSpelled, EveryForgeryIsTold, EveryNonceDiffers, EveryRestartIsAnswered, EveryRunIsSized, EverySenderIsRight, EveryTraceIsRight};
+ghost use Rattle.line_laws.specs.Laws.{EveryAddressDiffers, EveryCountIsRight, EveryCounterRises, EveryFlightIsOctets, EveryFlightIsSpelled, EveryForgeryIsTold, EveryNetworkRunIsSized, EveryNonceDiffers, EveryRestartIsAnswered, EveryRunIsSized, EverySenderIsRight, EveryTraceIsRight};
 
 use node_rules::the_network_opens_what_it_seals;
 
@@ -30,10 +30,12 @@ pub fn network_opens_what_it_seals()
     the_network_opens_what_it_seals();
 }
 
-/// In every run, forged or not, no table passes its size, and no event sends more than 24 frames.
+/// In every run, forged or not, no table passes its size, and no event sends more than 24 frames. In every run of the network a command
+/// that waits has at most 374 octets, its code first; with other ciphers a packet, and so a command, may have any length.
 #[tactic(auto)]
 pub fn every_run_is_sized()
-    ensures { EveryRunIsSized }
+    ensures network { EveryNetworkRunIsSized }
+    ensures others { EveryRunIsSized }
 {}
 
 /// In every run, forged or not, whatever power was lost: a restart finds a store that has a reading.

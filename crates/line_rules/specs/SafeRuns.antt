@@ -6,8 +6,8 @@ use Rattle.plc_base.specs.Grant.{Granted}
 use Rattle.line_rules.specs.declared.event.Answer.TheVariants as said
 use Rattle.line_rules.specs.declared.event.Event.{Event}
 use Rattle.line_rules.specs.declared.event.Event.TheVariants as events
-use Rattle.node_rules.specs.Laws.{IsWithinSizes}
-use Rattle.node_rules.specs.Memory.{Memory, Node, Role, Coordinator, Meter, node_address, node_route}
+use Rattle.node_rules.specs.Laws.{IsLoad, IsWithin}
+use Rattle.node_rules.specs.Memory.{Memory, Load, Node, Role, Coordinator, Meter, node_address, node_route}
 use Rattle.line_rules.specs.Worlds.{World, node_at, Sending, Issued}
 use Rattle.line_rules.specs.declared.happenings.Handed.{Handed}
 use Rattle.line_rules.specs.Runs.{Entry, sends, ups, issued, send_at}
@@ -73,10 +73,14 @@ HasIssuedKeys given eui (Meter psk) (Some m) = IfSome m.station.ring (λ g. Hold
 abbrev pub HasOnlyIssuedKeys : List Issued → World → Type 0
 HasOnlyIssuedKeys given w = All (λ (x : Node). HasIssuedKeys given x.eui x.role x.memory) w.nodes
 
--- No table of the world passes its size.
-pub record IsSized (w : World) : Type 0 where
+-- No table of the world passes its size, and each load that waits is one of these.
+pub record IsSizedBy (Is : Load → Type 0) (w : World) : Type 0 where
   pub nodes : length w.nodes ≤ 1000
-  pub memories : All (λ (x : Node). IfSome x.memory IsWithinSizes) w.nodes
+  pub memories : All (λ (x : Node). IfSome x.memory (IsWithin Is)) w.nodes
+
+-- so it is with the loads that nodes send
+abbrev pub IsSized : World → Type 0
+IsSized w = IsSizedBy IsLoad w
 
 -- # A safe run
 
@@ -112,9 +116,13 @@ IsSafe entries = IsSafeAfter [] entries
 
 -- # Every run, forged or not
 
--- no table passes its size, and no step sends more than 24 frames
+-- no table passes its size, each load that waits is one of these, and no step sends more than 24 frames
+abbrev pub IsAlwaysSizedBy : (Load → Type 0) → List Entry → Type 0
+IsAlwaysSizedBy Is entries = All (λ (x : Entry). IsSizedBy Is x.after × (x.trace.happened.flights ≤ 24)) entries
+
+-- so it is with the loads that nodes send
 abbrev pub IsAlwaysSized : List Entry → Type 0
-IsAlwaysSized entries = All (λ (x : Entry). IsSized x.after × (x.trace.happened.flights ≤ 24)) entries
+IsAlwaysSized entries = IsAlwaysSizedBy IsLoad entries
 
 -- a restart finds a store that has a reading
 abbrev pub is_restart : Event → Bool

@@ -1,5 +1,6 @@
 pub mod Writing
 pub mod Composing
+pub mod OwnAnswers
 pub mod Unread
 pub mod Halting
 pub mod Sizes

@@ -1,14 +1,14 @@
 -- What the coordinator does that is not about its ring puts none.
-use Rattle.std.proofs.Common.{◌≡◌, ℕ, Bool, List, [], refl, sym, ap, ◌∙◌, arith}
+use Rattle.std.proofs.Common.{◌≡◌, Bool, List, refl, sym, ap, ◌∙◌, arith}
 use Rattle.std.specs.Prelude.{All}
-use Rattle.std.specs.FinMap.{get, insert}
+use Rattle.std.specs.FinMap.{get}
 use Rattle.plc_base.specs.Keeper.{Records, Store, Write}
 use Rattle.plc_base.specs.Writes.{Wrote}
 use Rattle.plc_base.proofs.StoreLemmas.{get-insert_other}
 use Rattle.group_keys.specs.declared.key_book.BookEntry.{BookEntry}
 use Rattle.group_keys.specs.KeyBook as book
 use Rattle.group_keys.specs.KeyRing.{ring_slot}
-use Rattle.node_rules.specs.Memory.{StationMemory, Memory}
+use Rattle.node_rules.specs.Memory.{StationMemory}
 use Rattle.node_rules.specs.MemoryDrafts.{in_memory}
 use Rattle.node_rules.specs.Home.{PutsNoRing, CoordinatorsWriteNoRing, WritesKeepRing}
 use Rattle.node_rules.proofs.Tables.{Keep, wrote_keeps}

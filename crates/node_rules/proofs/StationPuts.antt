@@ -1,12 +1,11 @@
 -- What a station does by itself puts no ring and no entry of the book.
-use Rattle.std.proofs.Common.{◌≡◌, ℕ, ◌<◌, ◌≤◌, Bool, List, [], ◌∷◌, Option, refl, sym, ◌∙◌, arith}
+use Rattle.std.proofs.Common.{List, [], refl, sym, ◌∙◌, arith}
 use Rattle.std.specs.Prelude.{All}
 use Rattle.std.specs.FinMap.{get, insert}
 use Rattle.std.proofs.lemmas.List.Elements.{All-nil, All-cons}
 use Rattle.plc_base.specs.Keeper.{Records, Write}
 use Rattle.plc_base.proofs.StoreLemmas.{get-insert_other}
 use Rattle.frame_counters.specs.SendCounter as counter
-use Rattle.group_keys.specs.KeyBook as book
 use Rattle.group_keys.specs.KeyRing.{ring_slot}
 use Rattle.routing_set.specs.OwnNumber as own_number
 use Rattle.node_rules.specs.Memory.{StationMemory}

@@ -21,7 +21,7 @@ use Rattle.node_rules.specs.Neighbours.{local_ends, local_draft, send_local}
 use Rattle.node_rules.specs.Coordinators as coordinator_rules
 use Rattle.node_rules.specs.Tables.{IsInPlace, ArePlaced, HasShortTables, StationsWriteInPlace, MetersWriteInPlace, CoordinatorsWriteInPlace}
 use Rattle.node_rules.proofs.Shapes.{Shape, Rests, Keeps, Ended, checked_shape, choose_shape, sealed_shape}
-use Rattle.node_rules.proofs.TablePuts.{Membership, RingOf, EntryOf, PutOf, OfFloors, OfNumber, OfRing, OfMark, OfRank, OfEntry, AnyMembership, Any, SameHome, AreOf, Puts, Does, begun_puts, ranked_puts, ringed_puts, goes_puts, counter_of, mark_of, both, begins, remembers, quiet_does}
+use Rattle.node_rules.proofs.TablePuts.{Membership, RingOf, PutOf, OfFloors, OfNumber, OfRing, OfMark, OfRank, OfEntry, AnyMembership, Any, AreOf, Puts, Does, begun_puts, ranked_puts, ringed_puts, goes_puts, counter_of, mark_of, both, begins, remembers, quiet_does}
 use Rattle.node_rules.proofs.HearingShapes.{hear_shape}
 use Rattle.node_rules.proofs.CallShapes.{AcceptShape, Stays, Marks, accept_shape, send_shape, send_command_shape}
 use Rattle.node_rules.proofs.MeterShapes.{meter_shape, joins_shape, leaves_shape}

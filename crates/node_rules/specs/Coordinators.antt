@@ -34,7 +34,7 @@ use Rattle.node_rules.specs.Ciphers.{Ciphers}
 use Rattle.node_rules.specs.Memory.{StationMemory, Memory, CoordinatorSession, next_hop}
 use Rattle.node_rules.specs.Plans.{Plan, resting, within}
 use Rattle.node_rules.specs.Accepting.{same_eui}
-use Rattle.node_rules.specs.Drafts.{Draft, Ends, Lack, OfRoom, OfNumbers, empty_draft, with_ring, counters_left, refused, sealing, sealed, checked, choose}
+use Rattle.node_rules.specs.Drafts.{Draft, Ends, Lack, OfRoom, OfNumbers, empty_draft, counters_left, refused, sealing, sealed, checked, choose}
 use Rattle.node_rules.specs.Hearing.{dropped, hear}
 use Rattle.node_rules.specs.Calls as calls
 use Rattle.node_rules.specs.Joining.{first_packet, server_for, server_agrees, message, command_of}

@@ -179,22 +179,27 @@ pub record WaitingFits (l : StationMemory) : Type 0 where
   pub blocks : blocks_waiting l ≤ 80
   pub datagrams : All (λ (b : Body). IsShort b.load) l.waiting
 
--- a datagram has 1 to 1,280 octets, and the tag of its pieces two octets; a command has a code
+-- A datagram has 1 to 1,280 octets, and the tag of its pieces two octets; a command has 1 to 374, its code first, as a station takes
+-- it. A sealed frame has room for it: 400 octets, but for 15 of its header, 4 of its tag, 5 of the mesh header and the dispatch 40.
 abbrev pub IsLoad : Load → Type 0
 IsLoad (Datagram octets tag) = (1 ≤ length octets) × (length octets ≤ 1280) × (tag < 2 ^ 16)
-IsLoad (Command octets) = 1 ≤ length octets
+IsLoad (Command octets) = (1 ≤ length octets) × (length octets ≤ 374)
 
--- No table of a node's memory passes its size, so a node that is within its sizes sends at most 24 frames in a step.
-pub record IsWithinSizes (m : Memory) : Type 0 where
+-- No table of a node's memory passes its size, and each load that waits is one of these.
+pub record IsWithin (Is : Load → Type 0) (m : Memory) : Type 0 where
   pub peers : length m.station.marks ≤ 64
   pub ranks : length m.station.routing.entries ≤ 64
   pub floors : length m.station.routing.floors ≡ 16
   pub reassemblies : (length m.station.reassemblies ≤ 8) × (blocks_held m.station.reassemblies ≤ 80)
   pub waiting : WaitingFits m.station
-  pub loads : All (λ (b : Body). IsLoad b.load) m.station.waiting
+  pub loads : All (λ (b : Body). Is b.load) m.station.waiting
   pub sessions : length m.sessions ≤ 8
   pub randoms : length m.randoms ≤ 8
   pub book : length m.book ≤ 999
+
+-- a node that is within its sizes sends at most 24 frames in a step
+abbrev pub IsWithinSizes : Memory → Type 0
+IsWithinSizes m = IsWithin IsLoad m
 
 -- a plan sends at most 24 frames
 abbrev pub SendsFew : {M A : Type 0} → Plan M A → Type 0

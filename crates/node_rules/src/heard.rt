@@ -1,6 +1,9 @@
 //! What a node makes of a frame that it hears.
+ghost use Rattle.std.specs.Prelude.{◌≡◌, ◌≤◌, length};
+
 use eap_psk::Agreed;
-use plc_base::{DatagramBuf, Eui, FrameBuf, Grant, Key, Short};
+use plc_base::{Eui, FrameBuf, Grant, Key, OctetRef, Short};
+use std::marker::Model;
 
 /// The way on which an accepted frame came.
 #[derive(Clone, Copy, Debug, PartialEq, Eq)]
@@ -26,13 +29,44 @@ pub enum Path {
     },
 }
 
+/// What is inside a frame, where it stands: at most 400 octets. A contract sees the list of them.
+#[derive(Drop)]
+pub struct FrameRef<'a> {
+    items: &'a FrameBuf,
+}
+
+impl<'a> Model for FrameRef<'a> {
+    ghost use Rattle.std.specs.Prelude.{ℕ, List};
+
+    ghost Value = { List ℕ };
+
+    ghost view = { λ o. o.items.now };
+}
+
+impl<'a> FrameRef<'a> {
+    /// These octets.
+    pub fn new(octets: &'a FrameBuf) -> FrameRef<'a>
+        ensures { result ≡ octets.now }
+    {
+        FrameRef { items: octets }
+    }
+
+    /// The octets as a slice.
+    pub fn octets(&self) -> &'a [u8]
+        ensures value { result.now ≡ self.now }
+        ensures fits { length result.now ≤ 400 }
+    {
+        self.items.octets()
+    }
+}
+
 /// A frame that was accepted.
-#[derive(Debug, Drop)]
-pub struct Accepted {
+#[derive(Drop)]
+pub struct Accepted<'a> {
     /// The way on which it came.
     pub path: Path,
-    /// The octets of its unit, unread.
-    pub payload: FrameBuf,
+    /// The octets of its unit, unread. They stay in the buffer that the caller lent.
+    pub payload: FrameRef<'a>,
 }
 
 /// Where a joining message comes from, and where its answer goes.
@@ -57,9 +91,10 @@ pub struct Reply {
     pub origin: Short,
 }
 
-/// What a station made of a frame that it accepted.
-#[derive(Debug, Drop)]
-pub enum Heard {
+/// What a station made of a frame that it accepted. Octets stay where they are: in the frame's payload, or in the buffer that the
+/// caller lent for datagrams that come in pieces.
+#[derive(Drop)]
+pub enum Heard<'a> {
     /// A datagram is handed up.
     Up {
         /// The node that sent it first.
@@ -67,7 +102,7 @@ pub enum Heard {
         /// The caller's number of the datagram: that which came with its frame, or with the first of its pieces.
         note: u32,
         /// The datagram.
-        octets: DatagramBuf,
+        octets: OctetRef<'a>,
     },
     /// A piece is held until the others come.
     Held,
@@ -86,7 +121,7 @@ pub enum Heard {
         /// Where it comes from.
         way: Way,
         /// What stands behind the code 02.
-        body: FrameBuf,
+        body: OctetRef<'a>,
     },
     /// A command of code 03, 04 or 05, whose body is not read yet.
     Local {
@@ -97,7 +132,7 @@ pub enum Heard {
         /// The code: 3 to 5.
         code: u8,
         /// What stands behind the code.
-        body: FrameBuf,
+        body: OctetRef<'a>,
     },
 }
 
@@ -111,10 +146,10 @@ pub enum SentHow {
 }
 
 /// What a meter made of a frame that it accepted.
-#[derive(Debug, Drop)]
-pub enum MeterHeard {
+#[derive(Drop)]
+pub enum MeterHeard<'a> {
     /// What its station made of it.
-    Station(Heard),
+    Station(Heard<'a>),
     /// A joining message goes on.
     Carried,
     /// A challenge is answered.
@@ -132,10 +167,10 @@ pub enum MeterHeard {
 }
 
 /// What the coordinator made of a frame that it accepted.
-#[derive(Debug, Drop)]
-pub enum CoordinatorHeard {
+#[derive(Drop)]
+pub enum CoordinatorHeard<'a> {
     /// What its station made of it.
-    Station(Heard),
+    Station(Heard<'a>),
     /// A session is opened, and the meter is challenged.
     Challenged,
     /// The meter has shown its key, and its grant goes out.

@@ -10,7 +10,9 @@ mod refusal;
 mod shown;
 mod table_laws;
 
-pub use heard::{Accepted, CoordinatorHeard, Heard, MeterHeard, Path, Reply, SentHow, Way};
+pub use heard::{
+    Accepted, CoordinatorHeard, FrameRef, Heard, MeterHeard, Path, Reply, SentHow, Way,
+};
 pub use laws::{
     a_coordinators_drop_changes_nothing, a_coordinators_hearing_is_bounded, a_drop_changes_nothing,
     a_frame_refused_changes_nothing, a_join_is_bounded, a_join_refused_changes_nothing,

@@ -16,8 +16,7 @@ use Rattle.broadcast_log.specs.Grammar.{spelling}
 use Rattle.broadcast_log.specs.Reading.{broadcast_in}
 use Rattle.plc_base.specs.Numberings.{passes, limit_write, raised}
 use Rattle.broadcast_log.specs.NextNumber.{Numbering, limit_slot, number_put}
-use Rattle.broadcast_log.specs.OriginMarks.{Marks, marks, keep_write, kept_after}
-use Rattle.reach_rules.proofs.Origins.{OriginMark, mark_at, mark_ahead, place_of}
+use Rattle.broadcast_log.specs.OriginMarks.{OriginMark, Marks, marks, place_of, mark_at, mark_ahead, keep_write, kept_after}
 use Rattle.path_requests.specs.declared.message.PathMessage.{PathMessage}
 use Rattle.path_requests.specs.declared.step.PathStep.{PathStep}
 use Rattle.path_requests.specs.declared.step.PathStep.TheVariants.{Forward, Answer, Done}

@@ -1,6 +1,5 @@
 mod AsWithout
 mod HandingOn
-mod Origins
 mod Commands
 mod CheckedHearing
 mod Once

@@ -9,8 +9,7 @@ use Rattle.plc_base.proofs.SlotTables.{found, place_of-set}
 use Rattle.plc_base.proofs.LookUps.{place_push}
 use Rattle.broadcast_log.specs.declared.broadcast.Broadcast.{Broadcast}
 use Rattle.broadcast_log.specs.declared.fault.LogFault.TheVariants as log_faults
-use Rattle.broadcast_log.specs.OriginMarks.{Marks, marks, room_for, kept_after}
-use Rattle.reach_rules.proofs.Origins.{OriginMark, mark_at, mark_ahead, advanced, place_of}
+use Rattle.broadcast_log.specs.OriginMarks.{OriginMark, Marks, marks, place_of, mark_at, mark_ahead, advanced, room_for, kept_after}
 use Rattle.node_rules.specs.Plans.{resting}
 use Rattle.node_rules.specs.Drafts.{StationPlace, checked}
 use Rattle.reach_rules.specs.declared.refusal.ReachDropped.{ReachDropped}

@@ -8,7 +8,7 @@ use Rattle.frame_counters.specs.SendCounter as counter
 use Rattle.neighbour_checks.specs.Acks.{ack_spelling}
 use Rattle.broadcast_log.specs.Grammar.{spelling}
 use Rattle.plc_base.specs.Numberings.{counting_at}
-use Rattle.plc_base.specs.Marks.{mark_ahead}
+use Rattle.broadcast_log.specs.OriginMarks.{mark_ahead}
 use Rattle.path_requests.specs.declared.message.PathMessage.TheVariants.{Ask, Tell}
 use Rattle.path_requests.specs.Messages.{path_spelling}
 use Rattle.pan_discovery.specs.History.{begun, ended}
@@ -97,7 +97,7 @@ StrangeCommandsAreDropped =
 -- a node that holds 32 origins, from address 100 on, each with the mark 5
 abbrev pub with_origins : Reaching Memory → Reaching Memory
 with_origins x =
-    with_log (record x.beside.log { marks = map (λ k. mark_ahead 0x0300 32 (100 + k) 5) (range_with_len 0 32) }) x
+    with_log (record x.beside.log { marks = map (λ k. mark_ahead (100 + k) 5) (range_with_len 0 32) }) x
 
 -- what is handed up of it
 abbrev pub up_of : (origin number : ℕ) → Result CommandHeard ReachDropped

@@ -1,4 +1,7 @@
-//! Why a node refuses: the words of its answers, in the order in which they are tried.
+//! Why a node refuses: the words of its answers.
+//!
+//! The rules of `specs/` are of nodes that are not halted, so none of them tries Halted: it is what a halted node answers, before any
+//! rule is asked.
 use node_rules::Dropped;
 use thiserror::Error;
 
@@ -28,7 +31,8 @@ pub enum ReachDropped {
     PathLong,
 }
 
-/// Why a broadcast is not sent. They are tried in this order; nothing has changed after each of them but Store.
+/// Why a broadcast is not sent. A halted node answers Halted; the others are tried in this order. Nothing has changed after each of them
+/// but Store.
 #[derive(Clone, Copy, Debug, PartialEq, Eq, Error)]
 pub enum BroadcastRefusal {
     /// The node is halted.
@@ -51,7 +55,8 @@ pub enum BroadcastRefusal {
     Store,
 }
 
-/// Why the way to a node is not asked for. They are tried in this order; nothing has changed after each of them but Store.
+/// Why the way to a node is not asked for. A halted node answers Halted; the others are tried in this order. Nothing has changed after
+/// each of them but Store.
 #[derive(Clone, Copy, Debug, PartialEq, Eq, Error)]
 pub enum AskRefusal {
     /// The node is halted.
@@ -74,7 +79,8 @@ pub enum AskRefusal {
     Store,
 }
 
-/// Why a node drops a frame of discovery. They are tried in this order, and nothing has changed after each.
+/// Why a node drops a frame of discovery. A halted node answers Halted; the others are tried in this order. Nothing has changed after
+/// each.
 #[derive(Clone, Copy, Debug, PartialEq, Eq, Error)]
 pub enum DiscoveryDropped {
     /// The node is halted.
@@ -94,7 +100,7 @@ pub enum DiscoveryDropped {
     NoRoute,
 }
 
-/// Why a meter does not scan. They are tried in this order, and nothing has changed after each.
+/// Why a meter does not scan. A halted one answers Halted. Nothing has changed after each.
 #[derive(Clone, Copy, Debug, PartialEq, Eq, Error)]
 pub enum ScanRefusal {
     /// The node is halted.
@@ -105,7 +111,8 @@ pub enum ScanRefusal {
     AlreadyJoined,
 }
 
-/// Why a meter does not begin to join by an agent that it heard. They are tried in this order; nothing has changed after each.
+/// Why a meter does not begin to join by an agent that it heard. A halted one answers Halted; the others are tried in this order. Nothing
+/// has changed after each.
 #[derive(Clone, Copy, Debug, PartialEq, Eq, Error)]
 pub enum ChooseRefusal {
     /// The node is halted.

@@ -8,11 +8,13 @@ use Rattle.line_laws.proofs.LawRuns.{every_count, every_trace, every_forgery, ev
 use Rattle.line_laws.proofs.LiveRuns.{every_flight as flights_fall}
 use Rattle.line_laws.proofs.LoopRuns.{every_run as loop_free}
 use Rattle.line_laws.proofs.MarkSteps.{every_mark}
+use Rattle.line_laws.proofs.NetworkSizes.{every_size}
 use Rattle.line_laws.proofs.NonceRuns.{every_address, every_nonce, every_sender}
 use Rattle.line_laws.proofs.OnceRuns.{every_frame, every_node}
 use Rattle.line_laws.proofs.OctetRuns.{every_flight}
 use Rattle.line_laws.proofs.Readings.{network_ranges}
-use Rattle.line_laws.proofs.Running.{every_counter, every_restart, every_run}
+use Rattle.line_laws.proofs.RestartRuns.{every_restart_ends}
+use Rattle.line_laws.proofs.Running.{every_counter, every_restart}
 use Rattle.line_laws.proofs.SafeRun.{every_safe}
 use Rattle.line_laws.proofs.TagRuns.{every_tag}
 use Rattle.line_laws.proofs.UpsSent.{every_up}
@@ -21,8 +23,9 @@ use Rattle.line_laws.proofs.laws.every_network_run_is_right.Goals as goal
 pub returns : goal.returns
 returns c = λ entries run. record {
   octets = every_flight entries run;
-  sized = every_run network network_ranges entries run (every_flight entries run);
+  sized = every_size entries run;
   answered = every_restart network network_ranges entries run (every_flight entries run);
+  ends = every_restart_ends entries run;
   rises = every_counter network network_ranges entries run (every_flight entries run);
   spelled = every_spelling network entries run;
   senders = every_sender network network_ranges entries run (every_flight entries run);

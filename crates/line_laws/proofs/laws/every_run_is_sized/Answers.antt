@@ -1,6 +1,10 @@
 -- The law, by the traversal of runs.
+use Rattle.line_laws.proofs.NetworkSizes.{every_size}
 use Rattle.line_laws.proofs.Running.{every_run}
 use Rattle.line_laws.proofs.laws.every_run_is_sized.Goals as goal
 
-pub returns : goal.returns
-returns c = every_run
+pub returns-clause-network : goal.returns-clause-network
+returns-clause-network c = every_size
+
+pub returns-clause-others : goal.returns-clause-others
+returns-clause-others c = every_run
