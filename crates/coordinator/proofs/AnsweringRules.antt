@@ -1,5 +1,5 @@
 -- What the packets of a meter come to.
-use Rattle.std.proofs.Common.{arith, ◌≡◌, ℕ, ◌+◌, ◌<◌, Bool, true, false, List, [], ◌∷◌, get_or, Option, Some, None, Result, Ok, Err, refl, sym, ap, subst, ◌∙◌}
+use Rattle.std.proofs.Common.{arith, ◌≡◌, ℕ, ◌+◌, ◌<◌, Bool, true, false, List, [], get_or, Option, Some, None, Result, Err, refl, sym, ap, subst, ◌∙◌}
 use Rattle.std.specs.Prelude.{if◌then◌else◌, ◌||◌, ◌==◌, nat_lt, length, is_some, IfSome, IsSome, slice_get, position}
 use Rattle.std.specs.Option.{option_map, option_map_or, option_and_then}
 use Rattle.std.proofs.lemmas.Option.{slice_get-get_or}
@@ -35,7 +35,7 @@ use Rattle.node_rules.specs.MemoryDrafts.{with_memory_by, with_pair_tags, packet
 use Rattle.node_rules.specs.Joining.{message, server_agrees}
 use Rattle.node_rules.specs.Drafts.{empty_draft, refused, checked}
 use Rattle.node_rules.specs.Hearing.{dropped}
-use Rattle.node_rules.specs.Coordinators.{CoordinatorIdentity, Hearing, session_of, is_of, sessions_full, allowed_entry, grant_for, with_session, without_session, with_book_entry, keys_for, take_second, accepts, take_fourth, take_packet, answered}
+use Rattle.node_rules.specs.Coordinators.{CoordinatorIdentity, Hearing, session_of, is_of, allowed_entry, grant_for, with_session, without_session, with_book_entry, keys_for, take_second, accepts, take_fourth, take_packet, answered}
 use Rattle.node_rules.specs.States.{State}
 use Rattle.node_rules.specs.Carrying.{Carries}
 use Rattle.plc_station.proofs.Carrying.{at_some}

@@ -1,5 +1,5 @@
 -- What a meter comes to that asks to be let in.
-use Rattle.std.proofs.Common.{◌≡◌, ℕ, true, false, [], Some, None, Result, Err, refl, sym, ap, subst, ◌∙◌}
+use Rattle.std.proofs.Common.{◌≡◌, ℕ, true, false, [], Some, None, Result, refl, sym, ap, subst, ◌∙◌}
 use Rattle.std.specs.Prelude.{IfSome}
 use Rattle.plc_base.specs.Writes.{Wrote}
 use Rattle.plc_base.specs.Keeper.{Store}

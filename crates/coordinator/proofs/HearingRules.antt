@@ -5,12 +5,10 @@ use Rattle.std.specs.Option.{option_map}
 use Rattle.plc_base.specs.Keeper.{Store}
 use Rattle.plc_base.specs.Writes.{Wrote}
 use Rattle.plc_base.specs.declared.address.Eui.{Eui}
-use Rattle.plc_base.specs.declared.key.Rand.{Rand}
 use Rattle.plc_base.specs.declared.out_frame.Out.{Out}
 use Rattle.plc_base.proofs.WritesLemmas.{wrote_none}
 use Rattle.group_keys.specs.KeyBook as book
 use Rattle.joining_messages.specs.declared.message.JoinMessage.{JoinMessage}
-use Rattle.joining_messages.specs.declared.message.JoinBody.{JoinBody}
 use Rattle.joining_messages.specs.declared.message.JoinBody.TheVariants as body
 use Rattle.joining_messages.specs.Reading.{join_in}
 use Rattle.node_rules.specs.declared.heard.Accepted.{Accepted}
@@ -21,7 +19,7 @@ use Rattle.node_rules.specs.declared.heard.Way.{Way}
 use Rattle.node_rules.specs.declared.refusal.Dropped.{Dropped}
 use Rattle.node_rules.specs.declared.refusal.Dropped.TheVariants as drops
 use Rattle.node_rules.specs.Ciphers.{network}
-use Rattle.node_rules.specs.Memory.{StationMemory, Memory, CoordinatorSession}
+use Rattle.node_rules.specs.Memory.{StationMemory, Memory}
 use Rattle.node_rules.specs.Plans.{Plan, resting}
 use Rattle.node_rules.specs.Drafts.{refused, choose}
 use Rattle.node_rules.specs.Hearing.{dropped, hear}

@@ -1,10 +1,8 @@
 -- What a station stores and keeps of a frame that it hears: nothing at the slots of the book, and its address.
-use Rattle.std.proofs.Common.{◌≡◌, ℕ, ◌+◌, ◌≤◌, ◌<◌, Bool, true, false, List, [], ◌∷◌, length, Option, Some, None, Result, Ok, Err, refl, arith}
+use Rattle.std.proofs.Common.{◌≡◌, ℕ, ◌≤◌, Bool, true, false, List, length, Option, Some, None, Result, refl, arith}
 use Rattle.std.specs.Prelude.{if◌then◌else◌, unwrap_or}
 use Rattle.std.specs.Option.{option_map_or}
-use Rattle.plc_base.specs.Keeper.{Write}
 use Rattle.plc_base.specs.Writes.{puts_of}
-use Rattle.plc_base.specs.SlotTables as slots
 use Rattle.plc_base.proofs.SlotTables.{found}
 use Rattle.mesh_header.specs.declared.unit.Mesh.{Mesh as MeshHeader}
 use Rattle.mesh_header.specs.declared.unit.Unit.{Unit as MeshUnit}

@@ -31,12 +31,12 @@ use Rattle.node_rules.specs.Calls.{commands, command_fault, command_frames}
 use Rattle.node_rules.specs.Coordinators.{Hearing, says}
 use Rattle.node_rules.specs.States.{State}
 use Rattle.node_rules.specs.Carrying.{Carries}
-use Rattle.node_rules.specs.Composing.{behind, adding, begun, told, command_alone, HasRoom}
+use Rattle.node_rules.specs.Composing.{behind, adding, told, command_alone, HasRoom}
 use Rattle.node_rules.proofs.Composing.{carries_within, carries_behind, carries_stopped, carries_quiet, state_is, sealed_quiet, command_plan, command_units, room_fault_as, room_seals, room_refuses, carried_whole, carried_cut}
 use Rattle.plc_station.specs.Rooms.{room_answer}
 use Rattle.plc_station.proofs.Carrying.{at_some}
 use Rattle.coordinator.specs.CoordinatorAgreement.{HoldsWith}
-use Rattle.coordinator.specs.Telling.{telling, RoomFor}
+use Rattle.coordinator.specs.Telling.{telling}
 use Rattle.coordinator.specs.Saying.{RoomToSay, say_fault, done_by, saying, said_after}
 use Rattle.coordinator.proofs.Reaching.{at_home, is_some_of}
 use Rattle.coordinator.proofs.Storing.{carried_by}

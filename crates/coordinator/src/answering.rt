@@ -91,7 +91,7 @@ impl<K: Keeper + Drop> Coordinator<K> {
         mut tags: TagList,
         now: u64,
         out: &mut Out,
-    ) -> Result<CoordinatorHeard, Dropped>
+    ) -> Result<CoordinatorHeard<'static>, Dropped>
         requires running { IsSome (node_of self.old).memory }
         requires holds { Holds (node_of self.old) }
         requires session { IfSome (node_of self.old).memory (λ m. rules.sessions_full m session.server.eui ≡ false) }
@@ -126,7 +126,7 @@ impl<K: Keeper + Drop> Coordinator<K> {
         packet: &[u8],
         now: u64,
         out: &mut Out,
-    ) -> Result<CoordinatorHeard, Dropped>
+    ) -> Result<CoordinatorHeard<'static>, Dropped>
         requires running { IsSome (node_of self.old).memory }
         requires holds { Holds (node_of self.old) }
         requires served { IfSome (node_of self.old).memory (λ m. answering.IsServed m session.now.server.eui) }
@@ -171,7 +171,7 @@ impl<K: Keeper + Drop> Coordinator<K> {
         tags: TagList,
         now: u64,
         out: &mut Out,
-    ) -> Result<CoordinatorHeard, Dropped>
+    ) -> Result<CoordinatorHeard<'static>, Dropped>
         requires running { IsSome (node_of self.old).memory }
         requires holds { Holds (node_of self.old) }
         requires empty { out.old ≡ nothing }
@@ -203,7 +203,7 @@ impl<K: Keeper + Drop> Coordinator<K> {
         packet: &[u8],
         now: u64,
         out: &mut Out,
-    ) -> Result<CoordinatorHeard, Dropped>
+    ) -> Result<CoordinatorHeard<'static>, Dropped>
         requires running { IsSome (node_of self.old).memory }
         requires holds { Holds (node_of self.old) }
         requires awaits { session.now.server.rand_p ≡ Some rand_p }
@@ -229,7 +229,7 @@ impl<K: Keeper + Drop> Coordinator<K> {
         packet: &[u8],
         now: u64,
         out: &mut Out,
-    ) -> Result<CoordinatorHeard, Dropped>
+    ) -> Result<CoordinatorHeard<'static>, Dropped>
         requires running { IsSome (node_of self.old).memory }
         requires holds { Holds (node_of self.old) }
         requires served { IfSome (node_of self.old).memory (λ m. answering.IsServed m session.now.server.eui) }
@@ -252,7 +252,7 @@ impl<K: Keeper + Drop> Coordinator<K> {
         packet: &[u8],
         now: u64,
         out: &mut Out,
-    ) -> Result<CoordinatorHeard, Dropped>
+    ) -> Result<CoordinatorHeard<'static>, Dropped>
         requires running { IsSome (node_of self.old).memory }
         requires holds { Holds (node_of self.old) }
         requires empty { out.old ≡ nothing }

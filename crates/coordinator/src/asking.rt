@@ -32,7 +32,7 @@ impl<K: Keeper + Drop> Coordinator<K> {
         eui: Eui,
         now: u64,
         out: &mut Out,
-    ) -> Result<CoordinatorHeard, Dropped>
+    ) -> Result<CoordinatorHeard<'static>, Dropped>
         requires running { IsSome (node_of self.old).memory }
         requires holds { Holds (node_of self.old) }
         requires empty { out.old ≡ nothing }
@@ -60,7 +60,7 @@ impl<K: Keeper + Drop> Coordinator<K> {
         session: Session,
         message: &JoinMessage,
         out: &mut Out,
-    ) -> Result<CoordinatorHeard, Dropped>
+    ) -> Result<CoordinatorHeard<'static>, Dropped>
         requires running { IsSome (node_of self.old).memory }
         requires holds { Holds (node_of self.old) }
         requires room { IfSome (node_of self.old).memory (λ m. rules.sessions_full m session.server.eui ≡ false) }
@@ -92,7 +92,7 @@ impl<K: Keeper + Drop> Coordinator<K> {
         value: Rand,
         now: u64,
         out: &mut Out,
-    ) -> Result<CoordinatorHeard, Dropped>
+    ) -> Result<CoordinatorHeard<'static>, Dropped>
         requires running { IsSome (node_of self.old).memory }
         requires holds { Holds (node_of self.old) }
         requires room { IfSome (node_of self.old).memory (λ m. rules.sessions_full m eui ≡ false) }
@@ -121,7 +121,7 @@ impl<K: Keeper + Drop> Coordinator<K> {
         eui: Eui,
         now: u64,
         out: &mut Out,
-    ) -> Result<CoordinatorHeard, Dropped>
+    ) -> Result<CoordinatorHeard<'static>, Dropped>
         requires running { IsSome (node_of self.old).memory }
         requires holds { Holds (node_of self.old) }
         requires empty { out.old ≡ nothing }
@@ -145,7 +145,7 @@ impl<K: Keeper + Drop> Coordinator<K> {
         eui: Eui,
         now: u64,
         out: &mut Out,
-    ) -> Result<CoordinatorHeard, Dropped>
+    ) -> Result<CoordinatorHeard<'static>, Dropped>
         requires running { IsSome (node_of self.old).memory }
         requires holds { Holds (node_of self.old) }
         requires empty { out.old ≡ nothing }

@@ -1,5 +1,5 @@
 //! The coordinator.
-ghost use Rattle.std.specs.Prelude.{◌≡◌, Some, None, Ok, Err, IfSome, IfNone, IsSome, IfOk, IfErr};
+ghost use Rattle.std.specs.Prelude.{◌≡◌, Some, None, Ok, Err, IfSome, IfNone, IsSome, IfOk, IfErr, is_some};
 ghost use Rattle.std.specs.Option.{option_map, option_and_then};
 ghost use Rattle.plc_base.specs.SlotTables.{IsGapless};
 ghost use Rattle.frame_counters.specs.PeerMarks.{peers};
@@ -11,6 +11,7 @@ ghost use Rattle.node_rules.specs.Coordinators as rules;
 ghost use Rattle.coordinator.specs.CoordinatorReading.{if_read, read_answer};
 ghost use Rattle.coordinator.specs.CoordinatorStates.{node_of};
 ghost use Rattle.coordinator.specs.CoordinatorAgreement.{Holds, HasHome};
+ghost use Rattle.coordinator.specs.Tables.{session_in};
 
 use crate::sessions::Sessions;
 use group_keys::KeyBook;
@@ -76,6 +77,35 @@ impl<K: Keeper + Drop> Coordinator<K> {
             return None;
         }
         self.station.ring().joined()
+    }
+
+    /// The address of a meter in the book, None where it has none or the coordinator is halted.
+    pub fn address_of(&self, eui: Eui) -> Option<Short>
+        ensures { result ≡ option_and_then
+            (λ (m : memory.Memory). book.address_of m.book eui) (node_of self.now).memory }
+    {
+        if self.station.halted() {
+            return None;
+        }
+        self.book.address(eui)
+    }
+
+    /// Whether a session with a meter is open. Where the coordinator is halted none is.
+    pub fn has_session(&self, eui: Eui) -> bool
+        ensures { result ≡ is_some (option_and_then
+            (λ (m : memory.Memory). session_in m.sessions eui) (node_of self.now).memory) }
+    {
+        if self.station.halted() {
+            return false;
+        }
+        self.sessions.of(eui).is_some()
+    }
+
+    /// Gives the keeper back, as std's `into_inner` does. What the coordinator held in memory is forgotten.
+    pub fn into_keeper(self) -> K
+        ensures store { K.store result ≡ self.station.store }
+    {
+        self.station.into_keeper()
     }
 
     /// Ends what is old at a time in seconds: what its station ends, and the sessions that were opened 120 seconds ago or before. A

@@ -14,7 +14,7 @@ use crate::coordinator::Coordinator;
 use joining_base::{joining_command, read_message};
 use joining_messages::{JoinBody, JoinMessage};
 use node_rules::{Accepted, CoordinatorHeard, Dropped, Heard, Way};
-use plc_base::{Eui, Keeper, LinkCost, Out};
+use plc_base::{DatagramBuf, Eui, Keeper, LinkCost, Out};
 
 // Whether a JOIN of a meter may come so.
 fn may_come(way: Way, eui: Eui) -> bool
@@ -28,8 +28,8 @@ fn may_come(way: Way, eui: Eui) -> bool
 }
 
 // What the station made of a frame, as the coordinator says it.
-fn heard_by_station(heard: Result<Heard, Dropped>) -> Result<CoordinatorHeard, Dropped>
-    ensures { result ≡ rules.heard_by_station heard }
+fn heard_by_station<'a>(heard: Result<Heard<'a>, Dropped>) -> Result<CoordinatorHeard<'a>, Dropped>
+    ensures { result ≡ rules.heard_by_station heard.entry }
 {
     match heard {
         Ok(heard) => Ok(CoordinatorHeard::Station(heard)),
@@ -46,7 +46,7 @@ impl<K: Keeper + Drop> Coordinator<K> {
         packet: &[u8],
         now: u64,
         out: &mut Out,
-    ) -> Result<CoordinatorHeard, Dropped>
+    ) -> Result<CoordinatorHeard<'static>, Dropped>
         requires running { IsSome (node_of self.old).memory }
         requires holds { Holds (node_of self.old) }
         requires empty { out.old ≡ nothing }
@@ -69,7 +69,7 @@ impl<K: Keeper + Drop> Coordinator<K> {
         body: &JoinBody,
         now: u64,
         out: &mut Out,
-    ) -> Result<CoordinatorHeard, Dropped>
+    ) -> Result<CoordinatorHeard<'static>, Dropped>
         requires running { IsSome (node_of self.old).memory }
         requires holds { Holds (node_of self.old) }
         requires empty { out.old ≡ nothing }
@@ -94,7 +94,7 @@ impl<K: Keeper + Drop> Coordinator<K> {
         octets: &[u8],
         now: u64,
         out: &mut Out,
-    ) -> Result<CoordinatorHeard, Dropped>
+    ) -> Result<CoordinatorHeard<'static>, Dropped>
         requires running { IsSome (node_of self.old).memory }
         requires holds { Holds (node_of self.old) }
         requires empty { out.old ≡ nothing }
@@ -113,14 +113,15 @@ impl<K: Keeper + Drop> Coordinator<K> {
     }
 
     // What the station makes of a frame.
-    fn hear_frame(
+    fn hear_frame<'a>(
         &mut self,
-        got: &Accepted,
+        got: &Accepted<'a>,
         cost: LinkCost,
         note: u32,
         now: u64,
+        datagram: &'a mut DatagramBuf,
         out: &mut Out,
-    ) -> Result<Heard, Dropped>
+    ) -> Result<Heard<'a>, Dropped>
         requires running { IsSome (node_of self.old).memory }
         requires holds { Holds (node_of self.old) }
         requires fits { Fits got.now }
@@ -129,7 +130,7 @@ impl<K: Keeper + Drop> Coordinator<K> {
         ensures beside { self.new ≡ record self.old { station = self.new.station } }
         ensures holds { Holds (node_of self.new) }
     {
-        self.station.hear(got, cost, note, now, out)
+        self.station.hear(got, cost, note, now, datagram, out)
     }
 
     /// Hears a frame that was accepted, over a link of this cost, under a number of the caller's, at a time in seconds. A meter's
@@ -138,14 +139,15 @@ impl<K: Keeper + Drop> Coordinator<K> {
     /// A meter that asks is challenged where it is allowed, and declined else. The second packet (RFC 4764) of its session is answered
     /// with its grant, whose keys are noted as issued; the fourth ends the session. Dropped for the first reason that its rule names;
     /// after Store it is halted, after the others nothing has changed.
-    pub fn hear(
+    pub fn hear<'a>(
         &mut self,
-        got: &Accepted,
+        got: &Accepted<'a>,
         cost: LinkCost,
         note: u32,
         now: u64,
+        datagram: &'a mut DatagramBuf,
         out: &mut Out,
-    ) -> Result<CoordinatorHeard, Dropped>
+    ) -> Result<CoordinatorHeard<'a>, Dropped>
         requires running { IsSome (node_of self.old).memory }
         requires holds { Holds (node_of self.old) }
         requires fits { Fits got.now }
@@ -154,7 +156,7 @@ impl<K: Keeper + Drop> Coordinator<K> {
             result out.new (node_of self.new)) }
         ensures holds { Holds (node_of self.new) }
     {
-        let heard = self.hear_frame(got, cost, note, now, out);
+        let heard = self.hear_frame(got, cost, note, now, datagram, out);
         match joining_command(&heard) {
             Some(command) => self.hear_joining(&command.way, command.body.octets(), now, out),
             None => heard_by_station(heard),

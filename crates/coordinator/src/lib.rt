@@ -1,4 +1,37 @@
 //! The coordinator of a mesh: it lets meters in, answers their messages, and hands out the group keys.
+//!
+//! [`Coordinator`] is a station (`plc_station`) with the address 0000 and, beside it, the book of its meters, random values and
+//! at most 8 sessions of EAP-PSK. Its calls, in the order in which firmware meets them:
+//!
+//! - `open` reads the store through a `Keeper`; where that holds no ring, it stores one with the address 0000 and the key that
+//!   is given. `give_random` takes in a random value, of which each session that is opened takes one; 8 are held.
+//! - `allow` lets a meter join with its pair key, and answers its address; `depot` joins one in the workshop, and answers its
+//!   grant.
+//! - `station` lends the station, whose `accept` takes each frame; `hear` then answers a meter's joining message, and hands on
+//!   what the station makes of all else (`CoordinatorHeard`). `send` and its like are the station's too.
+//! - `challenge` opens a session with a meter that is reached over the mesh. `rekey` keeps a key for the grants from then on,
+//!   `activate` tells a meter to seal with it, and `activate_self` does so at the coordinator. `kick` shuts a meter out.
+//! - `tick` ends what is old, sessions after 120 seconds. `eui`, `address`, `address_of` and `has_session` look at it;
+//!   `restart` forgets all but the store, and ends a halt; `into_keeper` gives the store back.
+//!
+//! What its calls promise, by the names of their clauses:
+//!
+//! - Each call is its rule of `node_rules` carried out over all that the coordinator holds, whichever write fails (`carries`;
+//!   `state` of `tick`, `answer` and `memory` of `restart`). A refusal comes for the first reason that the rule names, and but
+//!   for Store nothing has changed then.
+//! - What it holds as stored is what its store gives, and its address is 0000: `open` begins so where no table of the store has
+//!   a gap and its ring, if there is one, has that address; each call asks for it and keeps it (`holds`). Also where a write of
+//!   `rekey` or `activate_self` fails, the store keeps a ring of the address 0000 (`home`).
+//! - `open` gives exactly what the store says, or the first fault (`opened`, `running`, `refused`).
+//!
+//! It takes memory in `open` alone, and has no `unsafe`. It reads no clock and draws no random value, and sends nothing by
+//! itself: what goes out is in the `Out` that the caller lends. After a write that failed it is halted until `restart`. What is
+//! done at the lent station can end `holds`: to `install` a grant of another address there, to `leave`, or to put through its
+//! keeper.
+//!
+//! For example, a meter joins over the air: its request is accepted by the station and heard, and the challenge is in `out`
+//! (`Challenged`); its answer is heard, and its grant is noted in the book and goes out (`Keyed`); its last packet is heard,
+//! and the session has ended (`Done`), with the random values that both ends hold. A meter that is not allowed is `Declined`.
 #![tactic(auto)]
 
 mod answering;
@@ -15,7 +48,5 @@ mod orders;
 mod saying;
 mod sessions;
 mod telling;
-#[cfg(test)]
-mod tests;
 
 pub use coordinator::Coordinator;

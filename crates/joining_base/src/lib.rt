@@ -5,8 +5,6 @@
 mod messages;
 mod random_values;
 mod reasons;
-#[cfg(test)]
-mod tests;
 
 pub use messages::{push_down, push_up, read_message, write_command};
 pub use random_values::RandomValues;

@@ -10,8 +10,8 @@ ghost use Rattle.node_rules.specs.Frames as frames;
 ghost use Rattle.node_rules.specs.Joining.{command_of};
 
 use joining_messages::{JoinMessage, read_join, write_join};
-use mac_frames::{MacHead, plain_frame};
-use plc_base::{Eui, FrameBuf, Out, OutFrame, PAN, Short};
+use mac_frames::{MacHead, write_header};
+use plc_base::{Eui, FrameBuf, Out, PAN, Short};
 
 /// The message that octets are, None where they are none.
 pub fn read_message(octets: &[u8]) -> Option<JoinMessage>
@@ -45,17 +45,22 @@ fn push_plain(head: &MacHead, message: &JoinMessage, out: &mut Out)
       frames = out.old.frames ++ frames.plain_frame head.now message.now ∷ [];
     } }
 {
-    let mut payload = FrameBuf::new();
-    payload.push(0x40);
-    payload.push(2);
-    write_join(message, &mut payload);
-    let mut octets = FrameBuf::new();
-    plain_frame(head, payload.octets(), &mut octets);
-    out.frames.push(OutFrame {
-        octets,
-        note: 0,
-        key: None,
-    });
+    let Some(frame) = out.frames.push_blank() else {
+        unreachable!()
+    };
+    write_plain(head, message, &mut frame.octets);
+}
+
+// Writes the octets of a plain frame with this head, whose payload is a joining command, in place of what `out` held.
+fn write_plain(head: &MacHead, message: &JoinMessage, out: &mut FrameBuf)
+    requires message { IsMessage message.now }
+    requires head { heads.IsAllowed head.now }
+    ensures { out.new ≡ (frames.plain_frame head.now message.now).octets }
+{
+    write_header(head, out);
+    out.push(0x40);
+    out.push(2);
+    write_join(message, out);
 }
 
 /// Appends the plain frame that carries a message of a node up to an agent.

@@ -17,7 +17,7 @@ pub struct JoiningCommand<'a> {
 }
 
 /// The joining command that a station hands on, None where it made something else of the frame. Nothing is moved.
-pub fn joining_command(heard: &Result<Heard, Dropped>) -> Option<JoiningCommand<'_>>
+pub fn joining_command<'a>(heard: &Result<Heard<'a>, Dropped>) -> Option<JoiningCommand<'a>>
     ensures { MatchOption result (drafts.unread heard.now ≡ None)
         (λ u. drafts.unread heard.now ≡ Some (record { way = u.way; body = u.body })) }
 {

@@ -33,7 +33,7 @@ impl<K: Keeper + Drop> Meter<K> {
         packet: &[u8],
         now: u64,
         out: &mut Out,
-    ) -> Result<MeterHeard, Dropped>
+    ) -> Result<MeterHeard<'static>, Dropped>
         requires running { IsSome self.old.station.memory }
         requires agrees { Agrees self.old.station }
         requires empty { out.old ≡ nothing }
@@ -66,7 +66,7 @@ impl<K: Keeper + Drop> Meter<K> {
         packet: &[u8],
         now: u64,
         out: &mut Out,
-    ) -> Result<MeterHeard, Dropped>
+    ) -> Result<MeterHeard<'static>, Dropped>
         requires running { IsSome self.old.station.memory }
         requires agrees { Agrees self.old.station }
         requires joined { IfSome self.old.station.memory (λ l. IsSome l.ring) }
@@ -107,7 +107,7 @@ impl<K: Keeper + Drop> Meter<K> {
         packet: &[u8],
         now: u64,
         out: &mut Out,
-    ) -> Result<MeterHeard, Dropped>
+    ) -> Result<MeterHeard<'static>, Dropped>
         requires running { IsSome self.old.station.memory }
         requires agrees { Agrees self.old.station }
         requires empty { out.old ≡ nothing }
@@ -140,7 +140,7 @@ impl<K: Keeper + Drop> Meter<K> {
         packet: &[u8],
         now: u64,
         out: &mut Out,
-    ) -> Result<MeterHeard, Dropped>
+    ) -> Result<MeterHeard<'static>, Dropped>
         requires running { IsSome self.old.station.memory }
         requires agrees { Agrees self.old.station }
         requires joined { IfSome self.old.station.memory (λ l. IsSome l.ring) }
@@ -186,7 +186,7 @@ impl<K: Keeper + Drop> Meter<K> {
         packet: &[u8],
         now: u64,
         out: &mut Out,
-    ) -> Result<MeterHeard, Dropped>
+    ) -> Result<MeterHeard<'static>, Dropped>
         requires running { IsSome self.old.station.memory }
         requires agrees { Agrees self.old.station }
         requires empty { out.old ≡ nothing }
@@ -208,7 +208,7 @@ impl<K: Keeper + Drop> Meter<K> {
         packet: &[u8],
         now: u64,
         out: &mut Out,
-    ) -> Result<MeterHeard, Dropped>
+    ) -> Result<MeterHeard<'static>, Dropped>
         requires running { IsSome self.old.station.memory }
         requires agrees { Agrees self.old.station }
         requires joined { IfSome self.old.station.memory (λ l. IsSome l.ring) }

@@ -83,7 +83,7 @@ impl<K: Keeper + Drop> Meter<K> {
         join: &JoinMessage,
         now: u64,
         out: &mut Out,
-    ) -> Result<MeterHeard, Dropped>
+    ) -> Result<MeterHeard<'static>, Dropped>
         requires running { IsSome self.old.station.memory }
         requires agrees { Agrees self.old.station }
         requires joined { IfSome self.old.station.memory (λ l. IsSome l.ring) }

@@ -19,7 +19,7 @@ use group_keys::RingFault;
 use joining_base::{joining_command, read_message};
 use joining_messages::{JoinBody, JoinMessage};
 use node_rules::{Accepted, Dropped, Heard, MeterHeard, Way};
-use plc_base::{FrameBuf, Keeper, LinkCost, Out, OutFrame, Short};
+use plc_base::{DatagramBuf, FrameBuf, Keeper, LinkCost, Out, OutFrame, Short};
 
 // Whether two sessions run alike.
 fn same_course(a: Course, b: Course) -> bool
@@ -38,7 +38,7 @@ fn same_course(a: Course, b: Course) -> bool
 }
 
 // A key that the station seals with, as a meter says it.
-fn activated_as(done: Result<(), RingFault>) -> Result<MeterHeard, Dropped>
+fn activated_as(done: Result<(), RingFault>) -> Result<MeterHeard<'static>, Dropped>
     ensures { result ≡ hearing.activated_as done }
 {
     match done {
@@ -49,8 +49,8 @@ fn activated_as(done: Result<(), RingFault>) -> Result<MeterHeard, Dropped>
 }
 
 // What the station made of a frame, as a meter says it.
-fn heard_by_station(heard: Result<Heard, Dropped>) -> Result<MeterHeard, Dropped>
-    ensures { result ≡ meters.heard_by_station heard }
+fn heard_by_station<'a>(heard: Result<Heard<'a>, Dropped>) -> Result<MeterHeard<'a>, Dropped>
+    ensures { result ≡ meters.heard_by_station heard.entry }
 {
     match heard {
         Ok(heard) => Ok(MeterHeard::Station(heard)),
@@ -70,7 +70,7 @@ impl<K: Keeper + Drop> Meter<K> {
     }
 
     // The coordinator does not let the meter in, as an agent says.
-    fn declined(&mut self, agent: Short) -> Result<MeterHeard, Dropped>
+    fn declined(&mut self, agent: Short) -> Result<MeterHeard<'static>, Dropped>
         requires running { IsSome self.old.station.memory }
         requires agrees { Agrees self.old.station }
         ensures carries { IfSome (node_of self.old).memory (λ m. Carries (node_of self.old)
@@ -89,7 +89,7 @@ impl<K: Keeper + Drop> Meter<K> {
     }
 
     // The coordinator shuts the meter out.
-    fn kicked(&mut self) -> Result<MeterHeard, Dropped>
+    fn kicked(&mut self) -> Result<MeterHeard<'static>, Dropped>
         requires running { IsSome self.old.station.memory }
         requires agrees { Agrees self.old.station }
         ensures carries { IfSome (node_of self.old).memory (λ m. Carries (node_of self.old)
@@ -105,7 +105,7 @@ impl<K: Keeper + Drop> Meter<K> {
     }
 
     // Another key seals from now on.
-    fn activated(&mut self, index: u8) -> Result<MeterHeard, Dropped>
+    fn activated(&mut self, index: u8) -> Result<MeterHeard<'static>, Dropped>
         requires running { IsSome self.old.station.memory }
         requires agrees { Agrees self.old.station }
         requires index { index ≤ 1 }
@@ -119,7 +119,11 @@ impl<K: Keeper + Drop> Meter<K> {
     }
 
     // Carries a message of the coordinator down to its meter.
-    fn carry_down(&mut self, join: &JoinMessage, out: &mut Out) -> Result<MeterHeard, Dropped>
+    fn carry_down(
+        &mut self,
+        join: &JoinMessage,
+        out: &mut Out,
+    ) -> Result<MeterHeard<'static>, Dropped>
         requires running { IsSome self.old.station.memory }
         requires agrees { Agrees self.old.station }
         requires message { IsMessage join.now }
@@ -151,7 +155,7 @@ impl<K: Keeper + Drop> Meter<K> {
         body: &JoinBody,
         now: u64,
         out: &mut Out,
-    ) -> Result<MeterHeard, Dropped>
+    ) -> Result<MeterHeard<'static>, Dropped>
         requires running { IsSome self.old.station.memory }
         requires agrees { Agrees self.old.station }
         requires empty { out.old ≡ nothing }
@@ -176,7 +180,7 @@ impl<K: Keeper + Drop> Meter<K> {
         body: &JoinBody,
         now: u64,
         out: &mut Out,
-    ) -> Result<MeterHeard, Dropped>
+    ) -> Result<MeterHeard<'static>, Dropped>
         requires running { IsSome self.old.station.memory }
         requires agrees { Agrees self.old.station }
         requires joined { IfSome self.old.station.memory (λ l. IsSome l.ring) }
@@ -204,7 +208,7 @@ impl<K: Keeper + Drop> Meter<K> {
         join: &JoinMessage,
         now: u64,
         out: &mut Out,
-    ) -> Result<MeterHeard, Dropped>
+    ) -> Result<MeterHeard<'static>, Dropped>
         requires running { IsSome self.old.station.memory }
         requires agrees { Agrees self.old.station }
         requires came { IfSome self.old.station.memory (λ l. hearing.CameBy way l) }
@@ -243,7 +247,7 @@ impl<K: Keeper + Drop> Meter<K> {
         body: &[u8],
         now: u64,
         out: &mut Out,
-    ) -> Result<MeterHeard, Dropped>
+    ) -> Result<MeterHeard<'static>, Dropped>
         requires running { IsSome self.old.station.memory }
         requires agrees { Agrees self.old.station }
         requires came { IfSome self.old.station.memory (λ l. hearing.CameBy way l) }
@@ -266,14 +270,15 @@ impl<K: Keeper + Drop> Meter<K> {
     /// Dropped for the first reason that its rule names. After Store it is halted and nothing goes out, after the others nothing has
     /// changed. A frame that came up to its address has to have come to a joined meter: what `accept` of its station answers has, by
     /// the law [`accepted_frames_came`](crate::accepted_frames_came).
-    pub fn hear(
+    pub fn hear<'a>(
         &mut self,
-        got: &Accepted,
+        got: &Accepted<'a>,
         cost: LinkCost,
         note: u32,
         now: u64,
+        datagram: &'a mut DatagramBuf,
         out: &mut Out,
-    ) -> Result<MeterHeard, Dropped>
+    ) -> Result<MeterHeard<'a>, Dropped>
         requires running { IsSome self.old.station.memory }
         requires agrees { Agrees self.old.station }
         requires fits { Fits got.now }
@@ -283,7 +288,7 @@ impl<K: Keeper + Drop> Meter<K> {
         ensures agrees { Agrees self.new.station }
         ensures psk { self.new.psk ≡ self.old.psk }
     {
-        let heard = self.station.hear(got, cost, note, now, out);
+        let heard = self.station.hear(got, cost, note, now, datagram, out);
         match joining_command(&heard) {
             Some(command) => self.hear_joining(command.way, command.body.octets(), now, out),
             None => heard_by_station(heard),

@@ -12,8 +12,6 @@ mod meter;
 mod packets;
 mod pair_key;
 mod session;
-#[cfg(test)]
-mod tests;
 
 pub use laws::accepted_frames_came;
 pub use meter::Meter;

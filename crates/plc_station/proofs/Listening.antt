@@ -56,7 +56,7 @@ pub whole_all : (l : StationMemory) (own by : ℕ) (all : Bool) (u : MeshUnit) (
 unfolding choose
 whole_all l own by all u mesh octets cost note now is a = rw (is, ← a) refl
 
-pub whole_one : (l : StationMemory) (own by : ℕ) (all : Bool) (u : MeshUnit) (mesh : Mesh) (octets : List ℕ) (cost note now : ℕ) → u ≡ Whole mesh octets → false ≡ all → hear_over_mesh l own (Whole mesh octets) note now ≡ hear_sealed l own by all u cost note now
+pub whole_one : (l : StationMemory) (own by : ℕ) (all : Bool) (u : MeshUnit) (mesh : Mesh) (octets : List ℕ) (cost note now : ℕ) → u ≡ Whole mesh octets → false ≡ all → hear_over_mesh l own u note now ≡ hear_sealed l own by all u cost note now
 unfolding choose
 whole_one l own by all u mesh octets cost note now is a = rw (is, ← a) refl
 
@@ -64,7 +64,7 @@ pub part_all : (l : StationMemory) (own by : ℕ) (all : Bool) (u : MeshUnit) (m
 unfolding choose
 part_all l own by all u mesh piece cost note now is a = rw (is, ← a) refl
 
-pub part_one : (l : StationMemory) (own by : ℕ) (all : Bool) (u : MeshUnit) (mesh : Mesh) (piece : Placed) (cost note now : ℕ) → u ≡ Part mesh piece → false ≡ all → hear_over_mesh l own (Part mesh piece) note now ≡ hear_sealed l own by all u cost note now
+pub part_one : (l : StationMemory) (own by : ℕ) (all : Bool) (u : MeshUnit) (mesh : Mesh) (piece : Placed) (cost note now : ℕ) → u ≡ Part mesh piece → false ≡ all → hear_over_mesh l own u note now ≡ hear_sealed l own by all u cost note now
 unfolding choose
 part_one l own by all u mesh piece cost note now is a = rw (is, ← a) refl
 
@@ -72,7 +72,7 @@ pub carried_all : (l : StationMemory) (own by : ℕ) (all : Bool) (u : MeshUnit)
 unfolding choose
 carried_all l own by all u mesh body cost note now is a = rw (is, ← a) refl
 
-pub carried_one : (l : StationMemory) (own by : ℕ) (all : Bool) (u : MeshUnit) (mesh : Mesh) (body : List ℕ) (cost note now : ℕ) → u ≡ Carried mesh body → false ≡ all → hear_over_mesh l own (Carried mesh body) note now ≡ hear_sealed l own by all u cost note now
+pub carried_one : (l : StationMemory) (own by : ℕ) (all : Bool) (u : MeshUnit) (mesh : Mesh) (body : List ℕ) (cost note now : ℕ) → u ≡ Carried mesh body → false ≡ all → hear_over_mesh l own u note now ≡ hear_sealed l own by all u cost note now
 unfolding choose
 carried_one l own by all u mesh body cost note now is a = rw (is, ← a) refl
 

@@ -1,6 +1,6 @@
 -- Which route reply a plan of hearing sends, and how it is kept.
-use Rattle.std.proofs.Common.{◌≡◌, ℕ, ◌+◌, Bool, true, false, not, List, [], ◌∷◌, ◌++◌, Option, Some, None, Result, Ok, Err, refl, sym, ap, subst, ◌∙◌}
-use Rattle.std.specs.Prelude.{is_some, if◌then◌else◌, nat_lt, nat_le, drop, map, length, ◌==◌}
+use Rattle.std.proofs.Common.{◌≡◌, ℕ, ◌+◌, Bool, true, false, List, [], ◌∷◌, ◌++◌, Option, Some, None, Result, Ok, Err, refl, sym, ap, subst, ◌∙◌}
+use Rattle.std.specs.Prelude.{is_some, if◌then◌else◌, nat_lt, nat_le, map, length, ◌==◌}
 use Rattle.std.specs.List.{filter, flat_map}
 use Rattle.std.specs.Option.{option_map_or}
 use Rattle.plc_base.specs.Fields.{octet}
@@ -21,7 +21,7 @@ use Rattle.group_keys.specs.KeyRing.{Ring}
 use Rattle.routing_set.specs.declared.rank.Rank.{Rank}
 use Rattle.fragment_buffers.specs.Cutting.{cut}
 use Rattle.fragment_buffers.specs.Loads.{Load, Datagram, Command, own_mesh, units_of, Outgoing, all_go}
-use Rattle.fragment_buffers.specs.Waiting.{Body, leaving, units_by, waits_for}
+use Rattle.fragment_buffers.specs.Waiting.{Body, units_by, waits_for}
 use Rattle.node_rules.specs.declared.heard.Heard.{Heard}
 use Rattle.node_rules.specs.declared.heard.Heard.TheVariants as heard
 use Rattle.node_rules.specs.declared.heard.Reply.{Reply}

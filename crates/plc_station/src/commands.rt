@@ -15,11 +15,11 @@ use crate::sealing::seal_request;
 use crate::station::Station;
 use mesh_header::Unit;
 use node_rules::{SendRefusal, SentHow};
-use plc_base::{FrameBuf, Grant, Keeper, Out, Short};
+use plc_base::{Grant, Keeper, OctetRef, Out, Short};
 use waiting_bodies::own_mesh;
 
 // The unit of a command, whose code stands first.
-fn command_unit(grant: &Grant, to: Short, octets: &[u8]) -> Unit
+fn command_unit<'a>(grant: &Grant, to: Short, octets: &'a [u8]) -> Unit<'a>
     requires some { 1 ≤ length octets.now }
     requires fits { length octets.now ≤ 374 }
     ensures value { result ≡ mesh.Carried (drafts.own_mesh grant.now.address to) (drop 1 octets.now) }
@@ -28,7 +28,7 @@ fn command_unit(grant: &Grant, to: Short, octets: &[u8]) -> Unit
 {
     Unit::Carried {
         mesh: own_mesh(grant, to),
-        body: FrameBuf::from_octets(&octets[1..]),
+        body: OctetRef::new(&octets[1..]),
     }
 }
 

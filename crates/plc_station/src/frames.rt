@@ -1,5 +1,5 @@
 //! Which frames a station accepts.
-ghost use Rattle.std.specs.Prelude.{◌≡◌, ◌==◌, ◌||◌, ◌+◌, ◌<◌, ◌≤◌, true, false, Some, None, Ok, Err, IfSome, IsSome, ◌++◌, IfNone, IfOk};
+ghost use Rattle.std.specs.Prelude.{◌≡◌, ◌==◌, ◌||◌, ◌+◌, ◌<◌, ◌≤◌, true, false, Some, None, Ok, Err, IfSome, IsSome, ◌++◌, IfNone, IfOk, length};
 ghost use Rattle.node_rules.specs.Carrying.{Carries, nothing};
 ghost use Rattle.node_rules.specs.Agreement.{Agrees};
 ghost use Rattle.plc_station.specs.Heard.{Fits};
@@ -13,8 +13,18 @@ use crate::station::Station;
 use aes_modes::Aes;
 use frame_counters::PeerFault;
 use mac_frames::{MacHead, RawFrame, open_frame, read_frame};
-use node_rules::{Accepted, FrameRefusal, Path};
+use node_rules::{Accepted, FrameRef, FrameRefusal, Path};
 use plc_base::{FrameBuf, Keeper, PAN, Short};
+
+// Octets, kept in a buffer that is lent.
+fn held<'a>(octets: &[u8], buffer: &'a mut FrameBuf) -> FrameRef<'a>
+    requires { length octets.now ≤ 400 }
+    ensures { result ≡ octets.now }
+{
+    buffer.clear();
+    buffer.append(octets);
+    FrameRef::new(buffer)
+}
 
 // What the marks say of a counter.
 fn mark_refusal(fault: PeerFault) -> FrameRefusal
@@ -56,19 +66,20 @@ impl<K: Keeper + Drop> Station<K> {
     }
 
     // Keeps the counter of a sealed frame whose tag is right as the mark of its sender.
-    fn admit(
+    fn admit<'a>(
         &mut self,
         from: Short,
         counter: u32,
-        accepted: Accepted,
-    ) -> Result<Accepted, FrameRefusal>
+        path: Path,
+        payload: &'a FrameBuf,
+    ) -> Result<Accepted<'a>, FrameRefusal>
         requires running { IsSome self.old.memory }
         requires agrees { Agrees self.old }
         ensures carries { IfSome self.old.memory
-            (λ l. Carries self.old (accepting.admit l from counter accepted) result nothing self.new) }
+            (λ l. Carries self.old (accepting.admit l from counter (record { path = path; payload = payload.now })) result nothing self.new) }
         ensures agrees { Agrees self.new }
         ensures replied { self.new.replied ≡ self.old.replied }
-        ensures same { IfOk result (λ got. got ≡ accepted) }
+        ensures same { IfOk result (λ got. got ≡ record { path = path; payload = payload.now }) }
     {
         if let Err(fault) = self.parts.marks.room(from, counter) {
             return Err(mark_refusal(fault));
@@ -78,18 +89,22 @@ impl<K: Keeper + Drop> Station<K> {
             return Err(FrameRefusal::Store);
         };
         self.halted = false;
-        Ok(accepted)
+        Ok(Accepted {
+            path,
+            payload: FrameRef::new(payload),
+        })
     }
 
     // Opens a sealed frame, and keeps its counter as the mark of its sender.
-    fn accept_sealed(
+    fn accept_sealed<'a>(
         &mut self,
         raw: &RawFrame<'_>,
         to: u16,
         from: Short,
         counter: u32,
         index: u8,
-    ) -> Result<Accepted, FrameRefusal>
+        payload: &'a mut FrameBuf,
+    ) -> Result<Accepted<'a>, FrameRefusal>
         requires running { IsSome self.old.memory }
         requires agrees { Agrees self.old }
         requires sealed { IsSealed raw.now.head }
@@ -107,8 +122,7 @@ impl<K: Keeper + Drop> Station<K> {
         let Some(key) = self.parts.ring.key(index) else {
             return Err(FrameRefusal::NoKey);
         };
-        let mut payload = FrameBuf::new();
-        let Ok(()) = open_frame(&Aes::new(&key), raw, &mut payload) else {
+        let Ok(()) = open_frame(&Aes::new(&key), raw, payload) else {
             return Err(FrameRefusal::BadTag);
         };
         let path = Path::Sealed {
@@ -116,11 +130,15 @@ impl<K: Keeper + Drop> Station<K> {
             to_all: to == 0xFFFF,
             key,
         };
-        self.admit(from, counter, Accepted { path, payload })
+        self.admit(from, counter, path, payload)
     }
 
     // Accepts a frame that was read, if it is for this node.
-    fn accept_raw(&mut self, raw: &RawFrame<'_>) -> Result<Accepted, FrameRefusal>
+    fn accept_raw<'a>(
+        &mut self,
+        raw: &RawFrame<'_>,
+        payload: &'a mut FrameBuf,
+    ) -> Result<Accepted<'a>, FrameRefusal>
         requires running { IsSome self.old.memory }
         requires agrees { Agrees self.old }
         requires frame { Frame raw.now.head raw.now.body.now (raw.now.header.now ++ raw.now.body.now) }
@@ -140,22 +158,27 @@ impl<K: Keeper + Drop> Station<K> {
                 counter,
                 index,
                 ..
-            } => self.accept_sealed(raw, to, from, counter, index),
+            } => self.accept_sealed(raw, to, from, counter, index, payload),
             MacHead::Up { from, .. } => Ok(Accepted {
                 path: Path::Up { from },
-                payload: FrameBuf::from_octets(raw.body),
+                payload: held(raw.body, payload),
             }),
             MacHead::Down { from, .. } => Ok(Accepted {
                 path: Path::Down { from },
-                payload: FrameBuf::from_octets(raw.body),
+                payload: held(raw.body, payload),
             }),
         }
     }
 
-    /// Takes octets that came as a frame: opens them, and keeps the counter of a sealed frame as the mark of its sender.
+    /// Takes octets that came as a frame: opens them, and keeps the counter of a sealed frame as the mark of its sender. What is
+    /// inside an accepted frame is written into `payload`, in place of what that held.
     ///
     /// Halted, Malformed, NotForMe, NoKey, BadTag, Replayed, PeersFull, Store, in this order.
-    pub fn accept(&mut self, octets: &[u8]) -> Result<Accepted, FrameRefusal>
+    pub fn accept<'a>(
+        &mut self,
+        octets: &[u8],
+        payload: &'a mut FrameBuf,
+    ) -> Result<Accepted<'a>, FrameRefusal>
         requires agrees { Agrees self.old }
         ensures halted { IfNone self.old.memory ((result ≡ Err FrameRefusal.Halted) × (self.new ≡ self.old)) }
         ensures carries { IfSome self.old.memory
@@ -170,7 +193,7 @@ impl<K: Keeper + Drop> Station<K> {
         }
         match read_frame(octets) {
             Err(_) => Err(FrameRefusal::Malformed),
-            Ok(raw) => self.accept_raw(&raw),
+            Ok(raw) => self.accept_raw(&raw, payload),
         }
     }
 }

@@ -17,10 +17,10 @@ use crate::station::Station;
 use loadng_messages::{Message, read_message};
 use mesh_header::{Unit, read_unit};
 use node_rules::{Accepted, Dropped, Heard, Path, Way};
-use plc_base::{FrameBuf, Grant, Keeper, LinkCost, Out, Short};
+use plc_base::{DatagramBuf, Grant, Keeper, LinkCost, OctetRef, Out, Short};
 
 // The unit that octets are, if they are one.
-fn unit_in(octets: &[u8]) -> Option<Unit>
+fn unit_in(octets: &[u8]) -> Option<Unit<'_>>
     requires { length octets.now ≤ 400 }
     ensures unit { result ≡ units.unit_in octets.now }
     ensures allowed { IfSome result (λ unit. IsAllowed unit) }
@@ -44,13 +44,13 @@ fn message_in(octets: &[u8]) -> Option<Message>
 }
 
 // The body of a joining command, if a unit is one.
-fn joining_body(unit: Unit) -> Option<FrameBuf>
-    ensures { result ≡ hearing.is_joining unit }
+fn joining_body<'a>(unit: &Unit<'a>) -> Option<OctetRef<'a>>
+    ensures { result ≡ hearing.is_joining unit.now }
 {
     match unit {
         Unit::Local { code, body } => {
-            if code == 2 {
-                return Some(body);
+            if *code == 2 {
+                return Some(OctetRef::new(body.octets()));
             }
             None
         }
@@ -71,7 +71,7 @@ impl<K: Keeper + Drop> Station<K> {
         link: LinkCost,
         now: u64,
         out: &mut Out,
-    ) -> Result<Heard, Dropped>
+    ) -> Result<Heard<'static>, Dropped>
         requires running { IsSome self.old.memory }
         requires agrees { Agrees self.old }
         requires ring { IfSome self.old.memory (λ l. l.ring ≡ Some grant.now) }
@@ -118,17 +118,17 @@ impl<K: Keeper + Drop> Station<K> {
     }
 
     // Hears a command for the neighbours: a route message, or one of code 03, 04 or 05, which is handed on unread.
-    fn hear_command(
+    fn hear_command<'a>(
         &mut self,
         grant: &Grant,
         by: Short,
         all: bool,
         code: u8,
-        body: FrameBuf,
+        body: &'a [u8],
         link: LinkCost,
         now: u64,
         out: &mut Out,
-    ) -> Result<Heard, Dropped>
+    ) -> Result<Heard<'a>, Dropped>
         requires running { IsSome self.old.memory }
         requires agrees { Agrees self.old }
         requires ring { IfSome self.old.memory (λ l. l.ring ≡ Some grant.now) }
@@ -136,11 +136,11 @@ impl<K: Keeper + Drop> Station<K> {
         requires fresh { self.old.replied ≡ None }
         ensures hears { IfSome self.old.memory
             (λ l. Hears self.old
-            (hearing.hear_command l grant.now.address by all code body link now) result out.new self.new) }
+            (hearing.hear_command l grant.now.address by all code body.now link now) result out.new self.new) }
         ensures agrees { Agrees self.new }
     {
         if code == 1 {
-            let Some(message) = message_in(body.octets()) else {
+            let Some(message) = message_in(body) else {
                 return Err(Dropped::BadUnit);
             };
             return self.hear_message(grant, by, all, message, link, now, out);
@@ -152,71 +152,70 @@ impl<K: Keeper + Drop> Station<K> {
             from: by,
             to_all: all,
             code,
-            body,
+            body: OctetRef::new(body),
         })
     }
 
     // Hears the unit of a sealed frame: a command for the neighbours, or a unit over the mesh, which may not go to all.
-    fn hear_sealed(
+    fn hear_sealed<'a>(
         &mut self,
         grant: &Grant,
         by: Short,
         all: bool,
-        unit: Unit,
+        unit: &Unit<'a>,
         link: LinkCost,
         note: u32,
         now: u64,
+        datagram: &'a mut DatagramBuf,
         out: &mut Out,
-    ) -> Result<Heard, Dropped>
+    ) -> Result<Heard<'a>, Dropped>
         requires running { IsSome self.old.memory }
         requires agrees { Agrees self.old }
         requires ring { IfSome self.old.memory (λ l. l.ring ≡ Some grant.now) }
-        requires allowed { IsAllowed unit }
-        requires fits { spelled_length unit ≤ 381 }
+        requires allowed { IsAllowed unit.now }
+        requires fits { spelled_length unit.now ≤ 381 }
         requires empty { out.old ≡ nothing }
         requires fresh { self.old.replied ≡ None }
         ensures hears { IfSome self.old.memory
             (λ l. Hears self.old
-            (hearing.hear_sealed l grant.now.address by all unit link note now) result out.new self.new) }
+            (hearing.hear_sealed l grant.now.address by all unit.now link note now) result out.new self.new) }
         ensures agrees { Agrees self.new }
     {
         match unit {
             Unit::Local { code, body } => {
-                self.hear_command(grant, by, all, code, body, link, now, out)
+                self.hear_command(grant, by, all, *code, body.octets(), link, now, out)
             }
-            Unit::Whole { mesh, octets } => {
+            Unit::Whole { .. } => {
                 if all {
                     return Err(Dropped::BadUnit);
                 }
-                let whole = Unit::Whole { mesh, octets };
-                self.hear_over_mesh(grant, whole, note, now, out)
+                self.hear_over_mesh(grant, unit, note, now, datagram, out)
             }
-            Unit::Part { mesh, piece } => {
+            Unit::Part { .. } => {
                 if all {
                     return Err(Dropped::BadUnit);
                 }
-                let part = Unit::Part { mesh, piece };
-                self.hear_over_mesh(grant, part, note, now, out)
+                self.hear_over_mesh(grant, unit, note, now, datagram, out)
             }
-            Unit::Carried { mesh, body } => {
+            Unit::Carried { .. } => {
                 if all {
                     return Err(Dropped::BadUnit);
                 }
-                let carried = Unit::Carried { mesh, body };
-                self.hear_over_mesh(grant, carried, note, now, out)
+                self.hear_over_mesh(grant, unit, note, now, datagram, out)
             }
         }
     }
 
     // Hears a frame that was accepted, with nothing sent yet.
-    fn hear_frame(
+    fn hear_frame<'a>(
         &mut self,
-        got: &Accepted,
+        got: &Accepted<'a>,
         cost: LinkCost,
         note: u32,
         now: u64,
+        datagram: &'a mut DatagramBuf,
         out: &mut Out,
-    ) -> Result<Heard, Dropped>
+    ) -> Result<Heard<'a>, Dropped>
         requires running { IsSome self.old.memory }
         requires agrees { Agrees self.old }
         requires fits { Fits got.now }
@@ -234,10 +233,10 @@ impl<K: Keeper + Drop> Station<K> {
                 let Some(grant) = self.parts.ring.grant() else {
                     return Err(Dropped::BadUnit);
                 };
-                self.hear_sealed(&grant, from, to_all, unit, cost, note, now, out)
+                self.hear_sealed(&grant, from, to_all, &unit, cost, note, now, datagram, out)
             }
             Path::Up { from } => {
-                let Some(body) = joining_body(unit) else {
+                let Some(body) = joining_body(&unit) else {
                     return Err(Dropped::BadUnit);
                 };
                 Ok(Heard::Joining {
@@ -246,7 +245,7 @@ impl<K: Keeper + Drop> Station<K> {
                 })
             }
             Path::Down { from } => {
-                let Some(body) = joining_body(unit) else {
+                let Some(body) = joining_body(&unit) else {
                     return Err(Dropped::BadUnit);
                 };
                 Ok(Heard::Joining {
@@ -258,18 +257,20 @@ impl<K: Keeper + Drop> Station<K> {
     }
 
     /// Hears a frame that was accepted, over a link of this cost, under a number of the caller's, at a time in seconds: a datagram
-    /// or a joining command for this node is handed up, and what goes on or is answered is in `out`, sealed.
+    /// or a joining command for this node is handed up, and what goes on or is answered is in `out`, sealed. The last piece of a
+    /// datagram has it written whole into `datagram`, where its octets stay.
     ///
     /// Refused for the first reason that its rule names. The route reply that it sends is the last one from then on, and where it
     /// sends none there is none.
-    pub fn hear(
+    pub fn hear<'a>(
         &mut self,
-        got: &Accepted,
+        got: &Accepted<'a>,
         cost: LinkCost,
         note: u32,
         now: u64,
+        datagram: &'a mut DatagramBuf,
         out: &mut Out,
-    ) -> Result<Heard, Dropped>
+    ) -> Result<Heard<'a>, Dropped>
         requires running { IsSome self.old.memory }
         requires agrees { Agrees self.old }
         requires fits { Fits got.now }
@@ -281,6 +282,6 @@ impl<K: Keeper + Drop> Station<K> {
     {
         out.clear();
         self.replied = None;
-        self.hear_frame(got, cost, note, now, out)
+        self.hear_frame(got, cost, note, now, datagram, out)
     }
 }

@@ -1,21 +1,58 @@
-//! A station: what every node does on the line.
+//! A station: what every node does on the line, whatever its role.
+//!
+//! It accepts and hears frames, passes units on, finds routes, puts datagrams together from pieces, and sends. A meter
+//! (`meter_node`) and the coordinator (`coordinator`) stand on it; so may firmware with a role of its own.
+//!
+//! [`Station`] is over a `Keeper` (`plc_base`), the store of the node. Its calls, in the order in which firmware meets them:
+//!
+//! - `open` reads the store. [`OpenFault`] says why it can't, and the keeper comes back. `install` keeps the grant of a
+//!   joining: the address and the group keys. `put_key`, `activate` and `leave` change the ring later; `preset_counter`,
+//!   `preset_number` and `preset_near` set values in the workshop.
+//! - `accept` takes octets that came as a frame, opens them into a buffer that the caller lends, and answers what is inside
+//!   (`Accepted`); `hear` makes of that what the rules say (`Heard`), at a time, over a link of a cost. Both are called for
+//!   each frame.
+//! - `send` sends a datagram of up to 1,280 octets, `send_command` a command over the mesh, and `send_local` one to neighbours.
+//!   `room` says beforehand what a command would be refused for.
+//! - `tick` ends what is old at a time in seconds; `broke` ends the routes by a neighbour that is not reached any more.
+//! - `halted`, `shown`, `ring`, `routing`, `valid` and `last_reply` look at it. `restart` forgets all but the store, and ends a
+//!   halt.
+//!
+//! What goes out is in an `Out` that the caller lends, in place of what that held; `send_local` adds to it.
+//!
+//! What its calls promise, by the names of their clauses:
+//!
+//! - Each call is its rule of `node_rules` carried out, whichever write to the store fails (`carries`; `state` of `tick` and
+//!   `restart`, `ended` of `broke`, `room`, `shown`). A refusal comes for the first reason that the rule names.
+//! - What it holds as stored is what its store gives: `open` begins so where no table of the store has a gap, and each call
+//!   keeps it (`agrees`); what is put through `keeper_mut` may end it. A halted station answers Halted and changes nothing
+//!   (`halted`).
+//! - `open` gives exactly what the store says, or its first fault (`opened`, `running`, `refused`).
+//!
+//! It takes memory in `open` alone, and has no `unsafe`; the pool of blocks below it is the one crate with pointers. It reads
+//! no clock and draws no random value: times are the caller's, in seconds. It sends nothing by itself. After a write that
+//! failed it is halted, with nothing sent, until `restart` has read the store again. `hear`, `install` and their like ask for a
+//! station that is not halted, which `halted` tells.
+//!
+//! For example, a node that is installed and gets a frame: `accept` refuses it as Replayed, or answers what is inside; `hear`
+//! then answers `Heard::Up` with the datagram for this node, or `Heard::Relayed` with the frame for the next hop in `out`.
+//! `docs/CRATES.md` has the code.
 #![tactic(auto)]
 
-mod answers;
 mod commands;
-mod errors;
+mod endings;
 mod frames;
 mod hearing;
 mod learns;
 mod mesh;
 mod neighbours;
 mod parts;
-mod passing;
 mod pieces;
 mod presets;
-mod relays;
 mod replies;
+mod request_relays;
 mod ringing;
+mod route_errors;
+mod route_requests;
 mod sealing;
 mod sending;
 mod showing;

@@ -4,6 +4,8 @@ ghost use Rattle.mesh_header.specs.Grammar.{IsAllowed, header_length, spelled_le
 ghost use Rattle.mesh_header.specs.declared.unit.Unit.TheVariants as local;
 ghost use Rattle.loadng_messages.specs.Grammar as messages;
 ghost use Rattle.loadng_messages.specs.declared.message.Message.TheVariants as message;
+ghost use Rattle.node_rules.specs.declared.heard.Heard.TheVariants as heard;
+ghost use Rattle.node_rules.specs.declared.heard.Way.TheVariants as way;
 ghost use Rattle.node_rules.specs.declared.refusal.Dropped.TheVariants as hearing_drops;
 ghost use Rattle.node_rules.specs.Memory.{next_hop};
 ghost use Rattle.node_rules.specs.Drafts as drafts;
@@ -19,16 +21,19 @@ use aes_modes::Aes;
 use loadng_messages::{Message, write_message};
 use mesh_header::{Mesh, Unit};
 use node_rules::{Dropped, Heard, Way};
-use plc_base::{DatagramBuf, FrameBuf, Grant, Keeper, Out, Short};
+use plc_base::{DatagramBuf, FrameBuf, Grant, Keeper, OctetRef, Out, Short};
 use waiting_bodies::seal;
 
 // The unit of a route error.
-pub(crate) fn error_unit(lost: Short, to: Short) -> Unit
+pub(crate) fn error_unit<'a>(lost: Short, to: Short, body: &'a mut FrameBuf) -> Unit<'a>
     ensures { result ≡ local.Local 1 (messages.spelling (message.Rerr lost to)) }
 {
-    let mut body = FrameBuf::new();
-    write_message(&Message::Rerr { lost, to }, &mut body);
-    Unit::Local { code: 1, body }
+    body.clear();
+    write_message(&Message::Rerr { lost, to }, body);
+    Unit::Local {
+        code: 1,
+        body: OctetRef::new(body.octets()),
+    }
 }
 
 // A mesh header with one hop less.
@@ -43,13 +48,34 @@ fn hop_less(mesh: &Mesh) -> Mesh
     }
 }
 
+// A whole datagram is handed up.
+fn handed_up<'a>(mesh: &Mesh, note: u32, octets: OctetRef<'a>) -> Heard<'a>
+    ensures { result ≡ heard.Up mesh.now.origin note octets.entry }
+{
+    Heard::Up {
+        from: mesh.origin,
+        note,
+        octets,
+    }
+}
+
+// A joining command came over the mesh.
+fn joining_over<'a>(mesh: &Mesh, body: OctetRef<'a>) -> Heard<'a>
+    ensures { result ≡ heard.Joining (way.Mesh mesh.now.origin) body.entry }
+{
+    Heard::Joining {
+        way: Way::Mesh(mesh.origin),
+        body,
+    }
+}
+
 impl<K: Keeper + Drop> Station<K> {
     // Seals a unit for a neighbour, or for all, and sends it.
     pub(crate) fn send_unit(
         &mut self,
         grant: &Grant,
         to: u16,
-        unit: &Unit,
+        unit: &Unit<'_>,
         note: u32,
         out: &mut Out,
     ) -> Result<(), Dropped>
@@ -78,7 +104,12 @@ impl<K: Keeper + Drop> Station<K> {
     }
 
     // Tells the origin of a unit that it can't go on.
-    fn report(&mut self, grant: &Grant, mesh: &Mesh, out: &mut Out) -> Result<Heard, Dropped>
+    fn report(
+        &mut self,
+        grant: &Grant,
+        mesh: &Mesh,
+        out: &mut Out,
+    ) -> Result<Heard<'static>, Dropped>
         requires running { IsSome self.old.memory }
         requires agrees { Agrees self.old }
         requires ring { IfSome self.old.memory (λ l. l.ring ≡ Some grant.now) }
@@ -100,7 +131,8 @@ impl<K: Keeper + Drop> Station<K> {
         if left < 1 {
             return Err(Dropped::CounterSpent);
         }
-        let unit = error_unit(mesh.to, mesh.origin);
+        let mut body = FrameBuf::new();
+        let unit = error_unit(mesh.to, mesh.origin, &mut body);
         match self.send_unit(grant, hop.number(), &unit, 0, out) {
             Ok(()) => Ok(Heard::Reported),
             Err(reason) => Err(reason),
@@ -112,10 +144,10 @@ impl<K: Keeper + Drop> Station<K> {
         &mut self,
         grant: &Grant,
         mesh: &Mesh,
-        unit: &Unit,
+        unit: &Unit<'_>,
         note: u32,
         out: &mut Out,
-    ) -> Result<Heard, Dropped>
+    ) -> Result<Heard<'static>, Dropped>
         requires running { IsSome self.old.memory }
         requires agrees { Agrees self.old }
         requires ring { IfSome self.old.memory (λ l. l.ring ≡ Some grant.now) }
@@ -145,64 +177,59 @@ impl<K: Keeper + Drop> Station<K> {
     }
 
     // Hears a unit with a mesh header: for this node, or for another one.
-    pub(crate) fn hear_over_mesh(
+    pub(crate) fn hear_over_mesh<'a>(
         &mut self,
         grant: &Grant,
-        unit: Unit,
+        unit: &Unit<'a>,
         note: u32,
         now: u64,
+        datagram: &'a mut DatagramBuf,
         out: &mut Out,
-    ) -> Result<Heard, Dropped>
+    ) -> Result<Heard<'a>, Dropped>
         requires running { IsSome self.old.memory }
         requires agrees { Agrees self.old }
         requires ring { IfSome self.old.memory (λ l. l.ring ≡ Some grant.now) }
-        requires allowed { IsAllowed unit }
-        requires fits { spelled_length unit ≤ 381 }
+        requires allowed { IsAllowed unit.now }
+        requires fits { spelled_length unit.now ≤ 381 }
         requires empty { out.old ≡ nothing }
         ensures carries { IfSome self.old.memory
             (λ l. Carries self.old
-            (hearing.hear_over_mesh l grant.now.address unit note now) result out.new self.new) }
+            (hearing.hear_over_mesh l grant.now.address unit.now note now) result out.new self.new) }
         ensures agrees { Agrees self.new }
         ensures replied { self.new.replied ≡ self.old.replied }
     {
         match unit {
             Unit::Whole { mesh, octets } => {
+                let octets = OctetRef::new(octets.octets());
                 if mesh.to.number() == grant.address.number() {
-                    let octets = DatagramBuf::from_octets(octets.octets());
-                    return Ok(Heard::Up {
-                        from: mesh.origin,
-                        note,
-                        octets,
-                    });
+                    return Ok(handed_up(mesh, note, octets));
                 }
                 let on = Unit::Whole {
-                    mesh: hop_less(&mesh),
+                    mesh: hop_less(mesh),
                     octets,
                 };
-                self.forward(grant, &mesh, &on, note, out)
+                self.forward(grant, mesh, &on, note, out)
             }
             Unit::Part { mesh, piece } => {
                 if mesh.to.number() == grant.address.number() {
-                    return self.gather(mesh.origin, &piece, note, now, out);
+                    return self.gather(mesh.origin, piece, note, now, datagram, out);
                 }
                 let on = Unit::Part {
-                    mesh: hop_less(&mesh),
-                    piece,
+                    mesh: hop_less(mesh),
+                    piece: piece.again(),
                 };
-                self.forward(grant, &mesh, &on, note, out)
+                self.forward(grant, mesh, &on, note, out)
             }
             Unit::Carried { mesh, body } => {
+                let body = OctetRef::new(body.octets());
                 if mesh.to.number() == grant.address.number() {
-                    return Ok(Heard::Joining {
-                        way: Way::Mesh(mesh.origin),
-                        body,
-                    });
+                    return Ok(joining_over(mesh, body));
                 }
                 let on = Unit::Carried {
-                    mesh: hop_less(&mesh),
+                    mesh: hop_less(mesh),
                     body,
                 };
-                self.forward(grant, &mesh, &on, note, out)
+                self.forward(grant, mesh, &on, note, out)
             }
             Unit::Local { .. } => Err(Dropped::BadUnit),
         }

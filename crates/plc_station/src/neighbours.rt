@@ -11,7 +11,7 @@ use crate::station::Station;
 use aes_modes::Aes;
 use mesh_header::Unit;
 use node_rules::LocalRefusal;
-use plc_base::{FrameBuf, Grant, Keeper, Out, Short};
+use plc_base::{Grant, Keeper, OctetRef, Out, Short};
 use waiting_bodies::seal;
 
 // The address of a neighbour, or that which all hear.
@@ -56,7 +56,7 @@ impl<K: Keeper + Drop> Station<K> {
             return Err(LocalRefusal::Store);
         };
         let key = grant.sealing_key();
-        let body = FrameBuf::from_octets(body);
+        let body = OctetRef::new(body);
         let unit = Unit::Local { code, body };
         seal(grant, &key, &Aes::new(&key), counter, to, &unit, 0, out);
         self.halted = false;

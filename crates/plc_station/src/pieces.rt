@@ -9,33 +9,38 @@ use crate::station::Station;
 use fragment_buffers::{BufferFull, Taken};
 use mesh_header::Piece;
 use node_rules::{Dropped, Heard};
-use plc_base::{DatagramBuf, Keeper, Out, Short};
+use plc_base::{DatagramBuf, Keeper, OctetRef, Out, Short};
 
 // What is answered for a piece.
-fn came(
+fn came<'a>(
     from: Short,
     taken: Result<Taken, BufferFull>,
-    octets: DatagramBuf,
-) -> Result<Heard, Dropped>
-    ensures { result ≡ pieces.came from taken octets }
+    octets: &'a [u8],
+) -> Result<Heard<'a>, Dropped>
+    ensures { result ≡ pieces.came from taken octets.now }
 {
     match taken {
         Err(_) => Err(Dropped::BufferFull),
         Ok(Taken::Held) => Ok(Heard::Held),
-        Ok(Taken::Whole { note }) => Ok(Heard::Up { from, note, octets }),
+        Ok(Taken::Whole { note }) => Ok(Heard::Up {
+            from,
+            note,
+            octets: OctetRef::new(octets),
+        }),
     }
 }
 
 impl<K: Keeper + Drop> Station<K> {
     // Takes a piece of a datagram for this node.
-    pub(crate) fn gather(
+    pub(crate) fn gather<'a>(
         &mut self,
         from: Short,
-        piece: &Piece,
+        piece: &Piece<'_>,
         note: u32,
         now: u64,
+        datagram: &'a mut DatagramBuf,
         out: &Out,
-    ) -> Result<Heard, Dropped>
+    ) -> Result<Heard<'a>, Dropped>
         requires running { IsSome self.old.memory }
         requires agrees { Agrees self.old }
         requires empty { out.now ≡ nothing }
@@ -44,8 +49,7 @@ impl<K: Keeper + Drop> Station<K> {
         ensures agrees { Agrees self.new }
         ensures replied { self.new.replied ≡ self.old.replied }
     {
-        let mut octets = DatagramBuf::new();
-        let taken = self.bodies.gather(from, piece, note, now, &mut octets);
-        came(from, taken, octets)
+        let taken = self.bodies.gather(from, piece, note, now, datagram);
+        came(from, taken, datagram.octets())
     }
 }

@@ -13,7 +13,7 @@ ghost use Rattle.node_rules.specs.Carrying.{nothing};
 use aes_modes::Aes;
 use loadng_messages::{Message, write_message};
 use mesh_header::Unit;
-use plc_base::{FrameBuf, Grant, Out, Short};
+use plc_base::{FrameBuf, Grant, OctetRef, Out, Short};
 use waiting_bodies::{seal, seal_load};
 
 // Seals a datagram, whole or in pieces.
@@ -65,7 +65,11 @@ pub(crate) fn seal_message(grant: &Grant, counter: u32, to: u16, message: &Messa
     let key = grant.sealing_key();
     let mut body = FrameBuf::new();
     write_message(message, &mut body);
-    let unit = Unit::Local { code: 1, body };
+    let octets = OctetRef::new(body.octets());
+    let unit = Unit::Local {
+        code: 1,
+        body: octets,
+    };
     seal(grant, &key, &Aes::new(&key), counter, to, &unit, 0, out);
 }
 

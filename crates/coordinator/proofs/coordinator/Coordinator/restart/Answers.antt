@@ -2,8 +2,6 @@
 use Rattle.std.proofs.Common.{ap}
 use Rattle.node_rules.specs.Memory.{StationMemory}
 use Rattle.node_rules.specs.States.{State}
-use Rattle.coordinator.specs.CoordinatorStates.{memory_in}
-use Rattle.coordinator.specs.CoordinatorAgreement.{HoldsWith}
 use Rattle.coordinator.proofs.Restarting.{unread_holds}
 use Rattle.coordinator.proofs.coordinator.Coordinator.restart.Goals as goal
 

@@ -3,7 +3,7 @@ use Rattle.node_rules.specs.Memory.{CoordinatorSession}
 use Rattle.coordinator.specs.CoordinatorStates.{node_of}
 use Rattle.node_rules.specs.Hearing.{dropped}
 use Rattle.coordinator.proofs.Storing.{refusal, carried_by}
-use Rattle.std.proofs.Common.{sym, ap, refl, ◌∙◌}
+use Rattle.std.proofs.Common.{sym, ap, ◌∙◌}
 use Rattle.eap_psk.specs.Faults.{fourth_fault}
 use Rattle.node_rules.specs.declared.heard.CoordinatorHeard.{CoordinatorHeard}
 use Rattle.node_rules.specs.Drafts.{refused}

@@ -3,7 +3,7 @@ use Rattle.node_rules.specs.Memory.{CoordinatorSession}
 use Rattle.coordinator.specs.CoordinatorStates.{node_of}
 use Rattle.node_rules.specs.Hearing.{dropped}
 use Rattle.coordinator.proofs.Storing.{refusal, carried_by}
-use Rattle.std.proofs.Common.{sym, ap, refl, ◌∙◌}
+use Rattle.std.proofs.Common.{sym, ap, ◌∙◌}
 use Rattle.eap_psk.specs.Faults.{second_fault}
 use Rattle.eap_psk.specs.Sessions.{peer_of, rand_p_in, third_packet}
 use Rattle.eap_psk.specs.declared.server.Server.{Server}

@@ -18,10 +18,10 @@ pub returns-in-Up-clause-carries : goal.returns-in-Up-clause-carries
 returns-in-Up-clause-carries g c =
     let a : Arrived = arrived_with network c.args.raw.now.head c.args.raw.now.header.now c.args.raw.now.body.now in
     if_some c.args.self.now.memory _ (λ l m. plain_accepted c.args.self.now l a _ m (at_some c.args.self.now.memory _ l m c.if-not-is_for_me.ensures)
-    (ap (accept_head l a) c.in-Up.is ∙ ap (λ p. resting l (Ok (record { path = paths.Up c.in-Up.from; payload = p })) (Err Store)) (sym c.from_octets.ensures)))
+    (ap (accept_head l a) c.in-Up.is ∙ ap (λ p. resting l (Ok (record { path = paths.Up c.in-Up.from; payload = p })) (Err Store)) (sym c.held.ensures)))
 
 pub returns-in-Down-clause-carries : goal.returns-in-Down-clause-carries
 returns-in-Down-clause-carries g c =
     let a : Arrived = arrived_with network c.args.raw.now.head c.args.raw.now.header.now c.args.raw.now.body.now in
     if_some c.args.self.now.memory _ (λ l m. plain_accepted c.args.self.now l a _ m (at_some c.args.self.now.memory _ l m c.if-not-is_for_me.ensures)
-    (ap (accept_head l a) c.in-Down.is ∙ ap (λ p. resting l (Ok (record { path = paths.Down c.in-Down.from; payload = p })) (Err Store)) (sym c.from_octets-in-Down.ensures)))
+    (ap (accept_head l a) c.in-Down.is ∙ ap (λ p. resting l (Ok (record { path = paths.Down c.in-Down.from; payload = p })) (Err Store)) (sym c.held-in-Down.ensures)))

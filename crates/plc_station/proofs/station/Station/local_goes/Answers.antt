@@ -34,7 +34,7 @@ returns-clause-carries g c =
           (lines_are _ _ _ _ refl c.in-Ok.ensures.counter refl refl refl refl refl refl);
       out_is =
           c.seal.ensures
-          ∙ (λ i. with_frames (c.args.out.now.frames ++ unit_frame c.args.grant.now c.sealing_key-key.result (c.in-Ok.ensures.number i) (record { to = c.args.to; unit = Local c.args.code (c.from_octets-body.ensures i); note = 0 }) ∷ []) c.args.out.now)
+          ∙ (λ i. with_frames (c.args.out.now.frames ++ unit_frame c.args.grant.now c.sealing_key-key.result (c.in-Ok.ensures.number i) (record { to = c.args.to; unit = Local c.args.code (c.new-body.ensures i); note = 0 }) ∷ []) c.args.out.now)
           ∙ ap (λ (frames : List OutFrame). with_frames (c.args.out.now.frames ++ frames) c.args.out.now) (one_sent c.args.grant.now c.sealing_key-key.result c.self.inside.parts.counter.next (record { to = c.args.to; unit = Local c.args.code c.args.body.now; note = 0 }) c.sealing_key-key.ensures)
           ∙ (λ i. with_frames (c.args.out.now.frames ++ map (spelled network) (sealed_by ((sym (at_some c.args.self.now.memory (λ l. l.ring ≡ Some c.args.grant.now) (station_in c.self.inside.parts c.self.inside.bodies) (ap (λ (s : State StationMemory). s.memory) (sym c.self.view_is) ∙ running) c.requires.ring)) i) c.self.inside.parts.counter.next ((record { to = c.args.to; unit = Local c.args.code c.args.body.now; note = 0 }) ∷ []))) c.args.out.now)
           ∙ followed_by c.args.out.now _;

@@ -1,4 +1,4 @@
-//! What time and broken links do to a station.
+//! What time and broken links end in a station.
 ghost use Rattle.std.specs.Prelude.{◌≡◌, Some, Ok, Err, IfSome, IfNone};
 ghost use Rattle.std.specs.Option.{option_map};
 ghost use Rattle.node_rules.specs.Calls as calls;

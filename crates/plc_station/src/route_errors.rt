@@ -33,7 +33,7 @@ fn hop_left(routing: &RoutingSet, by: Short, lost: Short, to: Short) -> Option<S
 
 impl<K: Keeper + Drop> Station<K> {
     // The route to the lost address ends, and the error ends here.
-    fn lose(&mut self, by: Short, lost: Short, out: &Out) -> Result<Heard, Dropped>
+    fn lose(&mut self, by: Short, lost: Short, out: &Out) -> Result<Heard<'static>, Dropped>
         requires running { IsSome self.old.memory }
         requires agrees { Agrees self.old }
         requires left { IfSome self.old.memory (λ l. l.counter.next ≤ 4294967295) }
@@ -62,7 +62,7 @@ impl<K: Keeper + Drop> Station<K> {
         to: Short,
         hop: Short,
         out: &mut Out,
-    ) -> Result<Heard, Dropped>
+    ) -> Result<Heard<'static>, Dropped>
         requires running { IsSome self.old.memory }
         requires agrees { Agrees self.old }
         requires ring { IfSome self.old.memory (λ l. l.ring ≡ Some grant.now) }
@@ -92,7 +92,7 @@ impl<K: Keeper + Drop> Station<K> {
         lost: Short,
         to: Short,
         out: &mut Out,
-    ) -> Result<Heard, Dropped>
+    ) -> Result<Heard<'static>, Dropped>
         requires running { IsSome self.old.memory }
         requires agrees { Agrees self.old }
         requires ring { IfSome self.old.memory (λ l. l.ring ≡ Some grant.now) }

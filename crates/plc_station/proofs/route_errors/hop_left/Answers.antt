@@ -3,7 +3,7 @@ use Rattle.std.specs.Prelude.{◌==◌}
 use Rattle.std.proofs.lemmas.Bool.Decides.{nat_tests}
 use Rattle.routing_set.specs.Laws.{hop_after}
 use Rattle.plc_station.proofs.Losing.{none_left, some_left}
-use Rattle.plc_station.proofs.errors.hop_left.Goals as goal
+use Rattle.plc_station.proofs.route_errors.hop_left.Goals as goal
 
 pub returns-in_default : goal.returns-in_default
 returns-in_default c = none_left c.args.routing.now c.args.lost c.args.by c.args.to c.in_default.ensures

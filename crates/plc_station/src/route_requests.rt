@@ -104,7 +104,7 @@ impl<K: Keeper + Drop> Station<K> {
         dest: Short,
         now: u64,
         out: &mut Out,
-    ) -> Result<Heard, Dropped>
+    ) -> Result<Heard<'static>, Dropped>
         requires running { IsSome self.old.memory }
         requires agrees { Agrees self.old }
         requires ring { IfSome self.old.memory (λ l. l.ring ≡ Some grant.now) }
