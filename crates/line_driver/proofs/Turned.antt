@@ -1,5 +1,5 @@
 -- For machines: from a text that was told to the turn of a line.
-use Rattle.std.proofs.Common.{◌≡◌, List, ℕ, Ok, Err, Result, refl}
+use Rattle.std.proofs.Common.{List, ℕ, Ok, Err, Result, refl}
 use Rattle.plc_base.specs.Streams.{SinkState}
 use Rattle.line_driver.specs.declared.telling.StopReason.{StopReason}
 use Rattle.line_driver.specs.declared.telling.StopReason.TheVariants as reasons

@@ -1,3 +1,4 @@
 pub mod FlightLists
 pub mod Origins
 pub mod TagSpellings
+mod SameKeys

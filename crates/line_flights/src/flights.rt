@@ -1,10 +1,12 @@
 //! The flights of a line, and the first of those that are the same.
 ghost use Rattle.std.specs.Prelude.{◌≡◌, ◌+◌, ◌*◌, ◌-◌, ◌<◌, ◌≤◌, ◌++◌, ◌∷◌, [], false, true, max, IsOk, OnOk, OnErr, MatchOption, if◌then◌else◌, length, map, slice_set};
 ghost use Rattle.std.specs.Option.{ForSome, option_copied, option_map};
+ghost use Rattle.std.specs.Str.{bytes_eq};
 ghost use Rattle.line_rules.specs.Steps.{flight_by};
 ghost use Rattle.line_rules.specs.Worlds.{Flight, is_forged_frame, note_of};
 ghost use Rattle.line_flights.specs.Flown.{flight_in, not_lost, is_under};
 
+use byteorder::{BigEndian, ByteOrder};
 use octet_log::OctetLog;
 use plc_base::{Key, OctetRef, OutFrame};
 use std::alloc::{AllocError, Global};
@@ -77,12 +79,21 @@ impl Model for Flights {
     ghost invariant = { λ f. AreKept f.log f.items.items (vec_capacity f.items) };
 }
 
+// Whether the octets of two keys are the same, compared as numbers.
+fn is_same(first: &[u8; 16], second: &[u8; 16]) -> bool
+    ensures { result ≡ bytes_eq first.now second.now }
+{
+    let one = BigEndian::read_u128(first);
+    let other = BigEndian::read_u128(second);
+    one == other
+}
+
 fn is_under(own: &Option<Key>, key: &Key) -> bool
     ensures { result ≡ is_under own.now key.now }
 {
     match own {
         None => false,
-        Some(own) => key.0 == own.0,
+        Some(own) => is_same(&key.0, &own.0),
     }
 }
 

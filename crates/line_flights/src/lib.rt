@@ -15,8 +15,6 @@
 
 mod flights;
 mod made_tags;
-#[cfg(test)]
-mod tests;
 
 pub use flights::{FlightRef, Flights, Origin};
 pub use made_tags::MadeTags;

@@ -3,7 +3,7 @@ use Rattle.std.proofs.Common.{◌≡◌, ℕ, ◌+◌, ◌<◌, Bool, true, fals
 use Rattle.std.proofs.lemmas.Bool.{ltb-true, ltb-false}
 use Rattle.std.proofs.lemmas.List.Elements.{All-nil, All-cons}
 use Rattle.line_driver.specs.Lines.{Content, Text, Long, TooMuch, Line, lines}
-use Rattle.line_driver.specs.Outcomes.{Turn, Outcome, Ending, Bad, Ended, Open, outcome_turn, outcome_from, outcome as outcome_of}
+use Rattle.line_driver.specs.Outcomes.{Outcome, Bad, Ended, outcome_turn, outcome_from}
 use Rattle.line_driver.specs.declared.machine.Exit.{Exit}
 use Rattle.line_driver.specs.declared.machine.Exit.TheVariants as exits
 use Rattle.line_driver.specs.Clauses.{Comes, Drives}
@@ -24,7 +24,7 @@ use Rattle.line_script.specs.declared.report.Reason.TheVariants as reasons
 use Rattle.line_script.specs.Lines.{IsInRange}
 use Rattle.line_script.specs.Readings.{reading}
 use Rattle.line_script.proofs.Ranges.{reading_fits}
-use Rattle.line_replay.specs.Report.{Taking, Skipped, Taken, Refused, step_taking, event_taking, reading_taking, taking, Playing, entry_text, turn_by, turn_of, end_of, is_forged, outcome, report, entries_by, entries_from, entries, entries_text, last_by, last_from, last_text, forged_in}
+use Rattle.line_replay.specs.Report.{Taking, Skipped, Taken, Refused, step_taking, reading_taking, taking, Playing, entry_text, turn_by, turn_of, end_of, is_forged, outcome, report, entries_by, entries_from, entries, entries_text, last_by, last_from, last_text, forged_in}
 use Rattle.line_replay.specs.declared.status.Status.{Status}
 use Rattle.line_replay.specs.declared.status.Status.TheVariants as status
 use Rattle.line_replay.specs.Tool.{status_of, Ran, Names, is_whole}

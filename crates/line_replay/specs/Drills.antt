@@ -1,5 +1,5 @@
 -- What a drill does: meters that join over up to three hops, send readings and change their key.
-use Rattle.std.specs.Prelude.{ℕ, zero, suc, ◌+◌, ◌-◌, ◌*◌, ◌%◌, min, nat_lt, nat_le, ◌==◌, List, [], ◌∷◌, ◌++◌, length, replicate, codes, Ok, Err, if◌then◌else◌}
+use Rattle.std.specs.Prelude.{ℕ, zero, suc, ◌+◌, ◌-◌, ◌*◌, ◌%◌, min, nat_lt, nat_le, ◌==◌, List, ◌∷◌, ◌++◌, replicate, codes, Ok, Err, if◌then◌else◌}
 use Rattle.std.specs.Option.{option_map_or}
 use Rattle.std.specs.Int.{w16, w32, to_be_bytes}
 use Rattle.std.specs.Fmt.{decimal}

@@ -10,7 +10,6 @@ use Rattle.line_driver.specs.declared.machine.Exit.TheVariants as exits
 use Rattle.line_driver.specs.Outcomes.{Outcome}
 use Rattle.line_driver.specs.Clauses.{Drives}
 use Rattle.node_rules.specs.Ciphers.{network}
-use Rattle.line_rules.specs.Runs.{Entry}
 use Rattle.line_laws.specs.Laws.{IsLineRun}
 use Rattle.line_laws.specs.Network.{IsRight}
 use Rattle.line_script.specs.Words.{number_within}

@@ -1,3 +1,4 @@
 pub mod WordsRead
 pub mod RoundTrip
 pub mod Ranges
+mod HexDigits

@@ -1,5 +1,5 @@
 -- What is read is an event that a line can say.
-use Rattle.std.proofs.Common.{◌≡◌, ℕ, ◌+◌, ◌*◌, ◌-◌, ◌<◌, ◌≤◌, ◌==◌, Bool, true, false, ◌&&◌, List, [], ◌∷◌, length, slice_index, Option, Some, None, Result, Ok, Err, refl, arith}
+use Rattle.std.proofs.Common.{◌≡◌, ℕ, ◌+◌, ◌*◌, ◌-◌, ◌<◌, ◌≤◌, ◌==◌, Bool, true, false, ◌&&◌, List, [], ◌∷◌, length, Option, Some, None, Result, Ok, Err, refl, arith}
 use Rattle.std.specs.Prelude.{All, IfSome, nat_lt, nat_le, if◌then◌else◌}
 use Rattle.std.specs.Result.{result_ok}
 use Rattle.std.proofs.lemmas.Option.{IfSome_then}
@@ -12,7 +12,7 @@ use Rattle.line_rules.specs.Events.{AreOctets, IsEui, IsLineOctets, IsNumber, Is
 use Rattle.line_script.specs.declared.kind.EventKind.{EventKind}
 use Rattle.line_script.specs.declared.kind.EventKind.TheVariants as kinds
 use Rattle.line_rules.specs.declared.event.Event.{Event}
-use Rattle.line_script.specs.declared.reading.Reading.TheVariants.{Quiet, NoForm, Reads}
+use Rattle.line_script.specs.declared.reading.Reading.TheVariants.{Quiet}
 use Rattle.line_script.specs.Kinds.{kind_named}
 use Rattle.line_script.specs.Words.{◌>>=◌, Field, field, digit_more, number_from, number, number_within, cost, eui, sixteen_octets, hex_octets, keeps_new}
 use Rattle.line_script.specs.Readings.{coordinator_of, meter_of, depot_of, near_of, counter_of, number_of, allow_of, rand_of, join_of, leave_of, send_of, deliver_of, inject_of, lose_of, break_of, tick_of, restart_of, cut_of, rekey_of, challenge_of, activate_of, kick_of, show_of, event_by, event_of, reads, reading}

@@ -1,22 +1,21 @@
 -- The line of each event is read as that event.
-use Rattle.std.proofs.Common.{◌≡◌, ℕ, ◌+◌, ◌*◌, ◌<◌, ◌≤◌, ◌==◌, Bool, true, false, ◌&&◌, List, [], ◌∷◌, ◌++◌, length, Option, Some, None, refl, sym, ap, ◌∙◌, arith}
-use Rattle.std.specs.Prelude.{All, nat_lt, nat_le}
+use Rattle.std.proofs.Common.{◌≡◌, ℕ, ◌<◌, ◌≤◌, Bool, true, false, List, length, Some, refl, ap, ◌∙◌, arith}
 use Rattle.std.specs.Fmt.{decimal}
 use Rattle.hex.specs.Hex.{encode_lower}
-use Rattle.std.proofs.lemmas.Bool.{lt-ltb, le-ltb, lt-leb, le-leb, eq-eqb}
+use Rattle.std.proofs.lemmas.Bool.{lt-ltb, le-ltb, le-leb, eq-eqb}
 use Rattle.plc_base.specs.declared.address.Eui.{Eui}
 use Rattle.plc_base.specs.declared.key.Key.{Key}
 use Rattle.plc_base.specs.declared.key.Rand.{Rand}
 use Rattle.line_rules.specs.declared.event.Event.{Event}
 use Rattle.line_rules.specs.declared.event.Event.TheVariants.{Coordinator, Meter, Depot, Near, Counter, Number, Allow, Rand as GiveRand, Join, Leave, Send, Deliver, Inject, Lose, Break, Tick, Restart, Cut, Rekey, Challenge, Activate, Kick, Show}
-use Rattle.line_rules.specs.Events.{IsEvent, AreOctets, IsEui, IsKey, IsLineOctets}
+use Rattle.line_rules.specs.Events.{IsEvent, AreOctets, IsEui, IsLineOctets}
 use Rattle.line_script.specs.declared.kind.EventKind.{EventKind}
 use Rattle.line_script.specs.declared.kind.EventKind.TheVariants as kinds
 use Rattle.line_script.specs.declared.reading.Reading.TheVariants.{Reads}
 use Rattle.line_script.specs.Kinds.{kind_word, kind_named}
-use Rattle.line_script.specs.Words.{◌>>=◌, field, number, number_within, cost, eui, sixteen_octets, hex_octets, keeps_new}
+use Rattle.line_script.specs.Words.{number_within, cost, eui, sixteen_octets, hex_octets, keeps_new}
 use Rattle.line_script.specs.Readings.{coordinator_of, meter_of, depot_of, near_of, counter_of, number_of, allow_of, rand_of, join_of, leave_of, send_of, deliver_of, inject_of, lose_of, break_of, tick_of, restart_of, cut_of, rekey_of, challenge_of, activate_of, kick_of, show_of, event_by, event_of, reads, reading}
-use Rattle.line_script.specs.Lines.{spaced, kept_word, line_of}
+use Rattle.line_script.specs.Lines.{spaced, kept_word}
 use Rattle.line_script.specs.Laws.{LinesAreReadBack}
 use Rattle.line_script.proofs.WordsRead.{IsWord, field_read, number_read, decimal_word, hex_word, octets_read, digits_long}
 

@@ -1,5 +1,5 @@
 //! The words of answers.
-ghost use Rattle.std.specs.Prelude.{◌≡◌};
+ghost use Rattle.std.specs.Prelude.{◌≡◌, ◌++◌, codes};
 ghost use Rattle.line_script.specs.AnswerWords.{answer_word, verdict_word};
 
 use line_rules::Answer;
@@ -82,43 +82,43 @@ pub fn answer_word(answer: Answer) -> &'static str
     }
 }
 
-/// `ok`, or `no` for a refusal.
-pub fn verdict_word(answer: Answer) -> &'static str
-    ensures { result.now ≡ verdict_word answer }
+/// `ok`, or `no` for a refusal, between two spaces.
+pub fn spaced_verdict(answer: Answer) -> &'static str
+    ensures { result.now ≡ codes " " ++ (verdict_word answer ++ codes " ") }
 {
     match answer {
-        Answer::Made => "ok",
-        Answer::Joined => "ok",
-        Answer::Set => "ok",
-        Answer::Allowed => "ok",
-        Answer::Given => "ok",
-        Answer::Asked => "ok",
-        Answer::Left => "ok",
-        Answer::Sent => "ok",
-        Answer::Waiting => "ok",
-        Answer::Lost => "ok",
-        Answer::Broken => "ok",
-        Answer::Ticked => "ok",
-        Answer::Restarted => "ok",
-        Answer::Drawn => "ok",
-        Answer::Challenged => "ok",
-        Answer::Activated => "ok",
-        Answer::Ordered => "ok",
-        Answer::Kicked => "ok",
-        Answer::Shown => "ok",
-        Answer::Up => "ok",
-        Answer::Held => "ok",
-        Answer::Relayed => "ok",
-        Answer::Answered => "ok",
-        Answer::Learned => "ok",
-        Answer::Reported => "ok",
-        Answer::Carried => "ok",
-        Answer::Replied => "ok",
-        Answer::Took => "ok",
-        Answer::Noted => "ok",
-        Answer::Declined => "ok",
-        Answer::Keyed => "ok",
-        Answer::Done => "ok",
-        _ => "no",
+        Answer::Made => " ok ",
+        Answer::Joined => " ok ",
+        Answer::Set => " ok ",
+        Answer::Allowed => " ok ",
+        Answer::Given => " ok ",
+        Answer::Asked => " ok ",
+        Answer::Left => " ok ",
+        Answer::Sent => " ok ",
+        Answer::Waiting => " ok ",
+        Answer::Lost => " ok ",
+        Answer::Broken => " ok ",
+        Answer::Ticked => " ok ",
+        Answer::Restarted => " ok ",
+        Answer::Drawn => " ok ",
+        Answer::Challenged => " ok ",
+        Answer::Activated => " ok ",
+        Answer::Ordered => " ok ",
+        Answer::Kicked => " ok ",
+        Answer::Shown => " ok ",
+        Answer::Up => " ok ",
+        Answer::Held => " ok ",
+        Answer::Relayed => " ok ",
+        Answer::Answered => " ok ",
+        Answer::Learned => " ok ",
+        Answer::Reported => " ok ",
+        Answer::Carried => " ok ",
+        Answer::Replied => " ok ",
+        Answer::Took => " ok ",
+        Answer::Noted => " ok ",
+        Answer::Declined => " ok ",
+        Answer::Keyed => " ok ",
+        Answer::Done => " ok ",
+        _ => " no ",
     }
 }

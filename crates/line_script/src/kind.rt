@@ -1,5 +1,6 @@
 //! The kinds of events, by the first word of their lines.
 ghost use Rattle.std.specs.Prelude.{◌≡◌};
+ghost use Rattle.std.specs.Str.{bytes_eq};
 ghost use Rattle.line_script.specs.Kinds.{kind_word, kind_among, kind_named};
 
 /// What a line of a script asks for.
@@ -121,11 +122,26 @@ impl EventKind {
     }
 }
 
+// Whether two words are the same. They have so few octets that `==` of slices would take several times as long.
+fn is_same(word: &[u8], other: &[u8]) -> bool
+    ensures { result ≡ bytes_eq word.now other.now }
+{
+    if word.len() != other.len() {
+        return false;
+    }
+    for place in 0..word.len() {
+        if word[place] != other[place] {
+            return false;
+        }
+    }
+    true
+}
+
 fn kind_among(word: &[u8], kinds: &[EventKind]) -> Option<EventKind>
     ensures { result ≡ kind_among word.now kinds.now }
 {
     for kind in kinds {
-        if word == kind.word().as_bytes() {
+        if is_same(word, kind.word().as_bytes()) {
             return Some(*kind);
         }
     }

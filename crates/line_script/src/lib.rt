@@ -7,8 +7,6 @@ mod laws;
 mod node_report;
 mod reading;
 mod report;
-#[cfg(test)]
-mod tests;
 mod word;
 
 pub use kind::EventKind;

@@ -1,9 +1,11 @@
 //! The texts of a report.
-ghost use Rattle.std.specs.Prelude.{◌≡◌, ◌++◌, IfOk, OnOk, string_bytes, Some};
+ghost use Rattle.std.specs.Prelude.{◌≡◌, ◌++◌, IfOk, OnOk, codes, decimal, string_bytes, Some};
+ghost use Rattle.hex.specs.Hex.{encode_lower};
 ghost use Rattle.line_script.specs.Texts.{reason_word, answer_text, forged_text, up_text, grant_text, took_text, done_text, shown_text, details_text, happened_text, fly_text, bad_text, end_text};
 
-use crate::answer::{answer_word, verdict_word};
+use crate::answer::{answer_word, spaced_verdict};
 use crate::node_report::{push_node, short_word};
+use itoa::Buffer;
 use line_rules::{Admission, Answer, Event, Handed, Happenings};
 use node_rules::ShownRef;
 use std::alloc::{AllocError, Global};
@@ -57,16 +59,44 @@ fn reason_word(reason: Reason) -> &'static str
     }
 }
 
+// Numbers and octets are appended without the formatter, which takes several times as long, since most lines are made of them.
+
+fn push_number(text: &mut String, number: u32) -> Result<(), AllocError>
+    ensures { OnOk result (string_bytes text.new ≡ string_bytes text.old ++ decimal number) }
+{
+    let mut digits = Buffer::new();
+    text.push_str(digits.format(number))
+}
+
+// Two numbers with a space between them.
+fn push_pair(text: &mut String, first: u32, second: u32) -> Result<(), AllocError>
+    ensures { OnOk result (string_bytes text.new
+        ≡ string_bytes text.old ++ (decimal first ++ (codes " " ++ decimal second))) }
+{
+    push_number(text, first)?;
+    text.push_str(" ")?;
+    push_number(text, second)
+}
+
+// The last word of a line, in hexadecimal.
+fn push_octets(text: &mut String, alloc: Global, octets: &[u8]) -> Result<(), AllocError>
+    ensures { OnOk result (string_bytes text.new
+        ≡ string_bytes text.old ++ (codes " " ++ (encode_lower octets.now ++ codes "\n"))) }
+{
+    let digits = hex::encode(alloc, octets)?;
+    text.push_str(" ")?;
+    text.push_str(digits.as_str())?;
+    text.push_str("\n")
+}
+
 #[tactic(auto, unfolding(crate::specs::Texts::answer_text))]
 fn push_answer(text: &mut String, number: u32, answer: Answer) -> Result<(), AllocError>
     ensures { OnOk result (string_bytes text.new ≡ string_bytes text.old ++ answer_text number answer) }
 {
-    let verdict = verdict_word(answer);
-    let word = answer_word(answer);
-    match write!(text, "{number} {verdict} {word}\n") {
-        Ok(()) => Ok(()),
-        Err(_) => Err(AllocError),
-    }
+    push_number(text, number)?;
+    text.push_str(spaced_verdict(answer))?;
+    text.push_str(answer_word(answer))?;
+    text.push_str("\n")
 }
 
 #[tactic(auto, unfolding(crate::specs::Texts::forged_text))]
@@ -89,13 +119,9 @@ fn push_up(text: &mut String, alloc: Global, up: &Option<Handed<'_>>) -> Result<
     match up {
         None => Ok(()),
         Some(up) => {
-            let node = up.node;
-            let note = up.note;
-            let octets = hex::encode(alloc, up.octets.octets())?;
-            match write!(text, "up {node} {note} {octets}\n") {
-                Ok(()) => Ok(()),
-                Err(_) => Err(AllocError),
-            }
+            text.push_str("up ")?;
+            push_pair(text, u32::from(up.node), up.note)?;
+            push_octets(text, alloc, up.octets.octets())
         }
     }
 }
@@ -208,11 +234,9 @@ pub fn push_fly(
 ) -> Result<(), AllocError>
     ensures { OnOk result (string_bytes text.new ≡ string_bytes text.old ++ fly_text number node octets.now) }
 {
-    let octets = hex::encode(alloc, octets)?;
-    match write!(text, "fly {number} {node} {octets}\n") {
-        Ok(()) => Ok(()),
-        Err(_) => Err(AllocError),
-    }
+    text.push_str("fly ")?;
+    push_pair(text, number, u32::from(node))?;
+    push_octets(text, alloc, octets)
 }
 
 /// The line of a bad line, by its number among all lines.

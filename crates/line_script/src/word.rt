@@ -1,7 +1,9 @@
 //! The words of a line, and what each stands for.
-ghost use Rattle.std.specs.Prelude.{◌≡◌, ◌==◌, ◌<◌, ◌≤◌, length, position, IfSome};
+ghost use Rattle.std.specs.Prelude.{◌≡◌, ◌==◌, ◌<◌, ◌≤◌, ◌/◌, ℕ, length, position, IfSome};
 ghost use Rattle.std.specs.Option.{option_map};
-ghost use Rattle.line_script.specs.Words.{Field, field, digit_more, number_from, number, number_within, cost, eui, sixteen_octets, hex_octets, keeps_new};
+ghost use Rattle.std.specs.Result.{result_ok};
+ghost use Rattle.hex.specs.Hex.{decode_of, hex_digit_value, pair_value};
+ghost use Rattle.line_script.specs.Words.{Field, field, digit_more, number_from, number, number_within, cost, eui, sixteen_octets, value_below_16, hex_octets, keeps_new};
 
 use plc_base::{Eui, LinkCost, OctetRef};
 
@@ -114,6 +116,59 @@ pub fn sixteen_octets(digits: &[u8]) -> Option<[u8; 16]>
     Some(octets)
 }
 
+// The value of each octet as a digit in hexadecimal, 16 where it is none.
+const DIGIT_VALUES: [u8; 256] = [
+    16, 16, 16, 16, 16, 16, 16, 16, 16, 16, 16, 16, 16, 16, 16, 16, 16, 16, 16, 16, 16, 16, 16, 16,
+    16, 16, 16, 16, 16, 16, 16, 16, 16, 16, 16, 16, 16, 16, 16, 16, 16, 16, 16, 16, 16, 16, 16, 16,
+    0, 1, 2, 3, 4, 5, 6, 7, 8, 9, 16, 16, 16, 16, 16, 16, 16, 10, 11, 12, 13, 14, 15, 16, 16, 16,
+    16, 16, 16, 16, 16, 16, 16, 16, 16, 16, 16, 16, 16, 16, 16, 16, 16, 16, 16, 16, 16, 16, 16, 10,
+    11, 12, 13, 14, 15, 16, 16, 16, 16, 16, 16, 16, 16, 16, 16, 16, 16, 16, 16, 16, 16, 16, 16, 16,
+    16, 16, 16, 16, 16, 16, 16, 16, 16, 16, 16, 16, 16, 16, 16, 16, 16, 16, 16, 16, 16, 16, 16, 16,
+    16, 16, 16, 16, 16, 16, 16, 16, 16, 16, 16, 16, 16, 16, 16, 16, 16, 16, 16, 16, 16, 16, 16, 16,
+    16, 16, 16, 16, 16, 16, 16, 16, 16, 16, 16, 16, 16, 16, 16, 16, 16, 16, 16, 16, 16, 16, 16, 16,
+    16, 16, 16, 16, 16, 16, 16, 16, 16, 16, 16, 16, 16, 16, 16, 16, 16, 16, 16, 16, 16, 16, 16, 16,
+    16, 16, 16, 16, 16, 16, 16, 16, 16, 16, 16, 16, 16, 16, 16, 16, 16, 16, 16, 16, 16, 16, 16, 16,
+    16, 16, 16, 16, 16, 16, 16, 16, 16, 16, 16, 16, 16, 16,
+];
+
+// The value of a digit in hexadecimal, 16 where the octet is none.
+#[inline(always)]
+fn digit_value(octet: u8) -> u8
+    ensures { value_below_16 result ≡ hex_digit_value octet }
+{
+    DIGIT_VALUES[octet as usize]
+}
+
+// The octet of two digits in hexadecimal, None where one is no digit.
+#[inline(always)]
+fn octet_of(high: u8, low: u8) -> Option<u8>
+    ensures { (place : ℕ) → result_ok (pair_value high low place) ≡ result }
+{
+    let high = digit_value(high);
+    if high > 15 {
+        return None;
+    }
+    let low = digit_value(low);
+    if low > 15 {
+        return None;
+    }
+    Some(high * 16 + low)
+}
+
+// The octets that digits in hexadecimal stand for. A datagram has so many digits that a table is worth it.
+fn decode<'a>(digits: &[u8], octets: &'a mut [u8]) -> Option<OctetRef<'a>>
+    requires { length octets.old ≡ length digits.now / 2 }
+    ensures { result ≡ result_ok (decode_of digits.now) }
+{
+    if digits.len() % 2 != 0 {
+        return None;
+    }
+    for place in 0..octets.len() {
+        octets[place] = octet_of(digits[2 * place], digits[2 * place + 1])?;
+    }
+    Some(OctetRef::new(octets))
+}
+
 /// The octets, 1 to 2,048, that digits in hexadecimal stand for. They are written to `space`.
 #[tactic(auto, unfolding(crate::specs::Words::hex_octets))]
 pub fn hex_octets<'a>(digits: &[u8], space: &'a mut [u8]) -> Option<OctetRef<'a>>
@@ -123,9 +178,7 @@ pub fn hex_octets<'a>(digits: &[u8], space: &'a mut [u8]) -> Option<OctetRef<'a>
     if digits.is_empty() || digits.len() > 2 * LINE_OCTETS {
         return None;
     }
-    let octets = &mut space[..digits.len() / 2];
-    hex::decode_to_slice(digits, octets).ok()?;
-    Some(OctetRef::new(octets))
+    decode(digits, &mut space[..digits.len() / 2])
 }
 
 /// Whether a store that fails keeps the new record of the slot, or the old one.

@@ -1,6 +1,6 @@
 -- Flights that come to a node or are lost, and what a node makes of octets that come to it.
 use Rattle.std.proofs.Common.{◌≡◌, ℕ, zero, suc, ◌+◌, ◌<◌, ◌≤◌, Bool, true, false, cond, ◌||◌, List, [], ◌∷◌, length, Option, Some, None, Result, Ok, Err, refl, sym, ap, subst, ◌∙◌, if◌then◌else◌, arith}
-use Rattle.std.specs.Prelude.{IfSome, IfOk, MatchOption, is_some, nat_lt, slice_get, slice_set}
+use Rattle.std.specs.Prelude.{IfSome, IfOk, IsOk, MatchOption, is_ok, is_some, nat_lt, slice_get, slice_set}
 use Rattle.std.specs.List.{list_any}
 use Rattle.std.specs.Option.{option_copied, option_map, option_map_or}
 use denote.Ref.{Bor}
@@ -28,9 +28,9 @@ use Rattle.node_rules.specs.NodeSteps.{NodeStep, acts, answering, left_by, of_st
 use Rattle.node_rules.specs.Plans.{Plan, carry_out}
 use Rattle.line_flights.specs.declared.flights.Origin.{Origin}
 use Rattle.line_flights.specs.Flown.{Flown, not_lost}
-use Rattle.line_nodes.specs.declared.reception.Reception as telling
-use Rattle.line_nodes.specs.Doings.{Did}
-use Rattle.line_nodes.specs.Receiving.{Received, Tells}
+use Rattle.line_world.specs.declared.nodes.reception.Reception as telling
+use Rattle.line_world.specs.Doings.{Did}
+use Rattle.line_world.specs.Receiving.{Received, Tells, handed_up}
 use Rattle.line_rules.specs.declared.event.StepFault.TheVariants as faults
 use Rattle.line_rules.specs.declared.event.TheConstants.{MAX_EVENTS}
 use Rattle.line_rules.specs.declared.happenings.Happenings.{Happenings}
@@ -104,6 +104,10 @@ pub none_copied : (o : Option (Bor (List ℕ))) → is_some o ≡ false → None
 none_copied None is = refl
 none_copied (Some octets) is = absurd (cc)
 
+pub some_copied : (o : Option (Bor (List ℕ))) → is_some o ≡ true → (octets : List ℕ) × (Some octets ≡ option_copied o)
+some_copied None is = absurd (cc)
+some_copied (Some octets) is = (octets.now, refl)
+
 -- # The node of a number
 
 -- a number below their count is that of a node
@@ -176,11 +180,10 @@ is_some_map : {A B : Type 0} (f : A → B) (o : Option A) → is_some (option_ma
 is_some_map f None = refl
 is_some_map f (Some a) = refl
 
--- a datagram that was handed up, by the octets that stand in the buffer
-handed_as : (number : ℕ) (datagram : List ℕ) (up : Option Up) → IfSome up (λ (u : Up). datagram ≡ u.octets)
-    → handed_in number datagram (option_map (λ (u : Up). u.note) up) ≡ handed_by number up
-handed_as number datagram None is = refl
-handed_as number datagram (Some u) is = λ i. Some (record { node = number; note = u.note; octets = is i })
+-- a datagram that was handed up
+handed_as : (number : ℕ) (up : Option Up) → handed_in number (option_map handed_up up) ≡ handed_by number up
+handed_as number None = refl
+handed_as number (Some u) = refl
 
 took_as : (number : ℕ) (took : Option Agreed) → taker_in number (is_some took) ≡ option_map (λ _. number) took
 took_as number None = refl
@@ -196,21 +199,21 @@ pairing_as v w None same = refl
 pairing_as v w (Some d) same = λ i. Some (record { node = same d.eui i; agreed = d.agreed })
 
 -- what is said and what is left of a frame that a node heard
-pub heard_so : (w new : World) (number : ℕ) (x : Node) (got : Accepted) (origin : Origin) (cost : ℕ) (r : telling.Reception) (datagram : List ℕ) (out : Out) (nodes : List Node)
+pub heard_so : (w new : World) (number : ℕ) (x : Node) (got : Accepted) (origin : Origin) (cost : ℕ) (r : telling.Reception) (out : Out) (nodes : List Node)
     (forged : Bool) (h : Happenings) → IsBounded (in_run w) → w.events < MAX_EVENTS → length out.frames ≤ 24 → length out.tags.made ≤ 2 → slice_get w.nodes number ≡ Some x
-    → Received (hears network x got cost origin.note w.clock) w.nodes number r datagram out nodes
+    → Received (hears network x got cost origin.note w.clock) w.nodes number r out nodes
     → forged ≡ (origin.is_forged || list_any (is_forged_tag w.made) out.tags.opened)
-    → h ≡ said_of (record w { nodes = nodes }) number out forged r datagram → new ≡ left_of (record w { nodes = nodes }) number out forged r
+    → h ≡ said_of (record w { nodes = nodes }) number out forged r → new ≡ left_of (record w { nodes = nodes }) number out forged r
     → Steps true w (Ok h) new (Ok (hears_so network w number x got origin cost))
-heard_so w new number x got origin cost r datagram out nodes forged h b room frames tags at rec is_forged said is =
+heard_so w new number x got origin cost r out nodes forged h b room frames tags at rec is_forged said is =
     let d : NodeStep Reception = hears network x got cost origin.note w.clock in
     let did : Did d w.nodes number d.answer out nodes = rec.did in
-    let told : Tells r datagram d.answer = rec.tells in
+    let told : Tells r d.answer = rec.tells in
     let right : Bool = origin.is_forged || list_any (is_forged_tag w.made) d.opened in
     let forgery : forged ≡ right = is_forged ∙ ap (λ (o : Out). origin.is_forged || list_any (is_forged_tag w.made) o.tags.opened) did.out_is in
     let numbers : (eui : Eui) → number_of (record w { nodes = nodes }) eui ≡ number_of w eui =
     λ eui. ap (λ (ns : List Node). number_of (record w { nodes = ns }) eui) did.nodes_are ∙ same_number w number x d.node eui at (hears_eui x got cost origin.note w.clock) in
-    let up = ap (λ o. handed_in number datagram o) told.up ∙ handed_as number datagram d.answer.up told.octets in
+    let up = ap (λ o. handed_in number o) told.up ∙ handed_as number d.answer.up in
     let took = ap (λ t. taker_in number t) told.took ∙ took_as number d.answer.took in
     let done = ap (λ o. done_in (record w { nodes = nodes }) o) told.done ∙ done_as (record w { nodes = nodes }) w d.answer.done numbers in
     let many : length out.frames ≡ length d.frames = ap (λ (o : Out). length o.frames) did.out_is ∙ many_given (spelled network) d.frames in
@@ -370,6 +373,13 @@ module _ (v w : World) (node number : ℕ) (octets : List ℕ) (accepted : Resul
 pub found_still : (v w : World) (node number : ℕ) → v ≡ w → Ok number ≡ found w node → number < length v.nodes
 found_still v w node number same is = subst (λ (it : World). number < length it.nodes) (sym same) (is_there w node number is).within
 
+-- an event is taken where its node is found, and its flight, if it has one, still flies
+pub inject_taken : (w : World) (node number cost : ℕ) (octets : List ℕ) → Ok number ≡ found w node → IsOk (inject network w node cost octets)
+unfolding inject
+inject_taken w node number cost octets is =
+    let there = is_there w node number is in
+    ap is_ok (begun w _ (has_coordinator w node number is) ∙ at_node w node there.node (λ x. Ok (arrives network w node x octets cost)) there.at)
+
 -- a flight that comes to a node is octets that do
 pub delivers : (w : World) (node number flight cost : ℕ) (octets : List ℕ) → Ok number ≡ found w node → Flies (not_lost (flight_at w flight)) octets
     → deliver network w flight node cost ≡ inject network w node cost octets
@@ -380,6 +390,9 @@ delivers w node number flight cost octets is f =
     begun w _ has ∙ at_node w node there.node (λ x. on_flight w flight (λ g. Ok (arrives network w node x g.octets cost))) there.at ∙ flying w flight _ f.flight f.at
     ∙ ap (λ o. Ok (arrives network w node there.node o cost)) (sym f.same)
     ∙ sym (begun w _ has ∙ at_node w node there.node (λ x. Ok (arrives network w node x octets cost)) there.at)
+
+pub deliver_taken : (w : World) (node number flight cost : ℕ) (octets : List ℕ) → Ok number ≡ found w node → Flies (not_lost (flight_at w flight)) octets → IsOk (deliver network w flight node cost)
+deliver_taken w node number flight cost octets is f = subst IsOk (sym (delivers w node number flight cost octets is f)) (inject_taken w node number cost octets is)
 
 -- one that does not fly comes to none
 pub no_flight : (w : World) (node number flight cost : ℕ) → IsBounded w → Ok number ≡ found w node → not_lost (flight_at w flight) ≡ None

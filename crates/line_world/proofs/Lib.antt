@@ -1,3 +1,14 @@
+mod Acting
+mod LentStations
+mod Breaking
+mod MeterActing
+mod Places
+mod AcceptingSteps
+mod HearingSteps
+mod Making
+mod CoordinatorActing
+mod CoordinatorHearing
+mod CoordinatorOpening
 mod Orders
 mod Taking
 mod Arrivals

@@ -1,6 +1,6 @@
 -- The meters and the coordinator that an event is about, and what an event leaves for which memory was reserved.
 use Rattle.std.proofs.Common.{◌≡◌, ℕ, zero, suc, ◌<◌, ◌≤◌, Bool, true, false, List, [], ◌∷◌, length, Option, Some, Result, Ok, Err, refl, sym, ap, subst, ◌∙◌, arith}
-use Rattle.std.specs.Prelude.{◌==◌, if◌then◌else◌, nat_lt, IfSome, slice_get}
+use Rattle.std.specs.Prelude.{◌==◌, if◌then◌else◌, is_ok, nat_lt, IfSome, IsOk, slice_get}
 use Rattle.std.proofs.Math.Dec.{eqb-suc-zero}
 use Rattle.std.proofs.lemmas.List.{append-nil, length-set}
 use Rattle.plc_base.specs.declared.address.Eui.{Eui}
@@ -12,7 +12,7 @@ use Rattle.node_rules.specs.Ciphers.{network}
 use Rattle.node_rules.specs.Memory.{Memory, Node}
 use Rattle.node_rules.specs.NodeSteps.{NodeStep, acts}
 use Rattle.node_rules.specs.Plans.{Plan}
-use Rattle.line_nodes.specs.Doings.{Did}
+use Rattle.line_world.specs.Doings.{Did}
 use Rattle.line_rules.specs.declared.event.Answer.{Answer}
 use Rattle.line_rules.specs.declared.event.StepFault.{StepFault}
 use Rattle.line_rules.specs.declared.event.StepFault.TheVariants as faults
@@ -153,6 +153,12 @@ pub about_meter : {w : World} {number found : ℕ} (r : Runs w) (m : IsMeter w n
 about_meter {w} {number} {found} r m k =
     let there = first_there w r.begun in
     begun w _ r.begun ∙ at_meter m (λ x. at_coordinator w (λ c. k x c)) ∙ at_node w 0 there.node (λ c. k m.there.node c) there.at
+
+-- so an event of the coordinator about a meter that was found is taken
+pub about_taken : (w : World) (number at : ℕ) → IsBounded w → w.events < MAX_EVENTS → Ok at ≡ found_meter w number → (k : Node → Node → World × Trace)
+    → IsOk (once_begun w (on_meter w number (λ x. at_coordinator w (λ c. Ok (k x c)))))
+about_taken w number at bounds room is k =
+    ap is_ok (about_meter (record { begun = meter_begun w number at is; bounds = bounds; room = room }) (is_meter w number at is) (λ x c. Ok (k x c)))
 
 -- what is said of an event at which frames went out, its word being another's
 pub told_with : (w : World) (word told_word : Answer) (count : ℕ) (h : Happenings) → h ≡ record (happened w told_word) { flights = count } → told_word ≡ word

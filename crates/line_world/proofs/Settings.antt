@@ -2,7 +2,7 @@
 use Rattle.std.proofs.Common.{◌≡◌, ◌≢◌, ℕ, zero, suc, ◌+◌, ◌<◌, ◌≤◌, Bool, true, false, not, ◌&&◌, ◌||◌, List, [], ◌∷◌, ◌++◌, length, Option, Some, None, Result, Ok, Err, refl, sym, ap, subst, ◌∙◌, if◌then◌else◌, arith}
 use Rattle.std.specs.Prelude.{All, IfSome, IsSome, slice_get, slice_set, is_some, nat_lt, ◌==◌}
 use Rattle.std.specs.Option.{option_map_or}
-use Rattle.std.specs.Result.{OnOk, is_err}
+use Rattle.std.specs.Result.{OnOk, OnErr, is_err}
 use Rattle.std.specs.FinMap.{insert}
 use Rattle.std.proofs.lemmas.Bool.{eqb-true, ltb-false}
 use Rattle.std.proofs.lemmas.Bool.Decides.{nat_tests}
@@ -30,7 +30,7 @@ use Rattle.node_rules.specs.Meters as meters
 use Rattle.node_rules.specs.NodeSteps.{NodeStep, acts, answering, left_by, of_station, stays}
 use Rattle.node_rules.specs.Plans.{Plan, carry_out, finished, halted}
 use Rattle.node_rules.proofs.Refusals.{orders_refused}
-use Rattle.line_nodes.specs.Doings.{Did}
+use Rattle.line_world.specs.Doings.{Did}
 use Rattle.line_rules.specs.declared.event.Answer.TheVariants as said
 use Rattle.line_rules.specs.declared.event.StepFault.{StepFault}
 use Rattle.line_rules.specs.declared.event.StepFault.TheVariants as faults
@@ -393,19 +393,26 @@ meter_full w eui psk takes full = meter_by w eui psk true true (is_known w eui) 
 pub meter_known : (w : World) (eui : Eui) (psk : Key) → true ≡ takes_setup w → length w.nodes < 1000 → true ≡ is_known w eui → meter w eui psk ≡ Err faults.Setup
 meter_known w eui psk takes room known = meter_by w eui psk true false true (sym takes) (room_at (length w.nodes) room) (sym known)
 
+pub makes_meter : (w : World) (eui : Eui) (psk : Key) → true ≡ takes_setup w → length w.nodes < 1000 → false ≡ is_known w eui → meter w eui psk ≡ Ok (made_node w (blank_node (Meter psk) eui))
+makes_meter w eui psk takes room unknown = meter_by w eui psk true false false (sym takes) (room_at (length w.nodes) room) (sym unknown)
+
 -- a meter was made
 pub meter_made : (w new : World) (eui : Eui) (psk : Key) (nodes : List Node) (h : Happenings) → IsBounded w → w.events < MAX_EVENTS → true ≡ takes_setup w → length w.nodes < 1000
     → false ≡ is_known w eui → nodes ≡ w.nodes ++ blank_node (Meter psk) eui ∷ [] → h ≡ happened w said.Made → new ≡ record (set_up w) { nodes = nodes }
     → Steps true w (Ok h) new (meter w eui psk)
 meter_made w new eui psk nodes h b room takes few unknown are spoken is =
     was_made w new _ (blank_node (Meter psk) eui) nodes h b room (omega (arith, few)) (blank_uncut (Meter psk) eui) are
-    (meter_by w eui psk true false false (sym takes) (room_at (length w.nodes) few) (sym unknown)) spoken is
+    (makes_meter w eui psk takes few unknown) spoken is
 
 -- # What the code found
 
 pub went_well : {A E P : Type 0} (r : Result A E) → OnOk r P → false ≡ is_err r → P
 went_well (Ok a) h is = h
 went_well (Err e) h is = absurd (cc)
+
+pub went_badly : {A E P : Type 0} (r : Result A E) → OnErr r P → true ≡ is_err r → P
+went_badly (Ok a) h is = absurd (cc)
+went_badly (Err e) h is = h
 
 -- what holds of what is found by a number holds of the node that is there
 pub at_there : {w : World} {number found : ℕ} (there : IsThere w number found) (P : Node → Type 0) → IfSome (slice_get w.nodes found) P → P there.node

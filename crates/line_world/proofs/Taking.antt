@@ -1,6 +1,6 @@
 -- How an event is taken: why it is not, and what a node's step makes of the world.
 use Rattle.std.proofs.Common.{◌≡◌, ℕ, suc, ◌+◌, ◌<◌, ◌≤◌, Bool, true, false, List, [], ◌∷◌, ◌++◌, length, map, Option, Some, None, Result, Ok, Err, refl, sym, ap, subst, ◌∙◌, if◌then◌else◌, arith}
-use Rattle.std.specs.Prelude.{IfSome, slice_get, slice_set}
+use Rattle.std.specs.Prelude.{IfSome, IsOk, is_some, slice_get, slice_set}
 use Rattle.std.specs.Option.{option_map_or}
 use Rattle.std.proofs.lemmas.List.{append-nil, length-append, length-set}
 use Rattle.std.proofs.lemmas.Option.{slice_get_within}
@@ -8,9 +8,9 @@ use Rattle.plc_base.specs.declared.out_frame.Out.{Out}
 use Rattle.node_rules.specs.Carrying.{nothing}
 use Rattle.node_rules.specs.Ciphers.{network}
 use Rattle.node_rules.specs.Frames.{Sent, spelled}
-use Rattle.node_rules.specs.Memory.{Node}
+use Rattle.node_rules.specs.Memory.{Node, node_address}
 use Rattle.node_rules.specs.NodeSteps.{NodeStep, answering}
-use Rattle.line_nodes.specs.Doings.{Did, given_by}
+use Rattle.line_world.specs.Doings.{Did, given_by}
 use Rattle.line_rules.specs.declared.event.Answer.{Answer}
 use Rattle.line_rules.specs.declared.event.StepFault.{StepFault}
 use Rattle.line_rules.specs.declared.event.StepFault.TheVariants as faults
@@ -20,7 +20,7 @@ use Rattle.line_rules.specs.Worlds.{World, Flight, Trace, node_at}
 use Rattle.line_rules.specs.Steps.{Step, acted, flight_by, flights_of, happened, has_begun, on_node, once_begun, ran, spoken, told}
 use Rattle.line_world.specs.Bounds.{IsBounded}
 use Rattle.line_world.specs.Finding.{found}
-use Rattle.line_world.specs.Steps.{Gives, HasMemory, Steps, is_memory}
+use Rattle.line_world.specs.Steps.{Gives, HasMemory, Steps, has_address, is_memory}
 
 -- # Events that are not taken
 
@@ -37,9 +37,20 @@ refused fault plain takes w step bounds is = record { gives = by fault plain is;
     by_kind true = tt
     by_kind false = plain
 
--- memory ran out where the event may take some
-pub out_of_memory : (w new : World) (step : Step) → IsBounded w → new ≡ w → Steps true w (Err faults.Memory) new step
-out_of_memory w new step bounds same = record { gives = same; memory = tt; bounds = subst IsBounded (sym same) bounds }
+-- memory ran out for an event that the rules take
+pub out_of_memory : (w new : World) (step : Step) → IsBounded w → new ≡ w → IsOk step → Steps true w (Err faults.Memory) new step
+out_of_memory w new step bounds same taken = record { gives = (taken, same); memory = tt; bounds = subst IsBounded (sym same) bounds }
+
+-- so it did where none could be reserved
+pub unreserved : (w new : World) (step : Step) (fault : StepFault) → IsBounded w → new ≡ w → IsOk step → ◌≡◌ {A = Result (Unit {0}) StepFault} (Err fault) (Err faults.Memory)
+    → Steps true w (Err fault) new step
+unreserved w new step fault bounds same taken is =
+    let memory : faults.Memory ≡ fault = cc in
+    subst (λ (f : StepFault). Steps true w (Err f) new step) memory (out_of_memory w new step bounds same taken)
+
+-- an event that takes memory in its case
+pub taking : {takes : Bool} {w new : World} {r : Result Happenings StepFault} {step : Step} → takes ≡ true → Steps true w r new step → Steps takes w r new step
+taking {takes} {w} {new} {r} {step} is s = subst (λ (b : Bool). Steps b w r new step) (sym is) s
 
 -- the same of a step by another name
 pub steps_as : {takes : Bool} {w new : World} {r : Result Happenings StepFault} (named step : Step) → named ≡ step → Steps takes w r new step → Steps takes w r new named
@@ -106,6 +117,13 @@ second_not_found takes w number at other k fault bounds first is =
 -- what is told of the node of the number that was found, of that node
 pub told_of : {w : World} {number found : ℕ} (there : IsThere w number found) (P : Node → Type 0) → IfSome (slice_get w.nodes found) P → P there.node
 told_of {w} {number} {found} there P is = subst (λ (o : Option Node). IfSome o P) (ap (λ n. slice_get w.nodes n) there.same ∙ there.at) is
+
+-- a node that was found and has an address
+pub addressed : {w : World} {number found : ℕ} (there : IsThere w number found) (address : ℕ) → IfSome (slice_get w.nodes found) (λ x. ◌≡◌ {A = Option ℕ} (Some address) (node_address x))
+    → has_address w number ≡ true
+addressed {w} {number} {found} there address at =
+    ap (λ (o : Option Node). option_map_or (λ (x : Node). is_some (node_address x)) o false) there.at
+    ∙ ap (λ (o : Option ℕ). is_some o) (sym (told_of there (λ (x : Node). ◌≡◌ {A = Option ℕ} (Some address) (node_address x)) at))
 
 -- # What a node's step makes of the world
 

@@ -11,7 +11,8 @@ use Rattle.node_rules.specs.Ciphers.{Ciphers}
 use Rattle.node_rules.specs.Memory.{Node}
 use Rattle.node_rules.specs.NodeSteps.{NodeStep}
 use Rattle.line_flights.specs.declared.flights.Origin.{Origin}
-use Rattle.line_nodes.specs.declared.reception.Reception as telling
+use Rattle.line_world.specs.declared.nodes.reception.HandedUp.{HandedUp}
+use Rattle.line_world.specs.declared.nodes.reception.Reception as telling
 use Rattle.line_rules.specs.declared.happenings.Handed.{Handed}
 use Rattle.line_rules.specs.declared.happenings.Happenings.{Happenings}
 use Rattle.line_rules.specs.Answers.{frame_word, Reception}
@@ -44,9 +45,9 @@ abbrev pub comes_so : Ciphers → World → ℕ → Node → Result Accepted Fra
 comes_so ciphers w number x (Ok got) origin cost = hears_so ciphers w number x got origin cost
 comes_so ciphers w number x (Err reason) origin cost = (ran w, trace_of (happened w (frame_word reason)))
 
--- a datagram that was handed up, by the octets in the buffer
-abbrev pub handed_in : ℕ → List ℕ → Option ℕ → Option Handed
-handed_in number datagram up = option_map (λ (note : ℕ). record { node = number; note = note; octets = datagram }) up
+-- a datagram that was handed up
+abbrev pub handed_in : ℕ → Option HandedUp → Option Handed
+handed_in number up = option_map (λ (u : HandedUp). record { node = number; note = u.note; octets = u.octets }) up
 
 -- the node, where it took a grant
 abbrev pub taker_in : ℕ → Bool → Option ℕ
@@ -67,10 +68,10 @@ left_of w number out forged told = record (ran w) {
 }
 
 -- what is said of it
-abbrev pub said_of : World → ℕ → Out → Bool → telling.Reception → List ℕ → Happenings
-said_of w number out forged told datagram = record (happened w told.answer) {
+abbrev pub said_of : World → ℕ → Out → Bool → telling.Reception → Happenings
+said_of w number out forged told = record (happened w told.answer) {
   forged = forged;
-  up = handed_in number datagram told.up;
+  up = handed_in number told.up;
   took = taker_in number told.took;
   done = done_in w told.done;
   flights = length out.frames;

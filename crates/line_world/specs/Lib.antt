@@ -1,3 +1,8 @@
+pub mod NodeCodes
+pub mod Nodes
+pub mod Soundness
+pub mod Doings
+pub mod Receiving
 pub mod Lines
 pub mod Steps
 pub mod Bounds

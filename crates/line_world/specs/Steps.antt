@@ -1,11 +1,13 @@
 -- What a step of the world's code says against the step of the rules.
-use Rattle.std.specs.Prelude.{◌≡◌, ⊤, Bool, true, false, Result, Ok, Err, IfErr}
+use Rattle.std.specs.Prelude.{◌≡◌, ℕ, ⊤, Bool, true, false, not, ◌==◌, is_some, Result, Ok, Err, IsOk, IfErr}
+use Rattle.std.specs.Option.{option_map_or}
+use Rattle.node_rules.specs.Memory.{Node, node_address}
 use Rattle.line_rules.specs.declared.event.Event.{Event}
 use Rattle.line_rules.specs.declared.event.Event.TheVariants as events
 use Rattle.line_rules.specs.declared.event.StepFault.{StepFault}
 use Rattle.line_rules.specs.declared.event.StepFault.TheVariants as faults
 use Rattle.line_rules.specs.declared.happenings.Happenings.{Happenings}
-use Rattle.line_rules.specs.Worlds.{World, Trace}
+use Rattle.line_rules.specs.Worlds.{World, Trace, node_at}
 use Rattle.line_rules.specs.Steps.{Step}
 use Rattle.line_world.specs.Bounds.{IsBounded}
 
@@ -15,26 +17,31 @@ pub record Takes (happened : Happenings) (new : World) (step : Step) : Type 0 wh
   pub taken : step ≡ Ok (new, trace)
   pub told : happened ≡ trace.happened
 
--- What a call answered is what the step says, or memory ran out. After a fault nothing has changed.
+-- What a call answered is what the step says, or memory ran out for an event that the rules take. After a fault nothing has changed.
 abbrev pub Gives : World → Result Happenings StepFault → World → Step → Type 0
 Gives old (Ok h) new step = Takes h new step
-Gives old (Err faults.Memory) new step = new ≡ old
+Gives old (Err faults.Memory) new step = IsOk step × (new ≡ old)
 Gives old (Err faults.Setup) new step = (step ≡ Err faults.Setup) × (new ≡ old)
 Gives old (Err faults.Node) new step = (step ≡ Err faults.Node) × (new ≡ old)
 Gives old (Err faults.Flight) new step = (step ≡ Err faults.Flight) × (new ≡ old)
 
--- whether an event of this kind takes memory: a node is made, or frames may go out
-abbrev pub takes_memory : Event → Bool
-takes_memory (events.Coordinator eui key) = true
-takes_memory (events.Meter eui psk) = true
-takes_memory (events.Join node agent) = true
-takes_memory (events.Send from to datagram) = true
-takes_memory (events.Deliver flight node cost) = true
-takes_memory (events.Inject node cost octets) = true
-takes_memory (events.Challenge node) = true
-takes_memory (events.Activate node index) = true
-takes_memory (events.Kick node) = true
-takes_memory _ = false
+-- whether this is the number of a node that has an address
+abbrev pub has_address : World → ℕ → Bool
+has_address w number = option_map_or (λ (x : Node). is_some (node_address x)) (node_at w number) false
+
+-- Whether an event takes memory: a node is made, or frames may go out. None goes out to a node without an address, nor where the
+-- coordinator turns to another key itself.
+abbrev pub takes_memory : World → Event → Bool
+takes_memory w (events.Coordinator eui key) = true
+takes_memory w (events.Meter eui psk) = true
+takes_memory w (events.Join node agent) = has_address w agent
+takes_memory w (events.Send from to datagram) = has_address w to
+takes_memory w (events.Deliver flight node cost) = true
+takes_memory w (events.Inject node cost octets) = true
+takes_memory w (events.Challenge node) = true
+takes_memory w (events.Activate node index) = not (node == 0)
+takes_memory w (events.Kick node) = true
+takes_memory w _ = false
 
 abbrev pub is_memory : StepFault → Bool
 is_memory faults.Memory = true

@@ -11,7 +11,7 @@ use Rattle.node_rules.specs.Memory.{Node}
 use Rattle.node_rules.specs.States.{eui_code}
 use Rattle.meter_node.specs.Sessions.{key_code, rand_code}
 use Rattle.line_rules.specs.Worlds.{Flight, World}
-use Rattle.line_nodes.specs.NodeCodes.{node_code}
+use Rattle.line_world.specs.NodeCodes.{node_code}
 
 abbrev pub flight_code : Coded Flight
 flight_code =

@@ -6,16 +6,16 @@ ghost use Rattle.line_rules.specs.declared.event.TheConstants.{MAX_EVENTS};
 ghost use Rattle.line_rules.specs.Answers as words;
 ghost use Rattle.line_rules.specs.Steps as rules;
 ghost use Rattle.line_rules.specs.Worlds.{is_forged_tag};
-ghost use Rattle.line_nodes.specs.Receiving.{MayHear};
+ghost use Rattle.line_world.specs.Receiving.{MayHear};
 ghost use Rattle.line_world.specs.Arrivals.{comes_so, done_in, forged_in, handed_in, hears_so, in_run, left_of, note_in, said_of, taker_in};
 ghost use Rattle.line_world.specs.Bounds.{IsBounded};
 ghost use Rattle.line_world.specs.Lines.{HasRoom, world_of};
 ghost use Rattle.line_world.specs.Steps.{Steps};
 
 use crate::line::Line;
+use crate::nodes::{HandedUp, Reception};
 use crate::world::Space;
 use line_flights::{Flights, Origin};
-use line_nodes::Reception;
 use line_rules::{Answer, Handed, Happenings, StepFault};
 use node_rules::{Accepted, FrameRefusal, Path};
 use plc_base::{DatagramBuf, Eui, LinkCost, OctetRef};
@@ -54,7 +54,7 @@ fn origin_by(flights: &Flights, octets: &[u8], path: &Path) -> Origin
 }
 
 // Where the octets come from that a node looked at; of refused ones nothing is told.
-fn origin(flights: &Flights, octets: &[u8], accepted: &Result<Accepted, FrameRefusal>) -> Origin
+fn origin(flights: &Flights, octets: &[u8], accepted: &Result<Accepted<'_>, FrameRefusal>) -> Origin
     ensures forged { IfOk accepted.now (λ got. result.is_forged ≡ forged_in flights.now.flights octets.now got.path) }
     ensures note { IfOk accepted.now (λ got. result.note ≡ note_in flights.now.flights octets.now got.path) }
 {
@@ -68,16 +68,18 @@ fn origin(flights: &Flights, octets: &[u8], accepted: &Result<Accepted, FrameRef
 }
 
 // A datagram that was handed up, for the report.
-fn handed<'a>(node: usize, up: Option<u32>, datagram: &'a DatagramBuf) -> Option<Handed<'a>>
+fn handed<'a>(node: usize, up: &Option<HandedUp<'a>>) -> Option<Handed<'a>>
     requires node { node < 1000 }
-    ensures { result ≡ handed_in node datagram.now up }
+    ensures { result ≡ handed_in node up.now }
 {
-    let note = up?;
-    Some(Handed {
-        node: node as u16,
-        note,
-        octets: OctetRef::new(datagram.octets()),
-    })
+    match up {
+        Some(up) => Some(Handed {
+            node: node as u16,
+            note: up.note,
+            octets: OctetRef::new(up.octets.octets()),
+        }),
+        None => None,
+    }
 }
 
 // The node, where it took a grant.
@@ -113,7 +115,7 @@ impl Line {
     }
 
     // Counts what came of a frame.
-    fn count(&mut self, told: &Reception, forged: bool)
+    fn count(&mut self, told: &Reception<'_>, forged: bool)
         requires ups { self.old.ups < MAX_EVENTS }
         requires forged { self.old.forged < MAX_EVENTS }
         requires done { self.old.done < MAX_EVENTS }
@@ -129,19 +131,13 @@ impl Line {
     }
 
     // What a frame led to, for the world and for the report.
-    fn received<'a>(
-        &mut self,
-        node: usize,
-        forged: bool,
-        told: &Reception,
-        datagram: &'a DatagramBuf,
-    ) -> Happenings<'a>
+    fn received<'a>(&mut self, node: usize, forged: bool, told: &Reception<'a>) -> Happenings<'a>
         requires room { HasRoom self.old }
         requires node { node < 1000 }
         requires bounds { IsBounded (in_run (world_of self.old)) }
         requires events { self.old.events < MAX_EVENTS }
         ensures world { world_of self.new ≡ left_of (world_of self.old) node self.old.out forged told.now }
-        ensures told { result ≡ said_of (world_of self.old) node self.old.out forged told.now datagram.now }
+        ensures told { result ≡ said_of (world_of self.old) node self.old.out forged told.now }
         ensures frames { length self.old.out.frames ≤ 24 }
         ensures tags { length self.old.out.tags.made ≤ 2 }
     {
@@ -151,7 +147,7 @@ impl Line {
         Happenings {
             answer: told.answer,
             forged,
-            up: handed(node, told.up, datagram),
+            up: handed(node, &told.up),
             grant: None,
             took: taker(node, told.took),
             done,
@@ -165,10 +161,10 @@ impl Line {
     fn heard<'a>(
         &mut self,
         node: usize,
-        got: &Accepted,
+        got: &Accepted<'a>,
         origin: Origin,
         cost: LinkCost,
-        space: &'a mut Space,
+        datagram: &'a mut DatagramBuf,
     ) -> Happenings<'a>
         requires room { HasRoom self.old }
         requires there { node < length self.old.nodes }
@@ -184,21 +180,21 @@ impl Line {
             cost,
             origin.note,
             self.clock,
-            &mut space.datagram,
+            datagram,
             &mut self.out,
         );
         let forged = self.is_forged(origin);
-        self.received(node, forged, &told, &space.datagram)
+        self.received(node, forged, &told)
     }
 
     // What becomes of octets that a node looked at: a refused frame leads to nothing.
     fn arrived<'a>(
         &mut self,
         node: usize,
-        accepted: &Result<Accepted, FrameRefusal>,
+        accepted: &Result<Accepted<'a>, FrameRefusal>,
         origin: Origin,
         cost: LinkCost,
-        space: &'a mut Space,
+        datagram: &'a mut DatagramBuf,
     ) -> Happenings<'a>
         requires room { HasRoom self.old }
         requires there { node < length self.old.nodes }
@@ -209,7 +205,7 @@ impl Line {
             (world_of self.new) (Ok (comes_so network (world_of self.old) node x accepted.now origin cost))) }
     {
         match accepted {
-            Ok(got) => self.heard(node, got, origin, cost, space),
+            Ok(got) => self.heard(node, got, origin, cost, datagram),
             Err(reason) => self.answered(frame_word(*reason)),
         }
     }
@@ -236,9 +232,9 @@ impl Line {
         let Some(octets) = self.flights.flying(flight) else {
             return Err(StepFault::Flight);
         };
-        let accepted = self.nodes.accept(number, octets);
+        let accepted = self.nodes.accept(number, octets, &mut space.payload);
         let origin = origin(&self.flights, octets, &accepted);
-        Ok(self.arrived(number, &accepted, origin, cost, space))
+        Ok(self.arrived(number, &accepted, origin, cost, &mut space.datagram))
     }
 
     /// Octets of the script come to a node over a link of this cost.
@@ -256,9 +252,9 @@ impl Line {
     {
         let number = self.node(node)?;
         self.reserve()?;
-        let accepted = self.nodes.accept(number, octets);
+        let accepted = self.nodes.accept(number, octets, &mut space.payload);
         let origin = origin(&self.flights, octets, &accepted);
-        Ok(self.arrived(number, &accepted, origin, cost, space))
+        Ok(self.arrived(number, &accepted, origin, cost, &mut space.datagram))
     }
 
     /// A flight is lost.

@@ -7,7 +7,7 @@ ghost use Rattle.line_rules.specs.Answers as words;
 ghost use Rattle.line_rules.specs.Steps as rules;
 ghost use Rattle.line_world.specs.Bounds.{IsBounded};
 ghost use Rattle.line_world.specs.Lines.{world_of};
-ghost use Rattle.line_world.specs.Steps.{Steps};
+ghost use Rattle.line_world.specs.Steps.{Steps, has_address};
 
 use crate::line::Line;
 use line_rules::{Admission, Answer, Happenings, StepFault};
@@ -104,7 +104,7 @@ impl Line {
     pub(crate) fn join(&mut self, node: u32, agent: u32) -> Result<Happenings<'static>, StepFault>
         requires bounds { IsBounded (world_of self.old) }
         requires events { self.old.events < MAX_EVENTS }
-        ensures { Steps true (world_of self.old) result (world_of self.new)
+        ensures { Steps (has_address (world_of self.old) agent) (world_of self.old) result (world_of self.new)
             (rules.join network (world_of self.old) node agent) }
     {
         let number = self.meter_number(node)?;

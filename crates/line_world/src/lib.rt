@@ -7,11 +7,10 @@ mod arriving;
 mod happening;
 mod joining;
 mod line;
+mod nodes;
 mod ordering;
 mod sending;
 mod setup;
-#[cfg(test)]
-mod tests;
 mod time;
 mod world;
 

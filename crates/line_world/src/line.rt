@@ -1,7 +1,7 @@
 //! A line as the program holds it: its world, the memory that is reserved for what flies, and where a node puts what it
 //! gives out.
+use crate::nodes::Nodes;
 use line_flights::{Flights, MadeTags};
-use line_nodes::Nodes;
 use plc_base::Out;
 use std::alloc::Global;
 

@@ -1,5 +1,5 @@
 //! What the operator orders at the coordinator.
-ghost use Rattle.std.specs.Prelude.{◌≡◌, ◌<◌, ◌≤◌, true, false};
+ghost use Rattle.std.specs.Prelude.{◌≡◌, ◌==◌, ◌<◌, ◌≤◌, true, false, not};
 ghost use Rattle.node_rules.specs.Calls as calls;
 ghost use Rattle.node_rules.specs.Ciphers.{network};
 ghost use Rattle.line_rules.specs.declared.event.TheConstants.{MAX_EVENTS};
@@ -64,7 +64,7 @@ impl Line {
         requires bounds { IsBounded (world_of self.old) }
         requires events { self.old.events < MAX_EVENTS }
         requires index { index ≤ 1 }
-        ensures { Steps true (world_of self.old) result (world_of self.new)
+        ensures { Steps (not (node == 0)) (world_of self.old) result (world_of self.new)
             (rules.activate network (world_of self.old) node index) }
     {
         let number = self.node(node)?;

@@ -7,7 +7,7 @@ ghost use Rattle.line_rules.specs.Answers as words;
 ghost use Rattle.line_rules.specs.Steps as rules;
 ghost use Rattle.line_world.specs.Bounds.{IsBounded};
 ghost use Rattle.line_world.specs.Lines.{world_of};
-ghost use Rattle.line_world.specs.Steps.{Steps};
+ghost use Rattle.line_world.specs.Steps.{Steps, has_address};
 
 use crate::line::Line;
 use line_rules::{Answer, Happenings, StepFault};
@@ -40,7 +40,7 @@ impl Line {
     ) -> Result<Happenings<'static>, StepFault>
         requires bounds { IsBounded (world_of self.old) }
         requires events { self.old.events < MAX_EVENTS }
-        ensures { Steps true (world_of self.old) result (world_of self.new)
+        ensures { Steps (has_address (world_of self.old) to) (world_of self.old) result (world_of self.new)
             (rules.send network (world_of self.old) from to datagram.now) }
     {
         let from = self.node(from)?;

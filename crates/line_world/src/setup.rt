@@ -14,7 +14,10 @@ use line_rules::{Answer, Happenings, StepFault};
 use plc_base::{Eui, Key, LinkCost, Short};
 
 impl Line {
+    // A node that is made stands on the stack for a while: these two stay functions of their own, so that other events need no room for it.
+
     /// Makes the coordinator.
+    #[inline(never)]
     pub(crate) fn coordinator(
         &mut self,
         eui: Eui,
@@ -36,6 +39,7 @@ impl Line {
     }
 
     /// Makes the next meter.
+    #[inline(never)]
     pub(crate) fn meter(&mut self, eui: Eui, psk: Key) -> Result<Happenings<'static>, StepFault>
         requires bounds { IsBounded (world_of self.old) }
         requires events { self.old.events < MAX_EVENTS }

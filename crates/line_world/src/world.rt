@@ -4,11 +4,11 @@ ghost use Rattle.line_rules.specs.declared.event.TheConstants.{MAX_EVENTS};
 ghost use Rattle.line_rules.specs.Events.{IsEvent};
 
 use crate::line::Line;
+use crate::nodes::Nodes;
 use line_flights::{Flights, MadeTags};
-use line_nodes::Nodes;
 use line_rules::{Event, Happenings, StepFault};
 use node_rules::{Shown, ShownPeers, ShownRoutes};
-use plc_base::{DatagramBuf, Out};
+use plc_base::{DatagramBuf, FrameBuf, Out};
 use std::alloc::Global;
 use std::marker::Model;
 
@@ -32,7 +32,9 @@ pub struct Counts {
 /// Where an event puts what it hands out: a datagram, or what is shown of a node.
 #[derive(Drop)]
 pub struct Space {
-    /// The datagram that was handed up last.
+    /// What is inside the last frame that was opened.
+    pub payload: FrameBuf,
+    /// The last datagram that came in pieces, whole.
     pub datagram: DatagramBuf,
     /// What was shown last.
     pub shown: Shown,
@@ -42,11 +44,12 @@ impl Space {
     ghost use Rattle.std.specs.Prelude.{[]};
     ghost use Rattle.node_rules.specs.Showing.{nothing_shown};
 
-    /// An empty datagram, and what a halted node shows.
+    /// No octets, and what a halted node shows.
     pub fn new() -> Space
-        ensures { result ≡ record { datagram = []; shown = nothing_shown } }
+        ensures { result ≡ record { payload = []; datagram = []; shown = nothing_shown } }
     {
         Space {
+            payload: FrameBuf::new(),
             datagram: DatagramBuf::new(),
             shown: Shown {
                 halted: true,
@@ -150,8 +153,8 @@ impl World {
 
     /// Takes an event, and answers what happened: the step of the rules. Fewer than 50,000 events were taken before.
     ///
-    /// `Setup`, `Node` and `Flight` come exactly where the rules say that the event is not taken for that reason, `Memory` where there
-    /// was none for it, which only an event that makes a node or may send frames can meet. After each of them the world is as it was.
+    /// `Setup`, `Node` and `Flight` come exactly where the rules say that the event is not taken for that reason. `Memory` comes only
+    /// where the rules take it and it makes a node or may send frames. After each of them the world is as it was.
     ///
     /// A datagram that is handed up, and what is shown of a node, stands in `space`.
     pub fn step<'a>(
@@ -162,7 +165,7 @@ impl World {
         requires events { self.old.events < MAX_EVENTS }
         requires event { IsEvent event.now }
         ensures step { Gives self.old result self.new (step network self.old event.now) }
-        ensures memory { HasMemory (takes_memory event.now) result }
+        ensures memory { HasMemory (takes_memory self.old event.now) result }
     {
         match event {
             Event::Coordinator { eui, key } => self.line.coordinator(*eui, key),

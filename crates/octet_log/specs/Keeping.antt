@@ -1,5 +1,5 @@
 -- How a log is kept, for the clauses of private functions. No public clause names what stands here.
-use Rattle.std.specs.Prelude.{◌≡◌, ◌<◌, ◌≤◌, ◌⊎◌, ◌+◌, ◌*◌, ◌%◌, ℕ, List, [], ◌∷◌, length, map, take, slice_index, slice_range}
+use Rattle.std.specs.Prelude.{◌≡◌, ◌<◌, ◌≤◌, ◌⊎◌, ◌+◌, ◌*◌, ◌%◌, ◌-◌, ℕ, List, [], ◌∷◌, drop, length, map, take, slice_index, slice_range}
 use Rattle.std.specs.List.{fold}
 use Rattle.octet_log.specs.Logs.{IsLast}
 use Rattle.octet_log.specs.declared.chains.Link.{Link}
@@ -28,9 +28,17 @@ pub record ArePlaced (octets ends : List ℕ) (places room most_ends most_octets
 abbrev pub next_chain : ℕ → ℕ → ℕ
 next_chain chain octet = (31 * chain + octet) % 16384
 
+-- the chain to which octets lead
+abbrev pub chain_by : List ℕ → ℕ
+chain_by octets = fold next_chain 0 octets
+
+-- the last octets of a string, at most 16
+abbrev pub ending : List ℕ → List ℕ
+ending octets = drop (length octets - 16) octets
+
 -- the chain of an octet string
 unfoldable pub chain_of : List ℕ → ℕ
-chain_of octets = fold next_chain 0 octets
+chain_of octets = chain_by (ending octets)
 
 abbrev pub chains_of : List Link → List ℕ
 chains_of links = map (λ (l : Link). l.chain) links

@@ -14,15 +14,14 @@
 //! log.before(1)    // 0
 //! ```
 //!
-//! A string is found among those of its chain alone, one of 16,384 by all its octets.
+//! A string is found among those of its chain alone, one of 16,384 by its last 16 octets. So strings are found quickly where few of
+//! them end alike, as frames that end with a tag.
 #![tactic(auto)]
 
 mod chains;
 mod laws;
 mod log;
 mod strings;
-#[cfg(test)]
-mod tests;
 
 pub use laws::one_is_last;
 pub use log::OctetLog;

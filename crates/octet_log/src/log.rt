@@ -1,13 +1,16 @@
 //! The log of octet strings, and the last of those that are the same.
 ghost use Rattle.std.specs.Prelude.{All, ◌≡◌, ◌<◌, ◌≤◌, ◌-◌, ◌++◌, ◌∷◌, [], max, Some, IsTrue, ◌↔◌, IsOk, OnOk, OnErr, length, map, take, slice_get};
 ghost use Rattle.std.specs.Option.{ForSome, option_copied};
-ghost use Rattle.octet_log.specs.Keeping.{chain_of};
+ghost use Rattle.octet_log.specs.Keeping.{chain_by, chain_of, ending};
 ghost use Rattle.octet_log.specs.Logs.{IsLast};
 
 use crate::chains::{CHAINS, Chains};
 use crate::strings::Strings;
 use std::alloc::{AllocError, Global};
 use std::marker::Model;
+
+/// So many octets at the end of a string choose its chain. A sealed frame ends with its tag, which tells frames apart.
+const ENDING: usize = 16;
 
 /// Octet strings in the order in which they came.
 ///
@@ -30,10 +33,16 @@ impl Model for OctetLog {
     ghost invariant = { λ l. IsChained l.strings.strings l.strings.places l.chains };
 }
 
-// The chain of an octet string: strings that are the same are in one chain.
-#[tactic(auto, unfolding(crate::specs::Keeping::chain_of))]
-fn chain_of(octets: &[u8]) -> usize
-    ensures value { result ≡ chain_of octets.now }
+// The last octets of a string, which choose its chain.
+fn ending(octets: &[u8]) -> &[u8]
+    ensures { result.now ≡ ending octets.now }
+{
+    &octets[octets.len().saturating_sub(ENDING)..]
+}
+
+// The chain to which octets lead.
+fn chain_by(octets: &[u8]) -> usize
+    ensures value { result ≡ chain_by octets.now }
     ensures range { result < CHAINS }
 {
     let mut chain: u32 = 0;
@@ -41,6 +50,15 @@ fn chain_of(octets: &[u8]) -> usize
         chain = (31 * chain + u32::from(*octet)) % 16_384;
     }
     chain as usize
+}
+
+// The chain of an octet string: strings that are the same are in one chain.
+#[tactic(auto, unfolding(crate::specs::Keeping::chain_of))]
+fn chain_of(octets: &[u8]) -> usize
+    ensures value { result ≡ chain_of octets.now }
+    ensures range { result < CHAINS }
+{
+    chain_by(ending(octets))
 }
 
 impl OctetLog {
@@ -127,6 +145,9 @@ impl OctetLog {
         ensures err { OnErr result (self.new ≡ self.old) }
         ensures enough { strings ≤ self.old.places → octets ≤ self.old.room → IsOk result }
     {
+        if self.strings.has_room(strings, octets) {
+            return Ok(());
+        }
         self.chains.reserve(strings)?;
         self.strings.reserve(strings, octets)?;
         Ok(())

@@ -1,5 +1,5 @@
 //! Octet strings in one vector, one after the other.
-ghost use Rattle.std.specs.Prelude.{All, ◌≡◌, ◌<◌, ◌≤◌, ◌-◌, ◌++◌, ◌∷◌, [], max, IsOk, OnOk, OnErr, length, slice_get, slice_index, slice_range};
+ghost use Rattle.std.specs.Prelude.{All, ◌≡◌, ◌<◌, ◌≤◌, ◌-◌, ◌++◌, ◌∷◌, ◌&&◌, [], nat_le, max, IsOk, OnOk, OnErr, length, slice_get, slice_index, slice_range};
 ghost use Rattle.std.specs.Option.{option_copied};
 
 use std::alloc::{AllocError, Global};
@@ -76,6 +76,13 @@ impl Strings {
         }
         let (start, end) = (start_of(&self.ends, place), self.ends[place]);
         Some(part(&self.octets, start, end))
+    }
+
+    /// Whether there is room for so many more strings of so many octets together.
+    pub fn has_room(&self, strings: usize, octets: usize) -> bool
+        ensures { result ≡ (nat_le strings self.now.places && nat_le octets self.now.room) }
+    {
+        strings <= self.places && octets <= self.room
     }
 
     /// Makes room for so many more strings of so many octets together. It fails only where memory runs out, and nothing changes then.

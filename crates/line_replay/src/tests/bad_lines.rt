@@ -1,5 +1,5 @@
 //! Bad lines: each kind of line with each reason that it can be bad for.
-use super::{push_line, replay};
+use super::{compare, push_line, replay};
 use crate::status::Status;
 use std::alloc::{AllocError, Global};
 use std::process::Abort;
@@ -262,9 +262,8 @@ fn lines_at_the_wrong_time(rt: HostRuntime) -> Result<(), Fail> {
 
 #[test]
 fn octets_that_are_no_text(rt: HostRuntime) -> Result<(), Fail> {
-    let (status, text) = replay(rt.alloc(), b"# \xff\xfe\n\xff 1\n", 3)?;
-    assert_eq!(rt; text.as_str(), "bad 2 form\n");
-    assert_eq!(rt; status, Status::BadScript);
+    let ran = replay(rt.alloc(), b"# \xff\xfe\n\xff 1\n", 3)?;
+    compare(&rt, &ran, "bad 2 form\n", Status::BadScript);
     Ok(())
 }
 
@@ -285,9 +284,8 @@ const GOOD: [(&str, &str); 4] = [
 #[test]
 fn lines_that_are_not_bad(rt: HostRuntime) -> Result<(), Fail> {
     for (script, report) in GOOD {
-        let (status, text) = replay(rt.alloc(), script.as_bytes(), 8192)?;
-        assert_eq!(rt; text.as_str(), report);
-        assert_eq!(rt; status, Status::Fine);
+        let ran = replay(rt.alloc(), script.as_bytes(), 8192)?;
+        compare(&rt, &ran, report, Status::Fine);
     }
     Ok(())
 }

@@ -1,5 +1,5 @@
 //! The commands beside replay, and words that are none.
-use super::run;
+use super::{compare, run};
 use crate::status::Status;
 use std::test::Fail;
 
@@ -40,59 +40,60 @@ const FRAMES: [(&str, &str); 6] = [
 #[test]
 fn frames_are_shown(rt: HostRuntime) -> Result<(), Fail> {
     for (lines, shown) in FRAMES {
-        let (status, text) = run(rt.alloc(), &["show"], lines.as_bytes(), 11, &[], &[])?;
-        assert_eq!(rt; text.as_str(), shown);
-        assert_eq!(rt; status, Status::Fine);
+        let ran = run(rt.alloc(), &["show"], lines.as_bytes(), 11, &[], &[])?;
+        compare(&rt, &ran, shown, Status::Fine);
     }
+    Ok(())
+}
+
+#[test]
+fn lines_that_are_no_octets(rt: HostRuntime) -> Result<(), Fail> {
     for (lines, shown) in [
         ("6\n", "bad 1 form\n"),
         ("# x\n69 \n", "bad 2 form\n"),
         ("69\n6g\n", "1 fault Short 1\nbad 2 form\n"),
         ("replay\n", "bad 1 form\n"),
     ] {
-        let (status, text) = run(rt.alloc(), &["show"], lines.as_bytes(), 11, &[], &[])?;
-        assert_eq!(rt; text.as_str(), shown);
-        assert_eq!(rt; status, Status::BadScript);
+        let ran = run(rt.alloc(), &["show"], lines.as_bytes(), 11, &[], &[])?;
+        compare(&rt, &ran, shown, Status::BadScript);
     }
-    // Frames of 400 and 401 octets, and a line of 4,097.
+    Ok(())
+}
+
+// Frames of 400 and 401 octets, and a line of 4,097.
+#[test]
+fn frames_of_the_greatest_lengths(rt: HostRuntime) -> Result<(), Fail> {
     let digits = [b'6'; 4097];
-    let (status, text) = run(rt.alloc(), &["show"], &digits[..800], 8192, &[], &[])?;
-    assert_eq!(rt;
-        (status, text.as_str()),
-        (Status::Fine, "1 fault Kind 0\nend 1\n")
-    );
-    let (status, text) = run(rt.alloc(), &["show"], &digits[..802], 8192, &[], &[])?;
-    assert_eq!(rt;
-        (status, text.as_str()),
-        (Status::Fine, "1 fault Long 400\nend 1\n")
-    );
-    let (status, text) = run(rt.alloc(), &["show"], &digits, 8192, &[], &[])?;
-    assert_eq!(rt;
-        (status, text.as_str()),
-        (Status::BadScript, "bad 1 long\n")
-    );
-    let (status, text) = run(rt.alloc(), &["show"], b"69\n69\n", 3, &[2], &[])?;
-    assert_eq!(rt;
-        (status, text.as_str()),
-        (Status::ReadFault, "1 fault Short 1\n")
-    );
-    let (status, text) = run(rt.alloc(), &["show"], b"69\n69\n", 3, &[], &[2])?;
-    assert_eq!(rt;
-        (status, text.as_str()),
-        (Status::WriteFault, "1 fault Short 1\n")
-    );
+    let ran = run(rt.alloc(), &["show"], &digits[..800], 8192, &[], &[])?;
+    compare(&rt, &ran, "1 fault Kind 0\nend 1\n", Status::Fine);
+    let ran = run(rt.alloc(), &["show"], &digits[..802], 8192, &[], &[])?;
+    compare(&rt, &ran, "1 fault Long 400\nend 1\n", Status::Fine);
+    let ran = run(rt.alloc(), &["show"], &digits, 8192, &[], &[])?;
+    compare(&rt, &ran, "bad 1 long\n", Status::BadScript);
+    Ok(())
+}
+
+#[test]
+fn frames_are_shown_up_to_a_fault(rt: HostRuntime) -> Result<(), Fail> {
+    let ran = run(rt.alloc(), &["show"], b"69\n69\n", 3, &[2], &[])?;
+    compare(&rt, &ran, "1 fault Short 1\n", Status::ReadFault);
+    let ran = run(rt.alloc(), &["show"], b"69\n69\n", 3, &[], &[2])?;
+    compare(&rt, &ran, "1 fault Short 1\n", Status::WriteFault);
     Ok(())
 }
 
 // The values are those of FIPS 197, RFC 4493, the EAX paper and RFC 3610.
+const VECTORS: &str = "aes128 69c4e0d86a7b0430d8cdb78070b4c55a
+cmac0 bb1d6929e95937287fa37d129b756746
+cmac16 070a16b46b4d4144f79bdd9dd04a287c
+eax0 e037830e8389f27b025a2d6527e79d01
+ccm1 588c979a61c663d2f066d0c2c0f989806d5f6b61dac38417e8d12cfdf926e0
+";
+
 #[test]
 fn vectors_of_the_standards(rt: HostRuntime) -> Result<(), Fail> {
-    let (status, text) = run(rt.alloc(), &["vectors"], b"", 1, &[1], &[])?;
-    assert_eq!(rt;
-        text.as_str(),
-        "aes128 69c4e0d86a7b0430d8cdb78070b4c55a\ncmac0 bb1d6929e95937287fa37d129b756746\ncmac16 070a16b46b4d4144f79bdd9dd04a287c\neax0 e037830e8389f27b025a2d6527e79d01\nccm1 588c979a61c663d2f066d0c2c0f989806d5f6b61dac38417e8d12cfdf926e0\n"
-    );
-    assert_eq!(rt; status, Status::Fine);
+    let ran = run(rt.alloc(), &["vectors"], b"", 1, &[1], &[])?;
+    compare(&rt, &ran, VECTORS, Status::Fine);
     Ok(())
 }
 
@@ -103,13 +104,11 @@ fn drills(rt: HostRuntime) -> Result<(), Fail> {
         ("1", "drill 1\ndone 2\nend 39 19 4 4 0\n"),
         ("20", "drill 20\ndone 40\nend 3687 380 80 80 0\n"),
     ] {
-        let (status, text) = run(rt.alloc(), &["drill", meters], b"", 1, &[1], &[])?;
-        assert_eq!(rt; text.as_str(), report);
-        assert_eq!(rt; status, Status::Fine);
+        let ran = run(rt.alloc(), &["drill", meters], b"", 1, &[1], &[])?;
+        compare(&rt, &ran, report, Status::Fine);
     }
-    let (status, text) = run(rt.alloc(), &["drill", "1"], b"", 1, &[], &[1])?;
-    assert_eq!(rt; text.as_str(), "");
-    assert_eq!(rt; status, Status::WriteFault);
+    let ran = run(rt.alloc(), &["drill", "1"], b"", 1, &[], &[1])?;
+    compare(&rt, &ran, "", Status::WriteFault);
     Ok(())
 }
 
@@ -141,16 +140,12 @@ fn words_of_no_form(rt: HostRuntime) -> Result<(), Fail> {
         &["--help"],
         &["Replay", "-q"],
     ];
+    let usage = "usage: line_replay replay [-q] | show | vectors | drill N\n";
     for words in tried {
-        let (status, text) = run(rt.alloc(), words, b"", 1, &[], &[])?;
-        assert_eq!(rt;
-            text.as_str(),
-            "usage: line_replay replay [-q] | show | vectors | drill N\n"
-        );
-        assert_eq!(rt; status, Status::Usage);
-        let (status, text) = run(rt.alloc(), words, b"", 1, &[], &[1])?;
-        assert_eq!(rt; text.as_str(), "");
-        assert_eq!(rt; status, Status::WriteFault);
+        let ran = run(rt.alloc(), words, b"", 1, &[], &[])?;
+        compare(&rt, &ran, usage, Status::Usage);
+        let ran = run(rt.alloc(), words, b"", 1, &[], &[1])?;
+        compare(&rt, &ran, "", Status::WriteFault);
     }
     Ok(())
 }

@@ -1,5 +1,5 @@
 //! What comes from outside: scripts that are cut off, reads and writes that fail, and the limits.
-use super::{QUIET, replay, run};
+use super::{QUIET, compare, replay, run};
 use crate::status::Status;
 use std::alloc::{AllocError, Global};
 use std::process::Abort;
@@ -59,9 +59,8 @@ const JOINING_REPORT: &str = "1 ok Made\n\
 #[test]
 fn any_pieces_of_input(rt: HostRuntime) -> Result<(), Fail> {
     for step in [1usize, 2, 7, 64, 8191, 8192] {
-        let (status, text) = replay(rt.alloc(), TWO_METERS.as_bytes(), step)?;
-        assert_eq!(rt; text.as_str(), TWO_METERS_REPORT);
-        assert_eq!(rt; status, Status::Fine);
+        let ran = replay(rt.alloc(), TWO_METERS.as_bytes(), step)?;
+        compare(&rt, &ran, TWO_METERS_REPORT, Status::Fine);
     }
     Ok(())
 }
@@ -108,22 +107,42 @@ fn scripts_cut_off_at_each_octet(rt: HostRuntime) -> Result<(), Fail> {
     all_are_reported_so_far(&rt, rt.alloc(), JOINING, JOINING_REPORT)
 }
 
+// Whether a run whose reads and writes fail so reports no more than the whole one does, and ends by a fault exactly where that comes.
+fn is_stopped(
+    alloc: Global,
+    read_fails: &[u32],
+    write_fails: &[u32],
+    fault: Status,
+    comes: bool,
+) -> Result<bool, AllocError> {
+    let (status, text) = run(
+        alloc,
+        &QUIET,
+        JOINING.as_bytes(),
+        16,
+        read_fails,
+        write_fails,
+    )?;
+    Ok(JOINING_REPORT.starts_with(text.as_str()) && (status == fault) == comes)
+}
+
 // Reads and writes that fail in turn: what was reported before stays.
 #[test]
 fn faults_of_the_outside(rt: HostRuntime) -> Result<(), Fail> {
-    let (status, text) = run(rt.alloc(), &QUIET, TWO_METERS.as_bytes(), 62, &[2], &[])?;
-    assert_eq!(rt; text.as_str(), "1 ok Made\n");
-    assert_eq!(rt; status, Status::ReadFault);
-    let (status, text) = run(rt.alloc(), &QUIET, b"", 1, &[], &[1])?;
-    assert_eq!(rt; text.as_str(), "");
-    assert_eq!(rt; status, Status::WriteFault);
+    let ran = run(rt.alloc(), &QUIET, TWO_METERS.as_bytes(), 62, &[2], &[])?;
+    compare(&rt, &ran, "1 ok Made\n", Status::ReadFault);
+    let ran = run(rt.alloc(), &QUIET, b"", 1, &[], &[1])?;
+    compare(&rt, &ran, "", Status::WriteFault);
     for number in 1..=30u32 {
-        let (status, text) = run(rt.alloc(), &QUIET, JOINING.as_bytes(), 16, &[number], &[])?;
-        assert!(rt; JOINING_REPORT.starts_with(text.as_str()));
-        assert_eq!(rt; status == Status::ReadFault, number <= 20);
-        let (status, text) = run(rt.alloc(), &QUIET, JOINING.as_bytes(), 16, &[], &[number])?;
-        assert!(rt; JOINING_REPORT.starts_with(text.as_str()));
-        assert_eq!(rt; status == Status::WriteFault, number <= 13);
+        let (read, wrote) = (Status::ReadFault, Status::WriteFault);
+        assert!(rt;
+            is_stopped(rt.alloc(), &[number], &[], read, number <= 20)?,
+            "{number}"
+        );
+        assert!(rt;
+            is_stopped(rt.alloc(), &[], &[number], wrote, number <= 13)?,
+            "{number}"
+        );
     }
     Ok(())
 }

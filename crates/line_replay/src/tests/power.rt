@@ -5,64 +5,83 @@ use std::alloc::{AllocError, Global};
 use std::test::Fail;
 
 // A coordinator and two meters that are not joined.
-const BOTH: [(&str, &str); 3] = [
-    (
-        "coordinator 0000000000000001 000102030405060708090a0b0c0d0e0f",
-        "1 ok Made",
-    ),
-    (
-        "meter 0000000000000002 101112131415161718191a1b1c1d1e1f",
-        "2 ok Made",
-    ),
-    (
-        "meter 0000000000000003 202122232425262728292a2b2c2d2e2f",
-        "3 ok Made",
-    ),
-];
+const BOTH: &str = "
+> coordinator 0000000000000001 000102030405060708090a0b0c0d0e0f
+1 ok Made
+> meter 0000000000000002 101112131415161718191a1b1c1d1e1f
+2 ok Made
+> meter 0000000000000003 202122232425262728292a2b2c2d2e2f
+3 ok Made
+";
 
-const ADDRESS_NEW: [(&str, &str); 5] = [
-    ("cut 0 1 new", "4 ok Set"),
-    ("allow 1", "5 no Store"),
-    ("restart 0", "6 ok Restarted"),
-    ("allow 2", "7 ok Allowed\ngrant 2 0002"),
-    ("allow 1", "8 ok Allowed\ngrant 1 0001"),
-];
+const ADDRESS_NEW: &str = "
+> cut 0 1 new
+4 ok Set
+> allow 1
+5 no Store
+> restart 0
+6 ok Restarted
+> allow 2
+7 ok Allowed
+grant 2 0002
+> allow 1
+8 ok Allowed
+grant 1 0001
+";
 
-const ADDRESS_OLD: [(&str, &str); 5] = [
-    ("cut 0 1 old", "4 ok Set"),
-    ("allow 1", "5 no Store"),
-    ("restart 0", "6 ok Restarted"),
-    ("allow 2", "7 ok Allowed\ngrant 2 0001"),
-    ("allow 1", "8 ok Allowed\ngrant 1 0002"),
-];
+const ADDRESS_OLD: &str = "
+> cut 0 1 old
+4 ok Set
+> allow 1
+5 no Store
+> restart 0
+6 ok Restarted
+> allow 2
+7 ok Allowed
+grant 2 0001
+> allow 1
+8 ok Allowed
+grant 1 0002
+";
 
 // An address that was stored belongs to its meter, though the coordinator never said so.
 #[test]
 fn a_cut_at_an_address(rt: HostRuntime) -> Result<(), Fail> {
-    let new = [BOTH.as_slice(), ADDRESS_NEW.as_slice()];
+    let new = [BOTH, ADDRESS_NEW];
     follows(&rt, rt.alloc(), &QUIET, &new, "end 8 0 0 0 0", Status::Fine)?;
-    let old = [BOTH.as_slice(), ADDRESS_OLD.as_slice()];
+    let old = [BOTH, ADDRESS_OLD];
     follows(&rt, rt.alloc(), &QUIET, &old, "end 8 0 0 0 0", Status::Fine)
 }
 
-const COUNTER_OLD: [(&str, &str); 9] = [
-    ("cut 1 1 old", "7 ok Set"),
-    ("send 1 2 aa", "8 no Store"),
-    ("send 1 2 aa", "9 no Halted"),
-    ("restart 1", "10 ok Restarted"),
-    ("send 1 2 bb", "11 ok Waiting"),
-    ("deliver 1 2 3", "12 ok Answered"),
-    ("deliver 2 1 3", "13 ok Learned"),
-    ("deliver 3 2 3", "14 ok Up\nup 2 1 bb"),
-    (
-        "show 1",
-        "15 ok Shown\nnode 1 0001 0 2 2\nkey 0 000102030405060708090a0b0c0d0e0f\nroute 0002 2 3 0002\npeer 0002 0",
-    ),
-];
+const COUNTER_OLD: &str = "
+> cut 1 1 old
+7 ok Set
+> send 1 2 aa
+8 no Store
+> send 1 2 aa
+9 no Halted
+> restart 1
+10 ok Restarted
+> send 1 2 bb
+11 ok Waiting
+> deliver 1 2 3
+12 ok Answered
+> deliver 2 1 3
+13 ok Learned
+> deliver 3 2 3
+14 ok Up
+up 2 1 bb
+> show 1
+15 ok Shown
+node 1 0001 0 2 2
+key 0 000102030405060708090a0b0c0d0e0f
+route 0002 2 3 0002
+peer 0002 0
+";
 
 #[test]
 fn a_cut_that_leaves_the_old_counter(rt: HostRuntime) -> Result<(), Fail> {
-    let script = [TWO_METERS.as_slice(), COUNTER_OLD.as_slice()];
+    let script = [TWO_METERS, COUNTER_OLD];
     follows(
         &rt,
         rt.alloc(),
@@ -73,24 +92,35 @@ fn a_cut_that_leaves_the_old_counter(rt: HostRuntime) -> Result<(), Fail> {
     )
 }
 
-const COUNTER_NEW: [(&str, &str); 9] = [
-    ("cut 1 1 new", "7 ok Set"),
-    ("send 1 2 aa", "8 no Store"),
-    ("send 1 2 aa", "9 no Halted"),
-    ("restart 1", "10 ok Restarted"),
-    ("send 1 2 bb", "11 ok Waiting"),
-    ("deliver 1 2 3", "12 ok Answered"),
-    ("deliver 2 1 3", "13 ok Learned"),
-    ("deliver 3 2 3", "14 ok Up\nup 2 1 bb"),
-    (
-        "show 1",
-        "15 ok Shown\nnode 1 0001 0 1026 2\nkey 0 000102030405060708090a0b0c0d0e0f\nroute 0002 2 3 0002\npeer 0002 0",
-    ),
-];
+const COUNTER_NEW: &str = "
+> cut 1 1 new
+7 ok Set
+> send 1 2 aa
+8 no Store
+> send 1 2 aa
+9 no Halted
+> restart 1
+10 ok Restarted
+> send 1 2 bb
+11 ok Waiting
+> deliver 1 2 3
+12 ok Answered
+> deliver 2 1 3
+13 ok Learned
+> deliver 3 2 3
+14 ok Up
+up 2 1 bb
+> show 1
+15 ok Shown
+node 1 0001 0 1026 2
+key 0 000102030405060708090a0b0c0d0e0f
+route 0002 2 3 0002
+peer 0002 0
+";
 
 #[test]
 fn a_cut_that_leaves_the_new_counter(rt: HostRuntime) -> Result<(), Fail> {
-    let script = [TWO_METERS.as_slice(), COUNTER_NEW.as_slice()];
+    let script = [TWO_METERS, COUNTER_NEW];
     follows(
         &rt,
         rt.alloc(),
@@ -101,36 +131,57 @@ fn a_cut_that_leaves_the_new_counter(rt: HostRuntime) -> Result<(), Fail> {
     )
 }
 
-const HALTED: [(&str, &str); 18] = [
-    ("cut 1 1 old", "7 ok Set"),
-    ("leave 1", "8 no Store"),
-    // a halted node does nothing
-    ("show 1", "9 ok Shown\nnode 1 halted"),
-    ("leave 1", "10 no Halted"),
-    ("join 1 0", "11 no Halted"),
-    ("rand 1 f0f1f2f3f4f5f6f7f8f9fafbfcfdfeff", "12 no Halted"),
-    ("inject 1 1 00", "13 no Halted"),
-    ("break 1 2", "14 no Halted"),
-    ("send 1 2 aa", "15 no Halted"),
-    // and has no address
-    ("send 2 1 aa", "16 no NoAddress"),
-    ("restart 1", "17 ok Restarted"),
-    (
-        "show 1",
-        "18 ok Shown\nnode 1 0001 0 0 1\nkey 0 000102030405060708090a0b0c0d0e0f\nroute 0002 1 3 -",
-    ),
-    // a cut that has not come stays over a restart
-    ("cut 1 1 new", "19 ok Set"),
-    ("restart 1", "20 ok Restarted"),
-    ("leave 1", "21 no Store"),
-    ("restart 1", "22 ok Restarted"),
-    ("show 1", "23 ok Shown\nnode 1 - - 0 1\nroute 0002 1 3 -"),
-    ("leave 1", "24 no NotJoined"),
-];
+const HALTED: &str = "
+> cut 1 1 old
+7 ok Set
+> leave 1
+8 no Store
+// a halted node does nothing
+> show 1
+9 ok Shown
+node 1 halted
+> leave 1
+10 no Halted
+> join 1 0
+11 no Halted
+> rand 1 f0f1f2f3f4f5f6f7f8f9fafbfcfdfeff
+12 no Halted
+> inject 1 1 00
+13 no Halted
+> break 1 2
+14 no Halted
+> send 1 2 aa
+15 no Halted
+// and has no address
+> send 2 1 aa
+16 no NoAddress
+> restart 1
+17 ok Restarted
+> show 1
+18 ok Shown
+node 1 0001 0 0 1
+key 0 000102030405060708090a0b0c0d0e0f
+route 0002 1 3 -
+// a cut that has not come stays over a restart
+> cut 1 1 new
+19 ok Set
+> restart 1
+20 ok Restarted
+> leave 1
+21 no Store
+> restart 1
+22 ok Restarted
+> show 1
+23 ok Shown
+node 1 - - 0 1
+route 0002 1 3 -
+> leave 1
+24 no NotJoined
+";
 
 #[test]
 fn a_halted_node(rt: HostRuntime) -> Result<(), Fail> {
-    let script = [TWO_METERS.as_slice(), HALTED.as_slice()];
+    let script = [TWO_METERS, HALTED];
     follows(
         &rt,
         rt.alloc(),
@@ -142,36 +193,33 @@ fn a_halted_node(rt: HostRuntime) -> Result<(), Fail> {
 }
 
 // A grant that the coordinator never made, by one who knows the key of the meter. It reached the store, so the report names it.
-const FORGED_GRANT: [(&str, &str); 9] = [
-    (
-        "coordinator 0000000000000001 000102030405060708090a0b0c0d0e0f",
-        "1 ok Made",
-    ),
-    (
-        "meter 0000000000000002 101112131415161718191a1b1c1d1e1f",
-        "2 ok Made",
-    ),
-    ("cut 1 1 new", "3 ok Set"),
-    ("rand 1 f0f1f2f3f4f5f6f7f8f9fafbfcfdfeff", "4 ok Given"),
-    ("join 1 0", "5 ok Asked"),
-    (
-        "inject 1 1 619c001d780200000000000000000040020300000000000000020101001e2f00000102030405060708090a0b0c0d0e0f0000000000000001",
-        "6 ok Replied",
-    ),
-    (
-        "inject 1 1 619c001d78020000000000000000004002030000000000000002010200562f80000102030405060708090a0b0c0d0e0f5cc4e4a37a4aecff0d5765ae8d932c7700000000aea40cbb2218778ec7cad53e358bca29d11ee8337391de6f4e33a06a78f2f44f2832bbee751eb1c174b38331",
-        "7 no Store\nforged 7",
-    ),
-    ("restart 1", "8 ok Restarted"),
-    (
-        "show 1",
-        "9 ok Shown\nnode 1 0001 0 0 1\nkey 0 202122232425262728292a2b2c2d2e2f",
-    ),
-];
+const FORGED_GRANT: &str = "
+> coordinator 0000000000000001 000102030405060708090a0b0c0d0e0f
+1 ok Made
+> meter 0000000000000002 101112131415161718191a1b1c1d1e1f
+2 ok Made
+> cut 1 1 new
+3 ok Set
+> rand 1 f0f1f2f3f4f5f6f7f8f9fafbfcfdfeff
+4 ok Given
+> join 1 0
+5 ok Asked
+> inject 1 1 619c001d780200000000000000000040020300000000000000020101001e2f00000102030405060708090a0b0c0d0e0f0000000000000001
+6 ok Replied
+> inject 1 1 619c001d78020000000000000000004002030000000000000002010200562f80000102030405060708090a0b0c0d0e0f5cc4e4a37a4aecff0d5765ae8d932c7700000000aea40cbb2218778ec7cad53e358bca29d11ee8337391de6f4e33a06a78f2f44f2832bbee751eb1c174b38331
+7 no Store
+forged 7
+> restart 1
+8 ok Restarted
+> show 1
+9 ok Shown
+node 1 0001 0 0 1
+key 0 202122232425262728292a2b2c2d2e2f
+";
 
 #[test]
 fn a_forged_grant_at_a_cut(rt: HostRuntime) -> Result<(), Fail> {
-    let script = [FORGED_GRANT.as_slice()];
+    let script = [FORGED_GRANT];
     follows(
         &rt,
         rt.alloc(),

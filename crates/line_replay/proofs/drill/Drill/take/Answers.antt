@@ -1,4 +1,4 @@
-use Rattle.std.proofs.Common.{◌≡◌, ◌∙◌, sym, ap, arith}
+use Rattle.std.proofs.Common.{◌∙◌, sym, ap, arith}
 use Rattle.line_replay.specs.Drills.{Drilling, world_by}
 use Rattle.line_replay.proofs.Drilling.{not_after, is_after}
 use Rattle.line_replay.proofs.drill.Drill.take.Goals as goal

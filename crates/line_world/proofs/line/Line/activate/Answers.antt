@@ -2,7 +2,7 @@
 use Rattle.std.proofs.Common.{◌≡◌, ℕ, ◌<◌, ◌≤◌, Bool, true, length, Ok, Err, sym, ap, subst, ◌∙◌, if◌then◌else◌, arith}
 use Rattle.line_rules.specs.declared.event.StepFault.{StepFault}
 use Rattle.std.proofs.lemmas.Result.{err_from_is_err_and}
-use Rattle.std.specs.Prelude.{◌==◌}
+use Rattle.std.specs.Prelude.{◌==◌, is_ok, not}
 use Rattle.node_rules.specs.declared.refusal.CoordinatorRefusal.TheVariants as orders
 use Rattle.node_rules.specs.Ciphers.{network}
 use Rattle.node_rules.specs.Coordinators as coordinators
@@ -13,7 +13,7 @@ use Rattle.line_rules.specs.Answers.{ordered_word}
 use Rattle.line_rules.specs.Steps.{activate, by_coordinator, happened}
 use Rattle.line_rules.specs.Worlds.{World}
 use Rattle.line_world.specs.Lines.{world_of}
-use Rattle.line_world.proofs.Taking.{IsThere, steps_as, begun, is_there, node_acted, node_answered, not_found, has_coordinator}
+use Rattle.line_world.proofs.Taking.{IsThere, steps_as, begun, is_there, node_acted, node_answered, not_found, has_coordinator, unreserved, taking}
 use Rattle.line_world.proofs.Orders.{Runs, about_node, first_there, is_some_meter, of_found, reserved, still_runs, told_with}
 use Rattle.line_world.proofs.line.Line.activate.Goals as goal
 
@@ -21,7 +21,7 @@ pub returns-in_err-number : goal.returns-in_err-number
 unfolding activate
 returns-in_err-number c =
     let p = err_from_is_err_and c.from_residual.result c.from_residual.ensures.1 in
-    rw p.1 (not_found true (world_of c.args.self.now) c.args.node _ p.0 c.requires.bounds (ap (λ (f : StepFault). Err f) p.2 ∙ c.in_err-number.ensures))
+    rw p.1 (not_found (not (c.args.node == 0)) (world_of c.args.self.now) c.args.node _ p.0 c.requires.bounds (ap (λ (f : StepFault). Err f) p.2 ∙ c.in_err-number.ensures))
 
 -- at the coordinator itself
 activates_self : {w : World} {number found : ℕ} (r : Runs w) (there : IsThere w number found) (index : ℕ) → found ≡ 0
@@ -48,8 +48,18 @@ returns-then-number-eq0 c =
     let r : Runs w = record { begun = (has_coordinator (world_of c.args.self.now) c.args.node c.in_ok-number.number c.in_ok-number.ensures); bounds = c.requires.bounds; room = c.requires.events } in
     let there = is_there w c.args.node c.in_ok-number.number c.in_ok-number.ensures in
     steps_as _ _ (activates_self r there c.args.index c.if-number-eq0.true)
-    (node_answered true w _ (first_there w r.begun) (λ x. acts x (Err orders.Halted) (λ k. coordinators.activate_self k c.args.index)) (ordered_word said.Activated) _ _ _
+    (node_answered (not (c.args.node == 0)) w _ (first_there w r.begun) (λ x. acts x (Err orders.Halted) (λ k. coordinators.activate_self k c.args.index)) (ordered_word said.Activated) _ _ _
     r.bounds r.room c.activate_self-done.ensures (c.answered.ensures.told ∙ ap (λ a. happened w a) c.ordered_word.ensures) (ap world_of c.answered.ensures.line))
+
+pub returns-in_err-reserve : goal.returns-in_err-reserve
+returns-in_err-reserve c =
+    let w = world_of c.args.self.now in
+    let p = err_from_is_err_and c.from_residual-in_err-reserve.result c.from_residual-in_err-reserve.ensures.1 in
+    let r : Runs w = record { begun = has_coordinator w c.args.node c.in_ok-number.number c.in_ok-number.ensures; bounds = c.requires.bounds; room = c.requires.events } in
+    let there = is_there w c.args.node c.in_ok-number.number c.in_ok-number.ensures in
+    let some : 1 ≤ c.in_ok-number.number = omega (arith, c.if-number-eq0.false) in
+    rw p.1 (taking (ap (λ (b : Bool). not b) (is_some_meter there some)) (unreserved w (world_of c.reserve.new.self) _ p.0 c.requires.bounds c.reserve.ensures.world (ap is_ok (activates_meter r there c.args.index some))
+    (ap (λ (f : StepFault). Err f) p.2 ∙ c.in_err-reserve.ensures.err)))
 
 pub eui-eui-requires-clause-there : goal.eui-eui-requires-clause-there
 eui-eui-requires-clause-there c =
@@ -67,8 +77,8 @@ returns c =
     let some : 1 ≤ c.in_ok-number.number = omega (arith, c.if-number-eq0.false) in
     let eui = of_found there (λ (x : Node). c.eui-eui.result ≡ x.eui) c.eui-eui.ensures in
     let first = first_there kept r.begun in
-    reserved kept w (λ it. activate network it c.args.node c.args.index) same
+    taking (ap (λ (b : Bool). not b) (is_some_meter there some)) (reserved kept w (λ it. activate network it c.args.node c.args.index) same
     (steps_as _ _ (activates_meter r there c.args.index some
     ∙ ap (λ e. Ok (by_coordinator network kept first.node said.Ordered (λ k. coordinators.activate k e c.args.index kept.clock))) (sym eui))
     (node_acted true kept _ first (λ x. acts x (Err orders.Halted) (λ k. coordinators.activate k c.eui-eui.result c.args.index kept.clock)) (ordered_word said.Ordered) _ _ _ _
-    r.bounds r.room c.acted.ensures.frames c.acted.ensures.tags c.activate-done.ensures (told_with kept _ _ _ _ c.acted.ensures.told c.ordered_word-2.ensures) c.acted.ensures.world))
+    r.bounds r.room c.acted.ensures.frames c.acted.ensures.tags c.activate-done.ensures (told_with kept _ _ _ _ c.acted.ensures.told c.ordered_word-2.ensures) c.acted.ensures.world)))

@@ -1,16 +1,24 @@
 -- The coordinator is made.
-use Rattle.std.proofs.Common.{ap, ◌∙◌, refl}
+use Rattle.node_rules.specs.Memory.{Node}
+use Rattle.std.specs.Prelude.{is_ok}
+use Rattle.std.proofs.Common.{ap, ◌∙◌, refl, List}
 use Rattle.line_rules.specs.declared.event.StepFault.TheVariants as faults
 use Rattle.line_rules.specs.declared.event.Answer.TheVariants as said
 use Rattle.line_rules.specs.Steps.{happened}
 use Rattle.line_world.specs.declared.line.Line.{Line}
 use Rattle.line_world.specs.Lines.{world_of}
-use Rattle.line_world.proofs.Taking.{refused}
-use Rattle.line_world.proofs.Settings.{had_begun, first_made, went_well}
+use Rattle.line_world.proofs.Taking.{refused, out_of_memory}
+use Rattle.line_world.proofs.Settings.{had_begun, first_made, went_well, makes_first, went_badly}
 use Rattle.line_world.proofs.line.Line.coordinator.Goals as goal
 
 pub returns-then-has_begun : goal.returns-then-has_begun
 returns-then-has_begun c = refused faults.Setup refl _ _ _ c.requires.bounds (had_begun (world_of c.args.self.now) _ _ c.if-has_begun.ensures)
+
+pub returns-then-is_err : goal.returns-then-is_err
+returns-then-is_err c =
+    let w = world_of c.args.self.now in
+    out_of_memory w _ _ c.requires.bounds (ap (λ (ns : List Node). record w { nodes = ns }) (went_badly _ c.make_coordinator.ensures.err c.if-is_err.ensures.value))
+    (ap is_ok (makes_first w c.args.eui c.args.key.now c.if-has_begun.ensures))
 
 pub returns : goal.returns
 returns c =

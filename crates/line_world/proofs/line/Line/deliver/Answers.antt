@@ -11,8 +11,8 @@ use Rattle.line_world.specs.Bounds.{IsBounded}
 use Rattle.line_world.specs.Finding.{found}
 use Rattle.line_world.specs.Lines.{world_of}
 use Rattle.line_world.specs.Steps.{Steps}
-use Rattle.line_world.proofs.Taking.{not_found, steps_as}
-use Rattle.line_world.proofs.Arrivals.{came_to, delivers, flies, flies_none, none_copied, found_still, no_flight, still_bounded, still_within}
+use Rattle.line_world.proofs.Taking.{not_found, steps_as, unreserved}
+use Rattle.line_world.proofs.Arrivals.{came_to, delivers, flies, flies_none, none_copied, found_still, no_flight, still_bounded, still_within, some_copied, deliver_taken}
 use Rattle.line_world.proofs.line.Line.deliver.Goals as goal
 
 pub returns-in_err-number : goal.returns-in_err-number
@@ -20,6 +20,16 @@ unfolding deliver
 returns-in_err-number c =
     let p = err_from_is_err_and c.from_residual.result c.from_residual.ensures.1 in
     rw p.1 (not_found true (world_of c.args.self.now) c.args.node _ p.0 c.requires.bounds (ap (λ (f : StepFault). Err f) p.2 ∙ c.in_err-number.ensures))
+
+pub returns-in_err-reserve : goal.returns-in_err-reserve
+returns-in_err-reserve c =
+    let w = world_of c.args.self.now in
+    let p = err_from_is_err_and c.from_residual-in_err-reserve.result c.from_residual-in_err-reserve.ensures.1 in
+    let octets = some_copied c.flying.result c.if-is_none.ensures in
+    let f = flies (not_lost (flight_in w.flights c.args.flight)) octets.0 (octets.1 ∙ c.flying.ensures) in
+    rw p.1 (unreserved w (world_of c.reserve.new.self) _ p.0 c.requires.bounds c.reserve.ensures.world
+    (deliver_taken w c.args.node c.in_ok-number.number c.args.flight c.args.cost octets.0 c.in_ok-number.ensures f)
+    (ap (λ (f : StepFault). Err f) p.2 ∙ c.in_err-reserve.ensures.err))
 
 pub accept-accepted-requires : goal.accept-accepted-requires
 accept-accepted-requires c =

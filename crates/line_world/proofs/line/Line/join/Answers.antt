@@ -2,20 +2,21 @@
 use Rattle.std.proofs.Common.{◌≡◌, refl, true, ℕ, ◌<◌, length, Some, None, Option, Ok, Err, sym, ap, subst, ◌∙◌}
 use Rattle.line_rules.specs.declared.event.StepFault.{StepFault}
 use Rattle.std.proofs.lemmas.Result.{err_from_is_err_and}
-use Rattle.std.specs.Prelude.{IfSome, IsSome, slice_get}
+use Rattle.std.specs.Prelude.{IfSome, IsSome, slice_get, is_ok}
 use Rattle.plc_base.specs.declared.key.Key.{Key}
 use Rattle.node_rules.specs.declared.refusal.JoinRefusal.TheVariants as joins
 use Rattle.node_rules.specs.Ciphers.{network}
 use Rattle.node_rules.specs.Memory.{Node, node_address}
 use Rattle.node_rules.specs.Meters as meters
 use Rattle.node_rules.specs.NodeSteps.{acts, answering}
-use Rattle.line_nodes.specs.Doings.{Did}
+use Rattle.line_world.specs.Doings.{Did}
 use Rattle.line_rules.specs.declared.event.Answer.TheVariants as said
 use Rattle.line_rules.specs.Answers.{join_word}
 use Rattle.line_rules.specs.Steps.{acted, identity, join, joins_by, on_node, psk_of}
 use Rattle.line_rules.specs.Worlds.{World}
 use Rattle.line_world.specs.Lines.{world_of}
-use Rattle.line_world.proofs.Taking.{IsThere, steps_as, begun, at_node, is_there, node_acted}
+use Rattle.line_world.specs.Steps.{has_address}
+use Rattle.line_world.proofs.Taking.{IsThere, steps_as, begun, at_node, is_there, node_acted, unreserved, taking, addressed}
 use Rattle.line_world.proofs.Orders.{IsMeter, Runs, as_found, at_meter, is_meter, of_found, only_said, reserved, told_with, within_line, meter_not_found, meter_begun, agent_not_found}
 use Rattle.line_world.proofs.line.Line.join.Goals as goal
 
@@ -23,13 +24,13 @@ pub returns-in_err-number : goal.returns-in_err-number
 unfolding join
 returns-in_err-number c =
     let p = err_from_is_err_and c.from_residual.result c.from_residual.ensures.1 in
-    rw p.1 (meter_not_found true (world_of c.args.self.now) c.args.node _ p.0 c.requires.bounds (ap (λ (f : StepFault). Err f) p.2 ∙ c.in_err-number.ensures))
+    rw p.1 (meter_not_found (has_address (world_of c.args.self.now) c.args.agent) (world_of c.args.self.now) c.args.node _ p.0 c.requires.bounds (ap (λ (f : StepFault). Err f) p.2 ∙ c.in_err-number.ensures))
 
 pub returns-in_err-agent : goal.returns-in_err-agent
 unfolding join
 returns-in_err-agent c =
     let p = err_from_is_err_and c.from_residual-in_err-agent.result c.from_residual-in_err-agent.ensures.1 in
-    rw p.1 (agent_not_found true (world_of c.args.self.now) c.args.node c.in_ok-number.number c.args.agent _ p.0 c.requires.bounds c.in_ok-number.ensures (ap (λ (f : StepFault). Err f) p.2 ∙ c.in_err-agent.ensures))
+    rw p.1 (agent_not_found (has_address (world_of c.args.self.now) c.args.agent) (world_of c.args.self.now) c.args.node c.in_ok-number.number c.args.agent _ p.0 c.requires.bounds c.in_ok-number.ensures (ap (λ (f : StepFault). Err f) p.2 ∙ c.in_err-agent.ensures))
 
 pub address-requires : goal.address-requires
 address-requires c = record { there = (is_there (world_of c.args.self.now) c.args.agent c.in_ok-agent.agent c.in_ok-agent.ensures).within }
@@ -50,7 +51,17 @@ returns-in_default c =
     let there = is_there w c.args.agent c.in_ok-agent.agent c.in_ok-agent.ensures in
     let none = of_found there (λ (y : Node). ◌≡◌ {A = Option ℕ} None (node_address y)) c.in_default.ensures in
     steps_as _ _ (joins_at r m there ∙ ap (λ (o : Option ℕ). Ok (joins_by network w c.args.node m.there.node o (psk_of m.there.node))) (sym none))
-    (only_said true w _ said.NoAddress _ r.bounds r.room c.answered.ensures.told (ap world_of c.answered.ensures.line))
+    (only_said (has_address w c.args.agent) w _ said.NoAddress _ r.bounds r.room c.answered.ensures.told (ap world_of c.answered.ensures.line))
+
+pub returns-in_err-reserve : goal.returns-in_err-reserve
+returns-in_err-reserve c =
+    let w = world_of c.args.self.now in
+    let p = err_from_is_err_and c.from_residual-in_err-reserve.result c.from_residual-in_err-reserve.ensures.1 in
+    let r : Runs w = record { begun = meter_begun w c.args.node c.in_ok-number.number c.in_ok-number.ensures; bounds = c.requires.bounds; room = c.requires.events } in
+    let m = is_meter w c.args.node c.in_ok-number.number c.in_ok-number.ensures in
+    let there = is_there w c.args.agent c.in_ok-agent.agent c.in_ok-agent.ensures in
+    rw p.1 (taking (addressed there c.in-Some.address c.in-Some.ensures) (unreserved w (world_of c.reserve.new.self) _ p.0 c.requires.bounds c.reserve.ensures.world (ap is_ok (joins_at r m there))
+    (ap (λ (f : StepFault). Err f) p.2 ∙ c.in_err-reserve.ensures.err)))
 
 pub join-asked-requires-clause-there : goal.join-asked-requires-clause-there
 join-asked-requires-clause-there c =
@@ -109,9 +120,9 @@ returns c =
     c.join-asked.ensures.did in
     let by_key : Did (acts x (Err joins.Halted) (λ k. meters.join (identity network x psk) k address kept.clock)) kept.nodes c.in_ok-number.number asked out nodes =
     subst (λ (o : Option Key). IfSome o (λ key. Did (acts x (Err joins.Halted) (λ k. meters.join (identity network x key) k address kept.clock)) kept.nodes c.in_ok-number.number asked out nodes)) f.key did in
-    reserved kept w (λ it. join network it c.args.node c.args.agent) same
+    taking (addressed there address c.in-Some.ensures) (reserved kept w (λ it. join network it c.args.node c.args.agent) same
     (steps_as _ _ (joins_is f)
     (node_acted true kept _ f.meter.there (λ y. acts y (Err joins.Halted) (λ k. meters.join (identity network y psk) k address kept.clock)) join_word asked out nodes _
     f.runs.bounds f.runs.room c.acted.ensures.frames c.acted.ensures.tags
     (as_found f.meter.there (λ (y : Node). Did (acts y (Err joins.Halted) (λ k. meters.join (identity network y psk) k address kept.clock)) kept.nodes c.in_ok-number.number asked out nodes) by_key)
-    (told_with kept _ _ _ _ c.acted.ensures.told c.join_word.ensures) c.acted.ensures.world))
+    (told_with kept _ _ _ _ c.acted.ensures.told c.join_word.ensures) c.acted.ensures.world)))

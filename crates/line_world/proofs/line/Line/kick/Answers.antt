@@ -1,13 +1,14 @@
 -- The coordinator shuts a meter out.
+use Rattle.line_world.proofs.Taking.{unreserved}
 use Rattle.std.proofs.Common.{Err, true, refl, ap, ◌∙◌}
 use Rattle.std.proofs.lemmas.Result.{err_from_is_err_and}
 use Rattle.node_rules.specs.Ciphers.{network}
 use Rattle.node_rules.specs.Coordinators as coordinators
 use Rattle.line_rules.specs.declared.event.Answer.TheVariants as said
 use Rattle.line_rules.specs.declared.event.StepFault.{StepFault}
-use Rattle.line_rules.specs.Steps.{kick}
+use Rattle.line_rules.specs.Steps.{kick, by_coordinator}
 use Rattle.line_world.specs.Lines.{world_of}
-use Rattle.line_world.proofs.Orders.{about, has_ordered, meter_not_found}
+use Rattle.line_world.proofs.Orders.{about, has_ordered, meter_not_found, about_taken}
 use Rattle.line_world.proofs.line.Line.kick.Goals as goal
 
 pub returns-in_err-number : goal.returns-in_err-number
@@ -15,6 +16,15 @@ unfolding kick
 returns-in_err-number c =
     let p = err_from_is_err_and c.from_residual.result c.from_residual.ensures.1 in
     rw p.1 (meter_not_found true (world_of c.args.self.now) c.args.node _ p.0 c.requires.bounds (ap (λ (f : StepFault). Err f) p.2 ∙ c.in_err-number.ensures))
+
+pub returns-in_err-reserve : goal.returns-in_err-reserve
+unfolding kick
+returns-in_err-reserve c =
+    let w = world_of c.args.self.now in
+    let p = err_from_is_err_and c.from_residual-in_err-reserve.result c.from_residual-in_err-reserve.ensures.1 in
+    rw p.1 (unreserved w (world_of c.reserve.new.self) _ p.0 c.requires.bounds c.reserve.ensures.world
+    (about_taken w c.args.node c.in_ok-number.number c.requires.bounds c.requires.events c.in_ok-number.ensures (λ x e. by_coordinator network w e said.Kicked (λ m. coordinators.kick m x.eui)))
+    (ap (λ (f : StepFault). Err f) p.2 ∙ c.in_err-reserve.ensures.err))
 
 pub eui-eui-requires-clause-there : goal.eui-eui-requires-clause-there
 eui-eui-requires-clause-there c =

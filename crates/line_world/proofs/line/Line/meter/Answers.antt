@@ -1,12 +1,14 @@
 -- A meter is made.
-use Rattle.std.proofs.Common.{◌<◌, ◌≤◌, length, ap, ◌∙◌, arith, refl}
+use Rattle.node_rules.specs.Memory.{Node}
+use Rattle.std.specs.Prelude.{is_ok}
+use Rattle.std.proofs.Common.{◌<◌, ◌≤◌, length, ap, ◌∙◌, arith, refl, List}
 use Rattle.line_rules.specs.declared.event.StepFault.TheVariants as faults
 use Rattle.line_rules.specs.declared.event.Answer.TheVariants as said
 use Rattle.line_rules.specs.Steps.{happened}
 use Rattle.line_world.specs.declared.line.Line.{Line}
 use Rattle.line_world.specs.Lines.{world_of}
-use Rattle.line_world.proofs.Taking.{refused}
-use Rattle.line_world.proofs.Settings.{meter_late, meter_full, meter_known, meter_made, went_well}
+use Rattle.line_world.proofs.Taking.{refused, out_of_memory}
+use Rattle.line_world.proofs.Settings.{meter_late, meter_full, meter_known, meter_made, went_well, makes_meter, went_badly}
 use Rattle.line_world.proofs.line.Line.meter.Goals as goal
 
 pub returns-then-not-takes_setup : goal.returns-then-not-takes_setup
@@ -23,6 +25,13 @@ returns-then-has c =
     let w = world_of c.args.self.now in
     let room : length w.nodes < 1000 = omega (arith, c.if-len-ge-MAX_NODES.false, c.len.ensures) in
     refused faults.Setup refl _ _ _ c.requires.bounds (meter_known w _ _ c.if-not-takes_setup.ensures room c.if-has.ensures)
+
+pub returns-then-is_err : goal.returns-then-is_err
+returns-then-is_err c =
+    let w = world_of c.args.self.now in
+    let room : length w.nodes < 1000 = omega (arith, c.if-len-ge-MAX_NODES.false, c.len.ensures) in
+    out_of_memory w _ _ c.requires.bounds (ap (λ (ns : List Node). record w { nodes = ns }) (went_badly _ c.make_meter.ensures.err c.if-is_err.ensures.value))
+    (ap is_ok (makes_meter w c.args.eui c.args.psk c.if-not-takes_setup.ensures room c.if-has.ensures))
 
 pub returns : goal.returns
 returns c =

@@ -1,5 +1,0 @@
-pub mod NodeCodes
-pub mod Nodes
-pub mod Soundness
-pub mod Doings
-pub mod Receiving

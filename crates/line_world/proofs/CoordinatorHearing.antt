@@ -1,0 +1,82 @@
+-- The coordinator accepts a frame and hears it.
+use Rattle.std.proofs.Common.{◌≡◌, ℕ, [], Option, Some, None, Result, Ok, Err, refl, subst}
+use Rattle.std.specs.Prelude.{IfSome, IfNone, IfOk, IsSome}
+use Rattle.std.specs.Option.{option_map}
+use Rattle.plc_base.specs.declared.out_frame.Out.{Out}
+use Rattle.node_rules.specs.declared.heard.Accepted.{Accepted}
+use Rattle.node_rules.specs.declared.heard.CoordinatorHeard.{CoordinatorHeard}
+use Rattle.node_rules.specs.declared.refusal.Dropped.{Dropped}
+use Rattle.node_rules.specs.declared.refusal.Dropped.TheVariants as drops
+use Rattle.node_rules.specs.declared.refusal.FrameRefusal.{FrameRefusal}
+use Rattle.node_rules.specs.declared.refusal.FrameRefusal.TheVariants.{Halted}
+use Rattle.node_rules.specs.Accepting.{accept}
+use Rattle.node_rules.specs.Carrying.{Carries}
+use Rattle.node_rules.specs.Ciphers.{network}
+use Rattle.node_rules.specs.Coordinators as coordinator_rules
+use Rattle.node_rules.specs.Frames.{Arrived}
+use Rattle.node_rules.specs.Memory.{StationMemory, Memory, Coordinator}
+use Rattle.node_rules.specs.NodeSteps.{acts}
+use Rattle.node_rules.specs.Plans.{Plan}
+use Rattle.node_rules.specs.States.{State}
+use Rattle.node_rules.proofs.RingPuts.{coordinators_write_no_ring}
+use Rattle.node_rules.proofs.TablePlans.{coordinators_in_place}
+use Rattle.line_rules.specs.Answers as rules
+use Rattle.line_rules.specs.Steps.{hears}
+use Rattle.plc_station.specs.Heard.{Fits}
+use Rattle.meter_node.specs.MeterStates.{MeterState, memory_with}
+use Rattle.coordinator.specs.CoordinatorAgreement.{Holds}
+use Rattle.coordinator.specs.CoordinatorStates.{CoordinatorState, memory_in, node_of, identity_of}
+use Rattle.line_world.specs.declared.nodes.reception.Reception.{Reception}
+use Rattle.line_world.specs.Doings.{Took}
+use Rattle.line_world.specs.Nodes.{of_coordinator, of_meter}
+use Rattle.line_world.specs.Receiving.{MayHear, CameTo, Tells}
+use Rattle.line_world.proofs.AcceptingSteps.{meter_may_hear}
+use Rattle.line_world.proofs.Acting.{not_none}
+use Rattle.line_world.proofs.CoordinatorActing.{IsSoundCoordinator, with_its, own_took, ringless_sound}
+
+-- a meter with the station of the coordinator
+abbrev meter_with : State StationMemory → MeterState
+meter_with s = record { station = s; psk = record { 0 = [] }; randoms = []; session = None }
+
+of_station : (x : CoordinatorState) (t : State StationMemory) (o : Option StationMemory) → IsSome (option_map (memory_with (meter_with t)) o) → IsSome (option_map (memory_in x.randoms x.sessions x.book) o)
+of_station x t None is = absurd (cc)
+of_station x t (Some l) is = (cc)
+
+any_came : (x : CoordinatorState) (got : Accepted) (o : Option StationMemory) → IfSome (option_map (memory_in x.randoms x.sessions x.book) o) (λ m. CameTo Coordinator got m)
+any_came x got None = tt
+any_came x got (Some l) = tt
+
+runs_too : (x : CoordinatorState) (t : State StationMemory) (got : Accepted) → MayHear (of_meter (meter_with t)) got → MayHear (of_coordinator (with_its t x)) got
+runs_too x t got h = record { running = of_station x t t.memory h.running; fits = h.fits; came = any_came x got t.memory }
+
+-- the coordinator that accepted a frame may hear it
+pub may_hear : (x : CoordinatorState) (s t : State StationMemory) (a : Option Arrived) (r : Result Accepted FrameRefusal) (out : Out)
+    → IfNone s.memory ((r ≡ Err Halted) × (t ≡ s)) → IfSome s.memory (λ l. Carries s (accept l s.eui a) r out t) → IfOk r (λ got. Fits got)
+    → IfOk r (λ got. MayHear (of_coordinator (with_its t x)) got)
+may_hear x s t a (Ok got) out halted carries fits = runs_too x t got (meter_may_hear (meter_with s) s t a (Ok got) out halted carries fits)
+may_hear x s t a (Err reason) out halted carries fits = tt
+
+module _ (x y : CoordinatorState) (got : Accepted) (cost note now : ℕ) (r : Result CoordinatorHeard Dropped) (out : Out) (sound : IsSoundCoordinator x) (may : MayHear (of_coordinator x) got) where
+  -- what it does about the frame
+  abbrev plan : Memory → Plan Memory (Result CoordinatorHeard Dropped)
+  plan m = coordinator_rules.hear_coordinator (identity_of x) m got cost note now
+
+  acted : IfSome (node_of x).memory (λ m. Carries (node_of x) (plan m) r out (node_of y)) → Took (acts (of_coordinator x) (Err drops.Store) plan) r out (of_coordinator y)
+  acted carries = own_took x y (Err drops.Store) plan r out sound (not_none (node_of x).memory _ may.running) carries
+
+  pub heard : IfSome (node_of x).memory (λ m. Carries (node_of x) (plan m) r out (node_of y))
+      → Took (hears network (of_coordinator x) got cost note now) (hears network (of_coordinator x) got cost note now).answer out (of_coordinator y)
+  heard carries = let t = acted carries in record { answer_is = refl; out_is = t.out_is; node_is = t.node_is }
+
+  pub told : IfSome (node_of x).memory (λ m. Carries (node_of x) (plan m) r out (node_of y)) → (word : Reception)
+      → Tells word (rules.coordinator_reception r) → Tells word (hears network (of_coordinator x) got cost note now).answer
+  told carries word t = subst (λ (k : Result CoordinatorHeard Dropped). Tells word (rules.coordinator_reception k)) (acted carries).answer_is t
+
+  pub heard_sound : IfSome (node_of x).memory (λ m. Carries (node_of x) (plan m) r out (node_of y)) → Holds (node_of y) → IsSoundCoordinator y
+  heard_sound carries h =
+      ringless_sound x y (Err drops.Store) plan r out (λ m short. (coordinators_in_place (identity_of x) m short).hears got cost note now)
+      (λ m. (coordinators_write_no_ring (identity_of x) m).hears got cost note now) sound (not_none (node_of x).memory _ may.running) carries h
+
+-- a grant that went out is told of nowhere
+pub told_beside : (word : Reception) (r : rules.Reception) (keyed : Option rules.SentGrant) → Tells word r → Tells word (record r { keyed = keyed })
+told_beside word r keyed t = record { answer = t.answer; up = t.up; took = t.took; done = t.done }

@@ -1,0 +1,66 @@
+-- A meter that is made over an empty store.
+use Rattle.std.proofs.Common.{◌≡◌, List, [], ◌∷◌, ◌++◌, map, Some, None, Result, sym, ap, subst, ◌∙◌}
+use Rattle.std.specs.Prelude.{IsSome, All}
+use Rattle.std.specs.Result.{result_ok}
+use Rattle.std.specs.FinMap.{empty}
+use Rattle.std.proofs.lemmas.List.{map_push}
+use Rattle.std.proofs.lemmas.List.Elements.{All-push}
+use Rattle.plc_base.specs.declared.address.Eui.{Eui}
+use Rattle.plc_base.specs.declared.key.Key.{Key}
+use Rattle.plc_base.specs.declared.keeper.BadStore.{BadStore}
+use Rattle.plc_base.specs.Keeper.{Store}
+use Rattle.plc_base.specs.SlotTables as slots
+use Rattle.plc_base.proofs.Opening.{empty_gapless}
+use Rattle.frame_counters.specs.PeerMarks as marks
+use Rattle.routing_set.specs.RoutingSet as routing
+use Rattle.node_rules.specs.Agreement.{Agrees}
+use Rattle.node_rules.specs.Memory.{Memory, Meter, Node}
+use Rattle.node_rules.specs.StoreReading.{memory_of, remembering, blank_station}
+use Rattle.node_rules.proofs.Blank.{blank}
+use Rattle.line_rules.specs.Steps.{blank_node}
+use Rattle.meter_node.specs.MeterStates.{MeterState, node_of}
+use Rattle.line_world.specs.Nodes.{stored_in, of_meter}
+use Rattle.line_world.specs.Soundness.{IsSoundMeter}
+use Rattle.line_world.proofs.MeterActing.{sound_meter}
+
+-- what an empty keeper holds
+abbrev pub empty_store : Store
+empty_store = record { records = empty; faults = 0; told = Some None }
+
+-- What is said of a meter that was opened over a keeper.
+pub record Opened (keeper : Store) (own : Eui) (key : Key) (y : MeterState) : Type 0 where
+  pub keeper_is : keeper ≡ empty_store
+  pub store : y.station.store ≡ keeper
+  pub eui : y.station.eui ≡ own
+  pub psk : y.psk ≡ key
+  pub memory : (node_of y).memory ≡ result_ok (memory_of (Meter key) keeper.records)
+  pub agrees : slots.IsGapless marks.peers keeper.records → slots.IsGapless routing.ranks keeper.records → Agrees y.station
+
+module _ (keeper : Store) (own : Eui) (key : Key) (y : MeterState) (o : Opened keeper own key y) where
+  records_empty : keeper.records ≡ empty
+  records_empty = ap (λ (s : Store). s.records) o.keeper_is
+
+  store_is : y.station.store ≡ empty_store
+  store_is = o.store ∙ o.keeper_is
+
+  pub sound_made : IsSoundMeter y
+  sound_made =
+      let none = ap (λ (s : Store). s.records) store_is in
+      sound_meter y (subst (λ (s : Store). IsSome s.told) (sym store_is) (cc))
+      (record { marks = empty_gapless marks.peers y.station.store.records none; ranks = empty_gapless routing.ranks y.station.store.records none; entries = tt })
+      (o.agrees (empty_gapless marks.peers keeper.records records_empty) (empty_gapless routing.ranks keeper.records records_empty))
+
+  memory_blank : (node_of y).memory ≡ Some (remembering blank_station [])
+  memory_blank =
+      o.memory ∙ ap (λ r. result_ok (memory_of (Meter key) r)) records_empty ∙ ap (λ (r : Result Memory BadStore). result_ok r) (blank (Meter key))
+
+  pub node_made : of_meter y ≡ blank_node (Meter key) own
+  node_made = λ i. record { role = Meter (o.psk i); eui = o.eui i; store = stored_in (store_is i); memory = memory_blank i }
+
+-- the list of the meters has one more
+pub one_more : (ms xs : List MeterState) (old : List Node) (y : MeterState) (n : Node) → map of_meter ms ≡ old → xs ≡ ms ++ y ∷ [] → of_meter y ≡ n → map of_meter xs ≡ old ++ n ∷ []
+one_more ms xs old y n view is node =
+    ap (λ (k : List MeterState). map of_meter k) is ∙ map_push of_meter ms y ∙ ap (λ (k : List Node). k ++ of_meter y ∷ []) view ∙ ap (λ (k : Node). old ++ k ∷ []) node
+
+pub all_sound : (ms xs : List MeterState) (y : MeterState) → All IsSoundMeter ms → xs ≡ ms ++ y ∷ [] → IsSoundMeter y → All IsSoundMeter xs
+all_sound ms xs y h is sound = subst (λ (k : List MeterState). All IsSoundMeter k) (sym is) (All-push IsSoundMeter ms y h sound)

@@ -1,0 +1,39 @@
+-- The coordinator hears a frame.
+use Rattle.std.proofs.Common.{subst, sym}
+use Rattle.node_rules.specs.Ciphers.{network}
+use Rattle.node_rules.specs.Memory.{Node}
+use Rattle.line_rules.specs.Steps.{hears}
+use Rattle.line_world.specs.Receiving.{MayHear, Tells}
+use Rattle.line_world.proofs.CoordinatorActing.{holds}
+use Rattle.line_world.proofs.CoordinatorHearing.{told, heard, heard_sound}
+use Rattle.line_world.proofs.Places.{seen_answering}
+use Rattle.line_world.proofs.nodes.line_coordinator.LineCoordinator.hear.Goals as goal
+
+pub hear-heard-requires-clause-running : goal.hear-heard-requires-clause-running
+hear-heard-requires-clause-running c = (subst (λ (n : Node). MayHear n c.args.got.now) (sym c.self.view_is) c.requires.accepted).running
+
+pub hear-heard-requires-clause-holds : goal.hear-heard-requires-clause-holds
+hear-heard-requires-clause-holds c = holds c.self.inside.coordinator c.self.invariant
+
+pub hear-heard-requires-clause-fits : goal.hear-heard-requires-clause-fits
+hear-heard-requires-clause-fits c = c.requires.accepted.fits
+
+pub returns-clause-tells : goal.returns-clause-tells
+returns-clause-tells c =
+    let may = subst (λ (n : Node). MayHear n c.args.got.now) (sym c.self.view_is) c.requires.accepted in
+    subst (λ (n : Node). Tells c.coordinator_told.result (hears network n c.args.got.now c.args.cost c.args.note c.args.now).answer) c.self.view_is
+    (told c.self.inside.coordinator c.hear-heard.new.self c.args.got.now c.args.cost c.args.note c.args.now c.hear-heard.result c.hear-heard.new.out c.self.invariant may
+    c.hear-heard.ensures.carries c.coordinator_told.result c.coordinator_told.ensures)
+
+pub returns-clause-took : goal.returns-clause-took
+returns-clause-took c =
+    let may = subst (λ (n : Node). MayHear n c.args.got.now) (sym c.self.view_is) c.requires.accepted in
+    seen_answering (λ n. hears network n c.args.got.now c.args.cost c.args.note c.args.now) _ _ _ _ c.self.view_is
+    (heard c.self.inside.coordinator c.hear-heard.new.self c.args.got.now c.args.cost c.args.note c.args.now c.hear-heard.result c.hear-heard.new.out c.self.invariant may
+    c.hear-heard.ensures.carries)
+
+pub invariant_of-self : goal.invariant_of-self
+invariant_of-self c =
+    let may = subst (λ (n : Node). MayHear n c.args.got.now) (sym c.self.view_is) c.requires.accepted in
+    heard_sound c.self.inside.coordinator c.hear-heard.new.self c.args.got.now c.args.cost c.args.note c.args.now c.hear-heard.result c.hear-heard.new.out c.self.invariant may
+    c.hear-heard.ensures.carries c.hear-heard.ensures.holds

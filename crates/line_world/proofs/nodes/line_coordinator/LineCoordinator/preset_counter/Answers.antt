@@ -1,0 +1,24 @@
+-- What its station did, the coordinator did.
+use Rattle.std.proofs.Common.{Ok}
+use Rattle.node_rules.specs.Calls as calls
+use Rattle.node_rules.specs.Carrying.{nothing}
+use Rattle.node_rules.specs.NodeSteps.{acts}
+use Rattle.line_world.proofs.Acting.{gives_nothing}
+use Rattle.line_world.proofs.CoordinatorActing.{lent_agrees, station_took, station_sound}
+use Rattle.line_world.proofs.LentStations.{counter_own, lent}
+use Rattle.line_world.proofs.Places.{seen}
+use Rattle.line_world.proofs.nodes.line_coordinator.LineCoordinator.preset_counter.Goals as goal
+
+pub set_counter-requires : goal.set_counter-requires
+set_counter-requires c = record { agrees = lent_agrees c.self.inside.coordinator c.station.result.now c.station.ensures.value c.self.invariant }
+
+pub returns : goal.returns
+returns c =
+    seen (λ n. acts n (Ok tt) (lent (λ _ l. calls.preset_counter l c.args.value) n.eui)) _ _ _ _ _ c.self.view_is
+    (station_took c.self.inside.coordinator c.station.result.now c.set_counter.new.station (Ok tt) (λ _ l. calls.preset_counter l c.args.value) c.set_counter.result nothing c.station.ensures.value c.self.invariant
+    (gives_nothing c.station.result.now.memory _ _ c.set_counter.ensures.halted) c.set_counter.ensures.carries)
+
+pub invariant_of-self : goal.invariant_of-self
+invariant_of-self c =
+    station_sound c.self.inside.coordinator c.station.result.now c.set_counter.new.station (Ok tt) (λ _ l. calls.preset_counter l c.args.value) c.set_counter.result nothing (counter_own _ c.args.value) c.station.ensures.value c.self.invariant
+    (gives_nothing c.station.result.now.memory _ _ c.set_counter.ensures.halted) c.set_counter.ensures.carries c.set_counter.ensures.agrees

@@ -1,0 +1,42 @@
+-- A meter at a place hears a frame.
+use Rattle.std.proofs.lemmas.List.Elements.{All-set}
+use Rattle.line_world.specs.Receiving.{MayHear}
+use Rattle.line_world.specs.Soundness.{IsSoundMeter}
+use Rattle.line_world.proofs.HearingSteps.{running, came_up, told, heard, heard_sound}
+use Rattle.line_world.proofs.Places.{agrees_at, at_place, did, found_at, sound_at}
+use Rattle.line_world.proofs.nodes.meters.Meters.hear.Goals as goal
+
+pub hear-heard-requires-clause-running : goal.hear-heard-requires-clause-running
+hear-heard-requires-clause-running c =
+    running c.index_mut.result.now c.args.got.now (at_place c.self.inside.meters.items _ c.args.place c.index_mut.result.now _ c.self.view_is c.requires.there c.index_mut.ensures.value c.requires.accepted)
+
+pub hear-heard-requires-clause-agrees : goal.hear-heard-requires-clause-agrees
+hear-heard-requires-clause-agrees c = agrees_at c.self.inside.meters.items _ c.args.place c.index_mut.result.now c.self.view_is c.requires.there c.index_mut.ensures.value c.self.invariant
+
+pub hear-heard-requires-clause-fits : goal.hear-heard-requires-clause-fits
+hear-heard-requires-clause-fits c = (at_place c.self.inside.meters.items _ c.args.place c.index_mut.result.now (λ x. MayHear x c.args.got.now) c.self.view_is c.requires.there c.index_mut.ensures.value c.requires.accepted).fits
+
+pub hear-heard-requires-clause-came : goal.hear-heard-requires-clause-came
+hear-heard-requires-clause-came c =
+    came_up c.index_mut.result.now c.args.got.now (at_place c.self.inside.meters.items _ c.args.place c.index_mut.result.now _ c.self.view_is c.requires.there c.index_mut.ensures.value c.requires.accepted)
+
+pub returns : goal.returns
+returns c =
+    let x = c.index_mut.result.now in
+    let y = c.hear-heard.new.self in
+    let sound = sound_at c.self.inside.meters.items _ c.args.place c.index_mut.result.now c.self.view_is c.requires.there c.index_mut.ensures.value c.self.invariant in
+    let may = at_place c.self.inside.meters.items _ c.args.place c.index_mut.result.now (λ n. MayHear n c.args.got.now) c.self.view_is c.requires.there c.index_mut.ensures.value c.requires.accepted in
+    found_at c.self.inside.meters.items _ c.args.place c.index_mut.result.now _ c.self.view_is c.requires.there c.index_mut.ensures.value (record {
+      tells = told x y c.args.got.now c.args.cost c.args.note c.args.now c.hear-heard.result c.hear-heard.new.out sound may c.hear-heard.ensures.psk c.hear-heard.ensures.carries
+          c.meter_told.result c.meter_told.ensures;
+      did = did _ c.self.inside.meters.items _ c.args.place y _ _ c.self.view_is
+          (heard x y c.args.got.now c.args.cost c.args.note c.args.now c.hear-heard.result c.hear-heard.new.out sound may c.hear-heard.ensures.psk c.hear-heard.ensures.carries);
+    })
+
+pub invariant_of-self : goal.invariant_of-self
+invariant_of-self c =
+    let sound = sound_at c.self.inside.meters.items _ c.args.place c.index_mut.result.now c.self.view_is c.requires.there c.index_mut.ensures.value c.self.invariant in
+    let may = at_place c.self.inside.meters.items _ c.args.place c.index_mut.result.now (λ n. MayHear n c.args.got.now) c.self.view_is c.requires.there c.index_mut.ensures.value c.requires.accepted in
+    All-set IsSoundMeter c.self.inside.meters.items c.args.place c.hear-heard.new.self
+    (heard_sound c.index_mut.result.now c.hear-heard.new.self c.args.got.now c.args.cost c.args.note c.args.now c.hear-heard.result c.hear-heard.new.out sound may
+    c.hear-heard.ensures.carries c.hear-heard.ensures.agrees) c.self.invariant

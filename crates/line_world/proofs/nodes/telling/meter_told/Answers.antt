@@ -1,0 +1,13 @@
+-- What a meter made of a frame is told.
+use Rattle.std.proofs.Common.{subst}
+use Rattle.line_rules.specs.Answers as rules
+use Rattle.line_rules.specs.declared.event.Answer.{Answer}
+use Rattle.line_world.specs.Receiving.{Tells}
+use Rattle.line_world.proofs.nodes.telling.meter_told.Goals as goal
+
+pub returns-in-Ok : goal.returns-in-Ok
+returns-in-Ok c = rw c.in-Ok.is c.meter_words.ensures
+
+pub returns-in-Err : goal.returns-in-Err
+returns-in-Err c =
+    rw c.in-Err.is (subst (λ (w : Answer). Tells c.only.result (rules.only w)) c.drop_word.ensures c.only.ensures)

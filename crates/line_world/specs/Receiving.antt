@@ -1,0 +1,41 @@
+-- What a node makes of a frame that it accepted, for the line.
+use Rattle.std.specs.Prelude.{◌≡◌, ⊤, ℕ, List, is_some, IsSome, IfSome}
+use Rattle.std.specs.Option.{option_map}
+use Rattle.plc_base.specs.declared.out_frame.Out.{Out}
+use Rattle.node_rules.specs.declared.heard.Accepted.{Accepted}
+use Rattle.node_rules.specs.Memory.{Memory, Node, Role, Coordinator, Meter}
+use Rattle.node_rules.specs.NodeSteps.{NodeStep}
+use Rattle.line_rules.specs.Answers as rules
+use Rattle.plc_station.specs.Heard.{Fits}
+use Rattle.meter_node.specs.Hearing.{CameUp}
+use Rattle.line_world.specs.declared.nodes.reception.HandedUp.{HandedUp}
+use Rattle.line_world.specs.declared.nodes.reception.Reception.{Reception}
+use Rattle.line_world.specs.Doings.{Did}
+
+-- a frame came to a meter as its station accepts them
+abbrev pub CameTo : Role → Accepted → Memory → Type 0
+CameTo Coordinator got m = ⊤
+CameTo (Meter psk) got m = CameUp got.path m.station
+
+-- A node may hear a frame: it is not halted, and its station accepted the frame.
+pub record MayHear (x : Node) (got : Accepted) : Type 0 where
+  pub running : IsSome x.memory
+  pub fits : Fits got
+  pub came : IfSome x.memory (λ m. CameTo x.role got m)
+
+-- a datagram that the rules hand up, as a node tells it
+abbrev pub handed_up : rules.Up → HandedUp
+handed_up u = record { note = u.note; octets = u.octets }
+
+-- The word and what is told beside it are those of the reception.
+pub record Tells (told : Reception) (r : rules.Reception) : Type 0 where
+  pub answer : told.answer ≡ r.answer
+  pub up : told.up ≡ option_map handed_up r.up
+  pub took : told.took ≡ is_some r.took
+  pub done : told.done ≡ option_map (λ (d : rules.CompletedJoining). d.eui) r.done
+
+-- The node of this number heard a frame.
+pub record Received (step : NodeStep rules.Reception) (old : List Node) (number : ℕ) (told : Reception)
+    (out : Out) (new : List Node) : Type 0 where
+  pub tells : Tells told step.answer
+  pub did : Did step old number step.answer out new

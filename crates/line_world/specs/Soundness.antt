@@ -1,0 +1,28 @@
+-- What holds of each node between the events of a line.
+use Rattle.std.specs.Prelude.{IsSome, IfSome}
+use Rattle.plc_base.specs.Keeper.{Records}
+use Rattle.group_keys.specs.KeyBook as book
+use Rattle.node_rules.specs.Memory.{Memory, Role, Meter}
+use Rattle.node_rules.specs.States.{State}
+use Rattle.node_rules.specs.Agreement.{AgreesWith}
+use Rattle.node_rules.specs.Tables.{OfCoordinator, HasGaplessTables}
+use Rattle.meter_node.specs.MeterStates.{MeterState}
+use Rattle.meter_node.specs.MeterStates as meters
+use Rattle.coordinator.specs.CoordinatorAgreement.{HasHome}
+
+-- What a node holds as stored is what its records give, for the coordinator the book too.
+pub record AgreesAs (role : Role) (m : Memory) (records : Records) : Type 0 where
+  pub station : AgreesWith m.station records
+  pub book : OfCoordinator role (book.IsKept m.book records)
+
+-- The keeper of a node tells the loss of power that is to come; no table of its store has a gap, the coordinator's ring
+-- has the address 0000, and unless it is halted it agrees with its store.
+pub record IsSound (role : Role) (s : State Memory) : Type 0 where
+  pub told : IsSome s.store.told
+  pub tables : HasGaplessTables role s.store.records
+  pub home : OfCoordinator role (HasHome s.store.records)
+  pub agrees : IfSome s.memory (λ m. AgreesAs role m s.store.records)
+
+-- a meter that is sound
+abbrev pub IsSoundMeter : MeterState → Type 0
+IsSoundMeter m = IsSound (Meter m.psk) (meters.node_of m)

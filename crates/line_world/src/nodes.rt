@@ -1,0 +1,139 @@
+//! The nodes of a line by their numbers: the coordinator is node 0, and the meters follow, each over a keeper of its own in
+//! memory.
+//!
+//! Each call of [`Nodes`] names a node, and takes the step that the rules of the nodes give for it, whichever writes of its
+//! keeper fail.
+ghost use Rattle.std.specs.Prelude.{◌≡◌, ◌≤◌, ◌<◌, ◌==◌, [], length, drop, position, IfSome, Some, slice_get};
+ghost use Rattle.std.specs.List.{list_any};
+ghost use Rattle.node_rules.specs.Memory as memory;
+ghost use Rattle.node_rules.specs.Accepting.{same_eui};
+ghost use Rattle.line_rules.specs.Steps.{psk_of};
+
+mod creation;
+mod hearing;
+mod joining;
+mod line_coordinator;
+mod meters;
+mod ordering;
+mod reception;
+mod setting;
+mod station_calls;
+mod station_steps;
+mod telling;
+mod time;
+
+use crate::nodes::line_coordinator::LineCoordinator;
+use crate::nodes::meters::Meters;
+use plc_base::{Eui, Key, Short};
+pub(crate) use reception::{HandedUp, Reception};
+use std::alloc::Global;
+use std::marker::Model;
+
+/// The nodes of a line by their numbers: 0 is the coordinator, and the meters follow from 1 on, in the order in which
+/// they were made.
+///
+/// A contract sees the list of the nodes. Each node that is not halted agrees with its keeper.
+#[derive(Drop)]
+pub struct Nodes {
+    pub(crate) coordinator: Option<LineCoordinator>,
+    pub(crate) meters: Meters,
+}
+
+impl Model for Nodes {
+    ghost use Rattle.std.specs.Prelude.{List, ◌≡◌, [], IfNone};
+    ghost use Rattle.node_rules.specs.Memory.{Node};
+    ghost use Rattle.std.specs.Coded.{coded_list};
+    ghost use Rattle.line_world.specs.NodeCodes.{node_code};
+    ghost use Rattle.line_world.specs.Nodes.{nodes_in};
+
+    ghost Value = { List Node };
+
+    ghost coded = { coded_list node_code };
+
+    ghost view = { λ n. nodes_in n.coordinator n.meters };
+
+    ghost invariant = { λ n. IfNone n.coordinator (n.meters ≡ []) };
+}
+
+impl Nodes {
+    /// No node. It takes no memory.
+    pub fn new(alloc: Global) -> Nodes
+        ensures { result ≡ [] }
+    {
+        Nodes {
+            coordinator: None,
+            meters: Meters::new(alloc),
+        }
+    }
+
+    /// How many nodes there are.
+    pub fn len(&self) -> usize
+        ensures { result ≡ length self.now }
+    {
+        if self.coordinator.is_none() {
+            return 0;
+        }
+        self.meters.len() + 1
+    }
+
+    /// Whether there is no node.
+    pub fn is_empty(&self) -> bool
+        ensures { result ≡ (length self.now == 0) }
+    {
+        self.coordinator.is_none()
+    }
+
+    /// The short address of a node, None where it is halted or not joined.
+    pub fn address(&self, number: usize) -> Option<Short>
+        requires there { number < length self.now }
+        ensures { IfSome (slice_get self.now number) (λ x. result ≡ memory.node_address x) }
+    {
+        if number > 0 {
+            return self.meters.address(number - 1);
+        }
+        let Some(coordinator) = &self.coordinator else {
+            return None;
+        };
+        coordinator.address()
+    }
+
+    /// The EUI of a meter.
+    pub fn eui(&self, number: usize) -> Eui
+        requires meter { 1 ≤ number }
+        requires there { number < length self.now }
+        ensures { IfSome (slice_get self.now number) (λ x. result ≡ x.eui) }
+    {
+        self.meters.eui(number - 1)
+    }
+
+    /// The pair key of a meter.
+    pub fn psk(&self, number: usize) -> Key
+        requires meter { 1 ≤ number }
+        requires there { number < length self.now }
+        ensures { IfSome (slice_get self.now number) (λ x. psk_of x ≡ Some result) }
+    {
+        self.meters.psk(number - 1)
+    }
+
+    /// The number of the first node with an EUI, None where no node has it.
+    pub fn position(&self, eui: Eui) -> Option<usize>
+        ensures { result ≡ position (λ (x : memory.Node). same_eui x.eui eui) self.now }
+    {
+        let Some(coordinator) = &self.coordinator else {
+            return None;
+        };
+        if coordinator.eui().number() == eui.number() {
+            return Some(0);
+        }
+        let _meters = self.meters.len();
+        let place = self.meters.position(eui)?;
+        Some(place + 1)
+    }
+
+    /// Whether a node has this EUI.
+    pub fn has(&self, eui: Eui) -> bool
+        ensures { result ≡ list_any (λ (x : memory.Node). same_eui x.eui eui) self.now }
+    {
+        self.position(eui).is_some()
+    }
+}

@@ -1,0 +1,46 @@
+//! What a node makes of a frame that it accepted.
+ghost use Rattle.std.specs.Prelude.{◌<◌, length, IfSome, slice_get};
+ghost use Rattle.node_rules.specs.Ciphers.{network};
+ghost use Rattle.line_rules.specs.Steps.{hears};
+ghost use Rattle.line_world.specs.Receiving.{MayHear, Received};
+
+use crate::nodes::Nodes;
+use crate::nodes::reception::Reception;
+use line_rules::Answer;
+use node_rules::Accepted;
+use plc_base::{DatagramBuf, LinkCost, Out};
+
+impl Nodes {
+    /// A node hears a frame that it accepted, over a link of this cost, under a number of the caller's, at a time in seconds. A
+    /// datagram that is handed up is then in `datagram`, and what goes out is in `out`.
+    pub fn hear<'a>(
+        &mut self,
+        number: usize,
+        got: &Accepted<'a>,
+        cost: LinkCost,
+        note: u32,
+        now: u64,
+        datagram: &'a mut DatagramBuf,
+        out: &mut Out,
+    ) -> Reception<'a>
+        requires there { number < length self.old }
+        requires accepted { IfSome (slice_get self.old number) (λ x. MayHear x got.now) }
+        ensures { IfSome (slice_get self.old number) (λ x. Received (hears network x got.now cost note now)
+            self.old number result out.new self.new) }
+    {
+        if number > 0 {
+            return self
+                .meters
+                .hear(number - 1, got, cost, note, now, datagram, out);
+        }
+        let Some(coordinator) = &mut self.coordinator else {
+            return Reception {
+                answer: Answer::Store,
+                up: None,
+                took: false,
+                done: None,
+            };
+        };
+        coordinator.hear(got, cost, note, now, datagram, out)
+    }
+}
