@@ -1,0 +1,6 @@
+use Rattle.plc_base.proofs.Opening.{empty_gapless}
+use Rattle.plc_base.specs.Marks.{layout}
+use Rattle.store_tests.proofs.marks.first_marks.Goals as goal
+
+pub returns : goal.returns
+returns c = record { kept = c.in_ok-open.ensures.kept (empty_gapless (layout 0x0100 64) _ c.requires.empty) }

@@ -1,0 +1,35 @@
+//! The reader of units, over the payload of a full frame: 381 octets, which are a mesh header and a whole datagram of 375.
+ghost use Rattle.std.specs.Prelude.{◌≤◌, length};
+
+use mesh_header::{Unit, read_unit};
+
+// A call of its own, so that the whole unit has to be made.
+#[inline(never)]
+fn read(payload: &[u8]) -> Option<Unit<'_>>
+    requires { length payload.now ≤ 400 }
+{
+    match read_unit(payload) {
+        Ok(unit) => Some(unit),
+        Err(_) => None,
+    }
+}
+
+/// The octets of `count` datagrams, each read out of a unit of its own that differs from the one before.
+fn read_units(count: u32) -> u64 {
+    let mut payload = [0; 381];
+    payload[..6].copy_from_slice(&[0xBE, 0, 1, 0, 2, 0x41]);
+    let mut sum: u64 = 0;
+    for _ in 0..count {
+        if let Some(Unit::Whole { octets, .. }) = read(&payload) {
+            sum = sum.wrapping_add(octets.octets().len() as u64);
+        }
+        payload[6] = (sum % 256) as u8;
+    }
+    sum
+}
+
+/// Reads `count` units, and prints how many octets their datagrams had together.
+pub fn run(rt: &HostRuntime, count: u32) -> anyhow::Result<()> {
+    println!(rt; "read {}", read_units(count))?;
+    Ok(())
+}
