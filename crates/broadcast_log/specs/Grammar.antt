@@ -38,7 +38,7 @@ hops_stand octets = nat_lt 0 (octet 0 octets) && nat_lt (octet 0 octets) 15
 unfoldable pub origin_stands : List ℕ → Bool
 origin_stands octets = is_address (two 1 octets)
 
--- 50, and the low octet of the number behind it
+-- 50, and the low octet of the number after it
 unfoldable pub sequence_stands : List ℕ → Bool
 sequence_stands octets = octet 3 octets == 0x50 && octet 4 octets == four 5 octets % 256
 

@@ -27,7 +27,7 @@ marks = tables.layout 0x0300 32
 abbrev pub IsCovered : Marks → Type 0
 IsCovered table = tables.IsCovered 0x0300 32 table
 
--- What the table holds as stored is what the records give, and no record stands behind them.
+-- What the table holds as stored is what the records give, and no record stands after them.
 abbrev pub AreMarksKept : Marks → Records → Type 0
 AreMarksKept table records = tables.IsKept 0x0300 32 table records
 

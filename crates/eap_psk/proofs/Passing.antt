@@ -18,7 +18,7 @@ use Rattle.eap_psk.specs.Messages.{First, Second, Third, Fourth, head, third_hea
 use Rattle.eap_psk.specs.Faults.{same, head_stands, is_first, is_second, is_third, is_fourth, is_granting, rand_p_of, first_fault, second_fault, third_fault, fourth_fault}
 use Rattle.eap_psk.proofs.Same.{same_true}
 
--- a part behind a front, further on, and whole
+-- a part after a front, further on, and whole
 part_at : (at n : ℕ) (front field rest : List ℕ) → length front ≡ at → length field ≡ n → part at n (front ++ (field ++ rest)) ≡ field
 unfolding part
 part_at at n front field rest la lf =

@@ -40,7 +40,7 @@ peers = marks.layout 0x0100 64
 abbrev pub IsCovered : Table → Type 0
 IsCovered table = marks.IsCovered 0x0100 64 table
 
--- What the table holds as stored is what the records give, and no record stands behind them.
+-- What the table holds as stored is what the records give, and no record stands after them.
 abbrev pub IsKept : Table → Records → Type 0
 IsKept table records = marks.IsKept 0x0100 64 table records
 

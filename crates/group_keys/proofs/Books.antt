@@ -22,7 +22,7 @@ flag_in-flag_octet : (b : Bool) → flag_in (flag_octet b) ≡ Some b
 flag_in-flag_octet true = refl
 flag_in-flag_octet false = refl
 
--- what stands behind the pair key
+-- what stands after the pair key
 abbrev tail_of : ℕ → BookEntry → List ℕ
 tail_of place e = big_bytes 2 (place + 1) ++ (flag_octet e.allowed ∷ (held_octets e.issued0 ++ held_octets e.issued1))
 

@@ -34,7 +34,7 @@ held_in-held_octets (Some key) = refl
 
 -- # The record of a ring
 
--- the octets behind the flag
+-- the octets after the flag
 abbrev rest_of : Granted → List ℕ
 rest_of g = big_bytes 2 g.address ++ (g.active ∷ (held_octets g.key0 ++ held_octets g.key1))
 

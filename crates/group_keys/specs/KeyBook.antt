@@ -38,7 +38,7 @@ entry_of eui psk allowed issued0 issued1 =
     Some (record { eui = record { 0 = eui }; psk = key_in psk; allowed = a; issued0 = k0; issued1 = k1 }))
     issued1 None) issued0 None) allowed None
 
--- what stands behind the pair key: an address, which is one more than the place, the flag and the keys
+-- what stands after the pair key: an address, which is one more than the place, the flag and the keys
 abbrev pub entry_behind : ℕ → List ℕ → List ℕ → List ℕ → Option BookEntry
 entry_behind place eui psk octets =
     if big_number 2 octets == place + 1
@@ -71,7 +71,7 @@ entries = record {
   key = λ e. eui_number e.eui;
 }
 
--- What the book holds is what the records give, and no record stands behind them.
+-- What the book holds is what the records give, and no record stands after them.
 abbrev pub IsKept : Book → Records → Type 0
 IsKept book records = slots.IsStored entries book records
 
@@ -107,7 +107,7 @@ same_key a b = pointwise nat_eq a.0 b.0
 abbrev pub place_for : Book → Eui → ℕ
 place_for book eui = option_map_or (λ place. place) (place_of book eui) (length book)
 
--- the book with an entry in the place of its meter's, or behind the others
+-- the book with an entry in the place of its meter's, or after the others
 abbrev pub with_entry : Book → BookEntry → Book
 with_entry book entry = option_map_or (λ place. set book place entry) (place_of book entry.eui) (book ++ entry ∷ [])
 

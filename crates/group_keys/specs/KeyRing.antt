@@ -29,7 +29,7 @@ grant_of address active key0 key1 =
     if nat_lt address 0xFFFE && (nat_le active 1 && is_some (if active == 0 then key0 else key1))
     then Some (record { address = address; active = active; key0 = key0; key1 = key1 }) else None
 
--- the grant behind the flag that says that the node has joined
+-- the grant after the flag that says that the node has joined
 abbrev pub grant_in : List ℕ → Option Granted
 grant_in octets =
     option_map_or

@@ -54,7 +54,7 @@ fn ring_record(grant: &Option<Grant>) -> Record
     record
 }
 
-// The grant behind the flag that says that the node has joined.
+// The grant after the flag that says that the node has joined.
 fn grant_in(octets: &[u8]) -> Option<Grant>
     requires { length octets.now ≡ 37 }
     ensures { result ≡ grant_in octets.now }

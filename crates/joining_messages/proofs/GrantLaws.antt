@@ -99,7 +99,7 @@ key_true front index key rest sixteen =
     let f3 : sixteen_stand (length front + 3) octets ≡ true = sixteen_true (length front + 3) octets (omega arith) in
     rw (f0, f1, f2, f3) refl
 
--- the keys of a grant stand behind its head
+-- the keys of a grant stand after its head
 head_of : ℕ → ℕ → List ℕ
 head_of address active = 1 ∷ 2 ∷ big_bytes 2 address ++ (2 ∷ 1 ∷ active ∷ [])
 

@@ -91,7 +91,7 @@ activates_low octets index range = by_code (octet 0 octets == 1) (octet 0 octets
         let low = index_low octets (subst (λ k. rest_fault k octets ≡ None) six rest) in
         omega arith
 
--- what stands behind the EUI is no longer than a packet may be
+-- what stands after the EUI is no longer than a packet may be
 rest_low : (octets : List ℕ) (a b c d e f : Bool)
     → (if a then join_rest_fault octets else (if b then accept_rest_fault octets else (if c then challenge_rest_fault octets else (if f then activate_rest_fault octets else no_rest_fault octets)))) ≡ None
     → length (rest_of (if a then Join (after 9 octets) else (if b then Accept (octet 10 octets) else (if c then Challenge (after 9 octets) else (if d then Decline else (if e then Kick else Activate (octet 9 octets))))))) ≤ 128

@@ -1,4 +1,4 @@
--- What stands behind the EUI, by how many octets there are.
+-- What stands after the EUI, by how many octets there are.
 use Rattle.std.proofs.Common.{◌≡◌, ℕ, List, [], ◌∷◌, length, slice_index, refl, arith}
 
 pub one_is : (xs : List ℕ) → length xs ≡ 1 → xs ≡ slice_index xs 0 ∷ []

@@ -30,7 +30,7 @@ code_of Decline = 4
 code_of Kick = 5
 code_of (Activate index) = 6
 
--- what stands behind the EUI: of an acceptance an EAP success (RFC 3748, 4.2)
+-- what stands after the EUI: of an acceptance an EAP success (RFC 3748, 4.2)
 abbrev pub rest_of : JoinBody → List ℕ
 rest_of (Join eap) = eap
 rest_of (Accept identifier) = 3 ∷ identifier ∷ 0 ∷ 4 ∷ []

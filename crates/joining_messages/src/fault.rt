@@ -11,7 +11,7 @@ pub enum JoinFaultKind {
     /// The first octet is no message's code. The place is 0.
     #[error("no code of a joining message")]
     Code,
-    /// What stands behind the EUI-64 is not what this code has there. The place is 9.
+    /// What stands after the EUI-64 is not what this code has there. The place is 9.
     #[error("another rest than this code has")]
     Body,
 }

@@ -3,7 +3,7 @@ ghost use Rattle.std.specs.Prelude.{ℕ, ◌≡◌, ◌≤◌, ◌+◌, ◌++◌
 ghost use Rattle.joining_messages.specs.Messages.{IsAllowed, IsBody, IsMessage, Spells, rest_length, rest_of, spelling};
 
 use crate::message::{JoinBody, JoinMessage};
-use plc_base::FrameBuf;
+use plc_base::Octets;
 
 fn code_of(body: &JoinBody) -> u8
     ensures { result ≡ Rattle.joining_messages.specs.Messages.code_of body.now }
@@ -18,9 +18,9 @@ fn code_of(body: &JoinBody) -> u8
     }
 }
 
-fn write_rest(body: &JoinBody, out: &mut FrameBuf)
+fn write_rest<const N: usize>(body: &JoinBody, out: &mut Octets<N>)
     requires allowed { IsAllowed body.now }
-    requires room { length out.old + rest_length body.now ≤ 400 }
+    requires room { length out.old + rest_length body.now ≤ N }
     ensures spelled { out.new ≡ out.old ++ rest_of body.now }
     ensures longer { length out.new ≡ length out.old + rest_length body.now }
     ensures body { IsBody body.now }
@@ -38,12 +38,12 @@ fn write_rest(body: &JoinBody, out: &mut FrameBuf)
     }
 }
 
-/// Appends the one spelling of the message: 9 octets, and what its body has behind them.
+/// Appends the one spelling of the message: 9 octets, and what its body has after them.
 ///
 /// A challenge has a packet, and an index is 0 or 1.
-pub fn write_join(message: &JoinMessage, out: &mut FrameBuf)
+pub fn write_join<const N: usize>(message: &JoinMessage, out: &mut Octets<N>)
     requires allowed { IsAllowed message.now.body }
-    requires room { length out.old + (9 + rest_length message.now.body) ≤ 400 }
+    requires room { length out.old + (9 + rest_length message.now.body) ≤ N }
     ensures spelled { out.new ≡ out.old ++ spelling message.now }
     ensures longer { length out.new ≡ length out.old + (9 + rest_length message.now.body) }
     ensures message { IsMessage message.now }

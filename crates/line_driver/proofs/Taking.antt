@@ -71,7 +71,7 @@ clear_at (x ∷ xs) (suc k) none h e = clear_at xs k none.1 (omega (arith, h)) e
 in_part : (w : List ℕ) (clear stop k : ℕ) → k < stop - clear → get_or (slice_range w clear stop) k 0 ≡ get_or w (clear + k) 0
 in_part w clear stop k h = get_or-take (stop - clear) (drop clear w) k 0 h ∙ get_or-drop clear w k 0
 
--- what is clear, and clear in the part behind it
+-- what is clear, and clear in the part after it
 clear_to : (w : List ℕ) (clear stop n : ℕ) → clear ≤ n → n ≤ stop → stop ≤ length w → NoFeed (take clear w) → ((k : ℕ) → 0 ≤ k → k < n - clear → Passes (is_byte 10) (slice_range w clear stop) k → ⊥) → NoFeed (take n w)
 clear_to w clear stop n low high within none never = clear_from (take n w) (λ k h e.
     let below : k < n = omega (arith, h, length-take n w) in
@@ -184,7 +184,7 @@ pub shed_clear : (seen0 seen1 : ℕ) (ahead0 ahead1 : List ℕ) (long0 long1 : B
 shed_clear seen0 seen1 ahead0 ahead1 long0 long1 none room (inl (few, same, ahead, kept)) = (subst NoFeed (sym ahead) none, rw (same, ahead) room, omega (arith, same))
 shed_clear seen0 seen1 ahead0 ahead1 long0 long1 none room (inr (many, more, ahead, is)) = (subst NoFeed (sym ahead) tt, omega (arith, more, ap (λ (l : List ℕ). length l) ahead, room), omega (arith, more))
 
--- and where more stands behind it
+-- and where more stands after it
 pub clear_front : (ahead0 ahead1 octets : List ℕ) → ahead1 ≡ ahead0 ++ octets → NoFeed ahead0 → NoFeed (take (length ahead0) ahead1) × (length ahead0 ≤ length ahead1)
 clear_front ahead0 ahead1 octets is none = (
   subst NoFeed (sym (ap (take (length ahead0)) is ∙ take-append-le (length ahead0) ahead0 octets (omega arith) ∙ take_all (length ahead0) ahead0 (omega arith))) none,

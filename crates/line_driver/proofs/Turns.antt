@@ -11,7 +11,7 @@ abbrev line_at : ℕ → Content → List ℕ → Line
 line_at number what behind = record { number = number; content = what; behind = behind }
 
 module _ {M : Type 0} where
-  -- a line that stops the run does so whatever stands behind it
+  -- a line that stops the run does so whatever stands after it
   stop_outcome : (m : M) (line : Line) (turn : Turn M) (rest rest' : M → Outcome M) → IsStop turn → outcome_turn m line turn rest ≡ outcome_turn m line turn rest'
   stop_outcome m line Skips rest rest' stops = absurd stops
   stop_outcome m line (Takes next text) rest rest' stops = absurd stops
@@ -49,7 +49,7 @@ module _ {M : Type 0} where
   goes_no_stop w m0 m1 (Stops text) stops on = on
 
 module _ {M : Type 0} (turn : M → ℕ → Content → Turn M) (end_text : M → List ℕ) where
-  -- what a line and those behind it do
+  -- what a line and those after it do
   pub line_outcome : ((m : M) (number : ℕ) → IsStop (turn m number TooMuch)) → (m : M) (number : ℕ) (what : Content) (behind : List ℕ) (rest : List Line) (ended : Bool) → outcome_from turn end_text m (lines_with number what behind rest) ended ≡ outcome_turn m (line_at number what behind) (turn m number what) (λ next. outcome_from turn end_text next rest ended)
   unfolding outcome_from
   line_outcome stops m number (Text octets) behind rest ended = refl

@@ -1,13 +1,13 @@
 -- The lines of a script.
 use Rattle.std.specs.Prelude.{◌≢◌, ℕ, ◌+◌, ◌==◌, ◌&&◌, Bool, List, [], ◌∷◌, ◌++◌, length, if◌then◌else◌, nat_lt, nat_le}
 
--- what a line holds: its octets, or more than 4,096 of them, or the first octet behind the 67,108,864 that may come
+-- what a line holds: its octets, or more than 4,096 of them, or the first octet after the 67,108,864 that may come
 pub data Content : Type 0 where
   Text : (octets : List ℕ) → Content
   Long : Content
   TooMuch : Content
 
--- a line, its number from 1, and the octets behind it
+-- a line, its number from 1, and the octets after it
 pub record Line : Type 0 where
   pub number : ℕ
   pub content : Content
@@ -48,7 +48,7 @@ abbrev pub NoFeeds : List (List ℕ) → Type 0
 NoFeeds [] = Unit {0}
 NoFeeds (line ∷ lines) = NoFeed line × NoFeeds lines
 
--- lines with a line feed behind each, and then the rest
+-- lines with a line feed after each, and then the rest
 abbrev pub script : List (List ℕ) → List ℕ → List ℕ
 script [] rest = rest
 script (line ∷ lines) rest = line ++ 10 ∷ script lines rest

@@ -77,18 +77,18 @@ abbrev pub FeedIs : List ℕ → ℕ → Option ℕ → Type 0
 FeedIs octets stop (Some at) = (at < stop) × (slice_index octets at ≡ 10) × NoFeed (take at octets)
 FeedIs octets stop None = NoFeed (take stop octets)
 
--- What stands first among octets of which so many may be used: a line feed behind this many others, an octet that is too much, or neither.
+-- What stands first among octets of which so many may be used: a line feed after this many others, an octet that is too much, or neither.
 abbrev pub FoundIs : List ℕ → ℕ → Found → Type 0
 FoundIs octets room (Feed at) =
     (at < room) × (at < length octets) × (slice_index octets at ≡ 10) × NoFeed (take at octets)
 FoundIs octets room PastRoom = (room < length octets) × NoFeed (take room octets)
 FoundIs octets room Neither = (length octets ≤ room) × NoFeed octets
 
--- what may come behind: nothing, where the input has ended
+-- what may come after: nothing, where the input has ended
 abbrev pub MayFollow : Bool → List ℕ → Bool → Type 0
 MayFollow ended more e = IsTrue ended → (more ≡ []) × IsTrue e
 
--- the lines that a line begins, with what may come behind the window
+-- the lines that a line begins, with what may come after the window
 abbrev pub lines_with : ℕ → Content → List ℕ → List Line → List Line
 lines_with number (Text octets) behind rest = record { number = number; content = Text octets; behind = behind } ∷ rest
 lines_with number Long behind rest = record { number = number; content = Long; behind = behind } ∷ rest

@@ -8,7 +8,7 @@ pub data Turn (M : Type 0) : Type 0 where
   Takes : (next : M) → (text : List ℕ) → Turn M
   Stops : (text : List ℕ) → Turn M
 
--- how a script ends: at a bad line, with the octets behind it, at the end of input, in some state, or not yet
+-- how a script ends: at a bad line, with the octets after it, at the end of input, in some state, or not yet
 pub data Ending (M : Type 0) : Type 0 where
   Bad : (number : ℕ) → (behind : List ℕ) → Ending M
   Ended : (last : M) → Ending M
@@ -36,7 +36,7 @@ outcome_from turn end_text m (line ∷ lines) ended =
 abbrev pub outcome : {M : Type 0} → (M → ℕ → Content → Turn M) → (M → List ℕ) → M → List ℕ → Bool → Outcome M
 outcome turn end_text m octets ended = outcome_from turn end_text m (lines octets ended) ended
 
--- a line is bad, and at most so many octets stand behind it
+-- a line is bad, and at most so many octets stand after it
 abbrev pub StopsShortOf : {M : Type 0} → ℕ → Ending M → Type 0
 StopsShortOf ahead (Bad number behind) = length behind ≤ ahead
 StopsShortOf ahead (Ended last) = ⊥

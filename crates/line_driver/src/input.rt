@@ -20,14 +20,14 @@ pub enum LineKind {
     Text,
     /// A line of more octets. They were counted and not kept.
     Long,
-    /// The octet behind the last that a script may have. No line follows.
+    /// The octet after the last that a script may have. No line follows.
     TooMuch,
 }
 
 /// What stands first among the octets ahead.
 #[derive(Clone, Copy)]
 pub enum Found {
-    /// A line feed behind so many other octets.
+    /// A line feed after so many other octets.
     Feed(usize),
     /// No line feed among those that may be used, and more octets.
     PastRoom,
@@ -154,7 +154,7 @@ impl Input {
         }
     }
 
-    /// Takes the line that a line feed behind so many octets ends.
+    /// Takes the line that a line feed after so many octets ends.
     fn take_line(&mut self, at: usize, long: bool) -> LineKind
         requires there { at < length self.old.window.ahead }
         requires room { self.old.seen + at < 67108864 }
@@ -170,7 +170,7 @@ impl Input {
         kind_by(long, at)
     }
 
-    /// Takes the octet that is too much, behind so many others.
+    /// Takes the octet that is too much, after so many others.
     fn take_too_much(&mut self, room: usize) -> LineKind
         requires there { room < length self.old.window.ahead }
         requires last { self.old.seen + room ≡ 67108864 }
@@ -223,7 +223,7 @@ impl Input {
         true
     }
 
-    /// Reads once, behind the octets ahead.
+    /// Reads once, after the octets ahead.
     fn refill<S: Source>(&mut self, source: &mut S) -> Result<(), Failed>
         requires room { length self.old.window.ahead < 8192 }
         requires going { self.old.ended ≡ false }

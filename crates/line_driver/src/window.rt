@@ -37,7 +37,7 @@ impl Model for Window {
     ghost invariant = { λ w. IsHeld w.ring.capacity w.ring.items w.line.items w.line_len w.chunk.items };
 }
 
-// Moves the first octets of a ring to the front of a buffer, and drops those behind them that are used, too.
+// Moves the first octets of a ring to the front of a buffer, and drops those after them that are used, too.
 fn take_out(ring: &mut HeapCircularBuffer<u8>, line: &mut Vec<u8>, count: usize, used: usize)
     requires room { count ≤ length line.old.items }
     requires order { count ≤ used }
@@ -51,7 +51,7 @@ fn take_out(ring: &mut HeapCircularBuffer<u8>, line: &mut Vec<u8>, count: usize,
     ring.truncate_front(rest);
 }
 
-// Reads once, by way of a chunk, behind the octets of a ring that is not full.
+// Reads once, by way of a chunk, after the octets of a ring that is not full.
 fn read_behind<S: Source>(
     ring: &mut HeapCircularBuffer<u8>,
     chunk: &mut Vec<u8>,
@@ -119,7 +119,7 @@ impl Window {
         self.line_len = count;
     }
 
-    /// Reads once, behind the octets ahead, of which there are fewer than 8,192. Answers how many octets came: none at the end of
+    /// Reads once, after the octets ahead, of which there are fewer than 8,192. Answers how many octets came: none at the end of
     /// input. The line stays.
     pub fn fill<S: Source>(&mut self, source: &mut S) -> Result<usize, Failed>
         requires room { length self.old.ahead < WINDOW }

@@ -18,7 +18,7 @@ pub enum MessageFaultKind {
     #[error("an address of no node")]
     Address,
     /// Octets follow the last field. The place is the first of them.
-    #[error("octets behind the message")]
+    #[error("octets after the message")]
     Long,
 }
 

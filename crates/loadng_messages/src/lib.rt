@@ -12,6 +12,6 @@ mod reading;
 mod writing;
 
 pub use fault::{MessageFault, MessageFaultKind};
-pub use message::Message;
+pub use message::{Message, MessageBuf};
 pub use reading::read_message;
 pub use writing::write_message;

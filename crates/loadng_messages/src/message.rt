@@ -1,5 +1,8 @@
 //! Route messages.
-use plc_base::Short;
+use plc_base::{Octets, Short};
+
+/// The spelling of a message: at most 9 octets.
+pub type MessageBuf = Octets<9>;
 
 /// A message by which routes are found and ended (draft-clausen-lln-loadng, 6).
 #[derive(Clone, Copy, Debug, PartialEq, Eq, Drop)]
@@ -26,7 +29,7 @@ pub enum Message {
         /// The node that asked.
         to: Short,
     },
-    /// Says that there is no more route to `lost`.
+    /// Says that there is no longer a route to `lost`.
     Rerr {
         /// The node that can't be reached.
         lost: Short,

@@ -3,12 +3,12 @@ ghost use Rattle.std.specs.Prelude.{ℕ, ◌≡◌, ◌≤◌, ◌+◌, ◌++◌
 ghost use Rattle.loadng_messages.specs.Grammar.{IsAllowed, IsMessage, Spells, spelling};
 
 use crate::message::Message;
-use plc_base::FrameBuf;
+use plc_base::Octets;
 
 /// Appends the one spelling of the message: 9 octets, or 5 for a route error. The number is not 0.
-pub fn write_message(message: &Message, out: &mut FrameBuf)
+pub fn write_message<const N: usize>(message: &Message, out: &mut Octets<N>)
     requires number { IsAllowed message.now }
-    requires room { length out.old + 9 ≤ 400 }
+    requires room { length out.old + 9 ≤ N }
     ensures spelled { out.new ≡ out.old ++ spelling message.now }
     ensures message { IsMessage message.now }
     // A value has one spelling.

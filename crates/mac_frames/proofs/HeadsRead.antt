@@ -30,7 +30,7 @@ low_plain false rest = rw (octet_behind [] (low_control false false) rest) (refl
 take_front : (xs ys : List ℕ) (n : ℕ) → length xs ≡ n → take n (xs ++ ys) ≡ xs
 take_front xs ys n same = ap (λ m. take m (xs ++ ys)) (sym same) ∙ take-append_seam xs ys
 
--- two octets behind eight others
+-- two octets after eight others
 two_past : (front eight : List ℕ) (x : ℕ) (rest : List ℕ) → length eight ≡ 8 → x < 65536 → little_two (length front + 8) (front ++ (eight ++ (little_bytes 2 x ++ rest))) ≡ x
 two_past front eight x rest same low =
     ap (λ n. little_two (length front + n) (front ++ (eight ++ (little_bytes 2 x ++ rest)))) (sym same)

@@ -28,6 +28,6 @@ head_by false false octets =
 unfoldable pub head_in : List ℕ → MacHead
 head_in octets = head_by (is_sealed octets) (has_modes 2 3 (octet 1 octets)) octets
 
--- the octets behind the header
+-- the octets after the header
 unfoldable pub body_in : List ℕ → List ℕ
 body_in octets = after 15 octets

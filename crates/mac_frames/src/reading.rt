@@ -79,7 +79,7 @@ fn index_at(octets: &[u8], at: usize) -> Result<u8, FrameFault>
     Ok(index)
 }
 
-// The head of a sealed frame, behind its PAN id, where a tag follows it.
+// The head of a sealed frame, after its PAN id, where a tag follows it.
 #[tactic(auto, unfolding(crate::specs::Faults::sealed_fault, plc_base::specs::Faults::cut_off))]
 fn sealed_of(octets: &[u8], ack: bool, seq: u8, pan: u16) -> Result<MacHead, FrameFault>
     requires { octets.now ≡ low_control true ack ∷ high_control 2 1 2 ∷ seq ∷ little_bytes 2 pan ++ after 5 octets.now }
@@ -106,7 +106,7 @@ fn sealed_of(octets: &[u8], ack: bool, seq: u8, pan: u16) -> Result<MacHead, Fra
     })
 }
 
-// The head of a plain frame from a device without a short address, behind its PAN id.
+// The head of a plain frame from a device without a short address, after its PAN id.
 #[tactic(auto, unfolding(crate::specs::Faults::up_fault, plc_base::specs::Faults::cut_off))]
 fn up_of(octets: &[u8], ack: bool, version: u8, seq: u8, pan: u16) -> Result<MacHead, FrameFault>
     requires version { version ≤ 1 }
@@ -128,7 +128,7 @@ fn up_of(octets: &[u8], ack: bool, version: u8, seq: u8, pan: u16) -> Result<Mac
     })
 }
 
-// The head of a plain frame to a device without a short address, behind its PAN id.
+// The head of a plain frame to a device without a short address, after its PAN id.
 #[tactic(auto, unfolding(crate::specs::Faults::down_fault, plc_base::specs::Faults::cut_off))]
 fn down_of(octets: &[u8], ack: bool, version: u8, seq: u8, pan: u16) -> Result<MacHead, FrameFault>
     requires version { version ≤ 1 }

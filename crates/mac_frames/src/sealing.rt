@@ -60,9 +60,9 @@ pub fn seal_frame(aes: &Aes, head: &MacHead, payload: &[u8], out: &mut FrameBuf)
     seal_written(aes, head, out);
 }
 
-/// Seals a frame in place, whose payload stands in the clear behind the header of a head `Sealed`.
+/// Seals a frame in place, whose payload stands in the clear after the header of a head `Sealed`.
 ///
-/// So a payload is spelled right behind what [`write_header`] writes, and not copied. What it has to be, and what a frame counter
+/// So a payload is spelled right after what [`write_header`] writes, and not copied. What it has to be, and what a frame counter
 /// may serve for, is as for [`seal_frame`].
 pub fn seal_written(aes: &Aes, head: &MacHead, out: &mut FrameBuf)
     requires sealed { IsSealed head.now }
@@ -76,7 +76,7 @@ pub fn seal_written(aes: &Aes, head: &MacHead, out: &mut FrameBuf)
     out.append(&tag);
 }
 
-// Encrypts what stands behind a header, in place, and makes the tag of both.
+// Encrypts what stands after a header, in place, and makes the tag of both.
 fn seal_tail(aes: &Aes, nonce: &[u8; 13], out: &mut FrameBuf, tag: &mut [u8; 4])
     requires { 15 ≤ length out.old }
     ensures text { out.new ≡ take 15 out.old ++ ccm_text aes.now nonce.now (drop 15 out.old) }

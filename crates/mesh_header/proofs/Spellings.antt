@@ -43,7 +43,7 @@ hops_none : (octets : List ℕ) → 0xB0 ≤ octet 0 octets → (octet 0 octets 
 unfolding hops_fault cut_off
 hops_none octets low long high = grind (arith, common_steps)
 
--- a piece stands behind other octets
+-- a piece stands after other octets
 first_none : (front : List ℕ) (p : Placed) → IsPiece p → p.offset ≡ 0 → first_piece_fault (length front) (front ++ (big_bytes 2 (0xC000 + p.size) ++ (big_bytes 2 p.tag ++ (0x41 ∷ p.octets)))) ≡ None
 unfolding first_piece_fault octet
 first_none front p h zero_offset =

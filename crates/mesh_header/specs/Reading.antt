@@ -30,7 +30,7 @@ later_piece_at at octets =
       octets = after (at + 5) octets;
     }
 
--- what stands behind a mesh header, by its first octet
+-- what stands after a mesh header, by its first octet
 abbrev pub part_in : ℕ → Mesh → ℕ → List ℕ → Unit
 part_in dispatch mesh at octets =
     if dispatch == 0x41 then Whole mesh (after (at + 1) octets)

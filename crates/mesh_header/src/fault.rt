@@ -24,10 +24,10 @@ pub enum UnitFaultKind {
     #[error("a datagram of no octet or more than 1,280")]
     Size,
     /// A piece has no octet, passes its datagram's size, has an uneven length and is not the last, or is a later piece at
-    /// offset 0. The place is the first behind the piece's headers.
+    /// offset 0. The place is the first after the piece's headers.
     #[error("no piece of its datagram")]
     PieceForm,
-    /// A whole datagram has no octet or more than 375. The place is the first behind its dispatch.
+    /// A whole datagram has no octet or more than 375. The place is the first after its dispatch.
     #[error("a whole datagram of no octet or more than 375")]
     DataSize,
     /// The origin or the final address is FFFE or FFFF. The place is its first octet.

@@ -1,4 +1,4 @@
-//! Units: what the payload of a MAC frame is. A whole datagram, a piece of one or a command stands behind a mesh header that
+//! Units: what the payload of a MAC frame is. A whole datagram, a piece of one or a command stands after a mesh header that
 //! says from where and to where it goes; a command may also stand alone, for the neighbour that hears it.
 //!
 //! Mesh headers are those of RFC 4944, 5.2, with short addresses; pieces are its fragments, 5.3; `docs/FORMATS.md` has the

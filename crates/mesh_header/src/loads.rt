@@ -1,4 +1,4 @@
-//! What stands behind a mesh header, and commands alone.
+//! What stands after a mesh header, and commands alone.
 ghost use Rattle.std.specs.Prelude.{◌≡◌, ◌≤◌, ◌<◌, ◌+◌, ◌-◌, ◌*◌, ◌%◌, ◌∷◌, ◌++◌, List, [], length, IfOk, MatchResult, Some, None, Ok};
 ghost use Rattle.byteorder.specs.Endian.{big_bytes};
 ghost use Rattle.plc_base.specs.Fields.{octet, two, after};
@@ -146,7 +146,7 @@ pub(crate) fn local(octets: &[u8], at: usize) -> Result<Unit<'_>, UnitFault>
     })
 }
 
-// What stands behind a mesh header.
+// What stands after a mesh header.
 #[tactic(auto, unfolding(crate::specs::Faults::load_fault))]
 pub(crate) fn load_of(octets: &[u8], mesh: Mesh, at: usize) -> Result<Unit<'_>, UnitFault>
     requires mesh { IsMesh mesh }

@@ -34,14 +34,14 @@ pub enum Unit<'a> {
     Carried {
         /// The mesh header in front.
         mesh: Mesh,
-        /// What stands behind the code 02.
+        /// What stands after the code 02.
         body: OctetRef<'a>,
     },
     /// A command for the neighbour that hears it, with no mesh header.
     Local {
         /// The code: 1 to 5.
         code: u8,
-        /// What stands behind the code.
+        /// What stands after the code.
         body: OctetRef<'a>,
     },
 }

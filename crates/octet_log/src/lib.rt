@@ -9,9 +9,9 @@
 //! log.push(b"abc");
 //! log.push(b"de");
 //! log.push(b"abc");
-//! log.last(b"abc") // 3
-//! log.before(3)    // 1
-//! log.before(1)    // 0
+//! let newest = log.last(b"abc"); // 3
+//! let older = log.before(newest); // 1
+//! let none = log.before(older); // 0
 //! ```
 //!
 //! A string is found among those of its chain alone, one of 16,384 by its last 16 octets. So strings are found quickly where few of

@@ -36,7 +36,7 @@ placed_past h (suc n) (x ∷ xs) le = by_test (λ le. placed_past h n xs le) (na
     by_test more true le = absurd (omega (arith, le))
     by_test more false le = ap (λ (ys : List Agent). x ∷ ys) (more (omega (arith, le)))
 
--- one that comes behind 16
+-- one that comes after 16
 pub placed_out : (h : Agent) (xs : List Agent) → length xs ≤ 16 → 16 ≤ place h xs → xs ≡ take 16 (placed_by rank h xs)
 placed_out h xs few past = sym (placed_past h 16 xs past ∙ take_all 16 xs few)
 

@@ -1,13 +1,22 @@
--- The earlier of two times.
-use Rattle.std.proofs.Common.{ℕ, ◌≤◌, cond, inl, inr, sym, subst, arith}
-use Rattle.std.specs.Prelude.{nat_lt}
-use Rattle.std.proofs.lemmas.Bool.{cases_lt, cond-true, cond-false, lt-ltb, le-ltb}
+-- The first of several ends.
+use Rattle.std.proofs.Common.{ℕ, ◌≤◌, List, [], ◌∷◌, min, arith}
+use Rattle.std.specs.Prelude.{fold}
+use Rattle.std.specs.List.{All}
+use Rattle.std.proofs.lemmas.List.Elements.{All-nil, All-cons}
 
--- it is after neither
-pub earlier : (time end : ℕ) → (cond (nat_lt time end) time end ≤ time) × (cond (nat_lt time end) time end ≤ end)
-earlier time end = elim (cases_lt time end) as (λ _. (cond (nat_lt time end) time end ≤ time) × (cond (nat_lt time end) time end ≤ end)) [
-  | inl less ↦
-      subst (λ (n : ℕ). (n ≤ time) × (n ≤ end)) (sym (cond-true _ _ _ (lt-ltb time end less))) (omega arith, omega (arith, less))
-  | inr more ↦
-      subst (λ (n : ℕ). (n ≤ time) × (n ≤ end)) (sym (cond-false _ _ _ (le-ltb time end more))) (omega (arith, more), omega arith)
-]
+-- the earlier of two times is after neither
+pub earlier : (time end : ℕ) → (min time end ≤ time) × (min time end ≤ end)
+earlier time end = (omega arith, omega arith)
+
+-- Where each of several items makes a time no later, and lasts until then, all of them last until the time that they make together.
+pub all_last : {A : Type 0} (end_by : ℕ → A → ℕ) (Lasts : ℕ → A → Type 0)
+    → ((time : ℕ) (x : A) → (end_by time x ≤ time) × Lasts (end_by time x) x)
+    → ((sooner later : ℕ) (x : A) → sooner ≤ later → Lasts later x → Lasts sooner x)
+    → (xs : List A) (time : ℕ) → (fold end_by time xs ≤ time) × All (Lasts (fold end_by time xs)) xs
+all_last end_by Lasts one lasts [] time = (omega arith, All-nil (Lasts time))
+all_last end_by Lasts one lasts (x ∷ xs) time =
+    let rest = all_last end_by Lasts one lasts xs (end_by time x) in
+    let first = one time x in (
+      omega (arith, rest.0, first.0),
+      All-cons (Lasts (fold end_by (end_by time x) xs)) x xs (lasts (fold end_by (end_by time x) xs) (end_by time x) x rest.0 first.1) rest.1,
+    )

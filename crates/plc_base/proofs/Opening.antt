@@ -153,7 +153,7 @@ kept_opened layout (suc left) place records table last rests e len all gapless k
     kept_step layout left place records table last _ rests (omega arith) refl e len gapless kept
     (λ next e' len' kept'. kept_opened layout left (place + 1) records next last rests e' len' (omega arith) gapless kept')
 
--- an opened table is stored, where no record stands behind the first empty slot
+-- an opened table is stored, where no record stands after the first empty slot
 pub opened_kept : {A : Type 0} (layout : Layout A) (records : Records) (r : Result (List A) BadStore) → ReadsAtRest layout → r ≡ opened layout records
     → IsGapless layout records → IfOk r (λ table. IsStored layout table records)
 opened_kept layout records (Ok table) rests e gapless = kept_opened layout layout.slots 0 records [] table rests (sym e) refl (omega arith) gapless (λ q h. absurd (omega arith))
@@ -209,7 +209,7 @@ read_at layout table records place d stored within h =
     by_record None is e = cc
     by_record (Some octets) is e = record { octets = octets; got = is; reads = cc }
 
--- behind the table there is no record
+-- after the table there is no record
 pub none_behind : {A : Type 0} (layout : Layout A) (table : List A) (records : Records) (place : ℕ) → IsStored layout table records → length table ≤ place → place < layout.slots
     → get records (slot_of layout place) ≡ None
 none_behind layout table records place stored past h =

@@ -69,7 +69,7 @@ part_stands at n octets h =
     sym (take-append-drop n (drop at octets)) ∙ ap (λ (xs : List ℕ). take n (drop at octets) ++ xs) (drop-drop n at octets) in
     record { within = omega arith; parts = parts ∙ ap (λ (m : ℕ). take n (drop at octets) ++ drop (at + m) octets) (sym len) }
 
--- nothing is before the first place, and nothing behind the last
+-- nothing is before the first place, and nothing after the last
 pub after_none : (octets : List ℕ) → after 0 octets ≡ octets
 unfolding after
 after_none octets = refl
@@ -78,7 +78,7 @@ pub after_all : (at : ℕ) (octets : List ℕ) → length octets ≤ at → afte
 unfolding after
 after_all at octets h = drop_of_length-le octets h
 
--- what is spelled behind other octets is read there
+-- what is spelled after other octets is read there
 pub octet_behind : (front : List ℕ) (x : ℕ) (rest : List ℕ) → octet (length front) (front ++ x ∷ rest) ≡ x
 unfolding octet
 octet_behind [] x rest = refl
@@ -117,12 +117,12 @@ unfolding after
 first_is [] h = absurd (omega arith)
 first_is (x ∷ octets) h = refl
 
--- what stands behind other octets
+-- what stands after other octets
 pub octet_past : (front rest : List ℕ) (k : ℕ) → octet (length front + k) (front ++ rest) ≡ octet k rest
 unfolding octet
 octet_past front rest k = get_or-append-add front rest k 0
 
--- two fronts of one length are the same where the wholes are, and so is what stands behind them
+-- two fronts of one length are the same where the wholes are, and so is what stands after them
 pub fronts_same : (a b x y : List ℕ) → length a ≡ length b → a ++ x ≡ b ++ y → (a ≡ b) × (x ≡ y)
 fronts_same a b x y len e =
     let front : a ≡ b =
@@ -160,7 +160,7 @@ pub octet_low : EachOctetFits
 unfolding octet
 octet_low at octets fits = below octets fits at
 
--- what stands further on behind other octets
+-- what stands further on after other octets
 pub after_past : (front rest : List ℕ) (k : ℕ) → after (length front + k) (front ++ rest) ≡ after k rest
 unfolding after
 after_past front rest k = sym (drop-drop k (length front) (front ++ rest)) ∙ ap (drop k) (drop-append_seam front rest)

@@ -250,7 +250,7 @@ stored_elsewhere layout table old new first last stored same apart = record {
     outside q h (inl below) = inr (omega arith)
     outside q h (inr above) = inl (omega arith)
 
--- where a key is looked up, it is free at the place that is found, and behind the table where none is found
+-- where a key is looked up, it is free at the place that is found, and after the table where none is found
 pub place_free : {A : Type 0} (layout : Layout A) (table : List A) (key : ℕ) (o : Option ℕ) → IsTable layout table → o ≡ place_of layout table key
     → MatchOption o (IsFree layout table (length table) key) (λ place. IsFree layout table place key)
 place_free layout table key None h e = free_new layout table key (length table) (ap is_some (sym e))
@@ -267,7 +267,7 @@ same_place {A = A} layout table next d key place long same e =
     let inside : nat_lt place (length next) ≡ true = grind (arith, nat_tests, p.0) in
     rw (first, inside) refl
 
--- so it does where an entry is written in the place of its key, or behind the others
+-- so it does where an entry is written in the place of its key, or after the others
 pub place_of-set : {A : Type 0} (layout : Layout A) (table : List A) (e : A) (at key place : ℕ) → place_of layout table (layout.key e) ≡ Some at
     → place_of layout table key ≡ Some place → place_of layout (set table at e) key ≡ Some place
 place_of-set {A = A} layout table e at key place there found_at =

@@ -68,7 +68,7 @@ module _ (first count : ℕ) where
   abbrev pub IsCovered : Table → Type 0
   IsCovered table = All (λ entry. entry.mark ≤ entry.stored) table
 
-  -- What the table holds as stored is what the records give, and no record stands behind them.
+  -- What the table holds as stored is what the records give, and no record stands after them.
   abbrev pub IsKept : Table → Records → Type 0
   IsKept table records = slots.IsStored layout table records
 

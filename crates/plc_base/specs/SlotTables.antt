@@ -55,14 +55,14 @@ abbrev pub IsFree : {A : Type 0} → Layout A → List A → ℕ → ℕ → Typ
 IsFree layout table place key =
     (q : ℕ) → q < length table → q ≢ place → IfSome (slice_get table q) (λ entry. layout.key entry ≢ key)
 
--- What the table holds as stored is what the records give, no record stands behind them, and each entry has a slot.
+-- What the table holds as stored is what the records give, no record stands after them, and each entry has a slot.
 pub record IsStored {A : Type 0} (layout : Layout A) (table : List A) (records : Records) : Type 0 where
   pub short : length table ≤ layout.slots
   pub each : (place : ℕ) → place < layout.slots
       → option_map (layout.read place) (get records (slot_of layout place))
       ≡ option_map (λ entry. Some (layout.rest entry)) (slice_get table place)
 
--- no record stands behind the first empty slot
+-- no record stands after the first empty slot
 abbrev pub IsGapless : {A : Type 0} → Layout A → Records → Type 0
 IsGapless layout records =
     (i j : ℕ) → i < j → j < layout.slots → get records (slot_of layout i) ≡ None
@@ -77,7 +77,7 @@ with_record layout place table octets =
     then None else Some (table ++ entry ∷ []))
     (layout.read place octets) None
 
--- what the records give from a place on, up to the first empty slot, behind the table so far
+-- what the records give from a place on, up to the first empty slot, after the table so far
 unfoldable pub opened_from : {A : Type 0} → Layout A → ℕ → ℕ → Records → List A → Result (List A) BadStore
 opened_from layout zero place records table = Ok table
 opened_from layout (suc left) place records table =

@@ -18,7 +18,7 @@
 //!
 //! What its calls promise, by the names of their clauses:
 //!
-//! - A put leaves the record from before or the new one, also where it fails, and changes no other slot (`Puts`). The trait
+//! - A put leaves the record from before or the new one, even where it fails, and changes no other slot (`Puts`). The trait
 //!   asks this of each keeper, and all that the crates above promise of a store rests on it.
 //! - A table, a numbering or a number is what the records give (`table`, `reading`, `numbering`, `number`). BadStore names a
 //!   record that has no reading (`bad`).

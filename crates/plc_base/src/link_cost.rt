@@ -41,12 +41,3 @@ impl LinkCost {
         self.cost
     }
 }
-
-impl Default for LinkCost {
-    /// The least cost.
-    fn default() -> LinkCost
-        ensures { result ≡ 1 }
-    {
-        LinkCost { cost: 1 }
-    }
-}

@@ -69,7 +69,7 @@ impl<const FIRST: u32, const SLOTS: usize> SlotEntry for Mark<FIRST, SLOTS> {
 }
 
 /// The number that was last admitted of each address. The stored marks are ahead of it, so that no number is admitted
-/// twice, also over losses of power, and most numbers cost no put.
+/// twice, even over losses of power, and most numbers cost no put.
 ///
 /// A contract sees the list of the entries in the order of their slots.
 #[derive(Drop, Debug)]

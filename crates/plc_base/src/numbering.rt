@@ -7,7 +7,7 @@ ghost use Rattle.plc_base.specs.Numberings.{IsKept, IsOldLimitOrKept, limit_at, 
 use crate::{BadStore, Failed, Keeper, NumberSlot};
 use std::marker::Model;
 
-/// Gives out each number once, also over losses of power: a limit is stored at `SLOT`, ahead of the numbers that are given
+/// Gives out each number once, even over losses of power: a limit is stored at `SLOT`, ahead of the numbers that are given
 /// out, and a new start goes on at the stored limit.
 ///
 /// A contract sees the limit and the next number.

@@ -5,8 +5,8 @@ ghost use Rattle.std.specs.Cmp.Lexicographic.{pointwise};
 ghost use Rattle.std.specs.Cmp.Rules.{comparing};
 ghost use Rattle.byteorder.specs.Endian.{big_bytes};
 
+use crate::{four_octets, two_octets};
 use arrayvec::ArrayVec;
-use byteorder::{BigEndian, ByteOrder};
 use std::marker::Model;
 
 /// At most `N` octets. A contract sees the list of them.
@@ -120,9 +120,7 @@ impl<const N: usize> Octets<N> {
         requires { length self.old + 2 ≤ N }
         ensures { self.new ≡ self.old ++ big_bytes 2 number }
     {
-        let mut octets = [0; 2];
-        BigEndian::write_u16(&mut octets, number);
-        self.append(&octets);
+        self.append(&two_octets(number));
     }
 
     /// Appends a number of four octets, the highest first.
@@ -130,9 +128,7 @@ impl<const N: usize> Octets<N> {
         requires { length self.old + 4 ≤ N }
         ensures { self.new ≡ self.old ++ big_bytes 4 number }
     {
-        let mut octets = [0; 4];
-        BigEndian::write_u32(&mut octets, number);
-        self.append(&octets);
+        self.append(&four_octets(number));
     }
 
     /// The same octets again. Unlike `Clone` it has no answer for want of memory, since it takes none.

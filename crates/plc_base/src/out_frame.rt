@@ -3,6 +3,7 @@ ghost use Rattle.std.specs.Prelude.{◌≡◌, ◌<◌, ◌≤◌, ◌==◌, ◌
 
 use crate::{FrameBuf, Key, TagList};
 use arrayvec::ArrayVec;
+use std::fmt;
 use std::marker::Model;
 
 /// A frame to be sent, with what its sender knows of it.
@@ -41,7 +42,7 @@ impl OutFrame {
 }
 
 /// The frames of one step, at most 24. A contract sees the list of them.
-#[derive(Debug, Drop)]
+#[derive(Drop)]
 pub struct OutFrames {
     // All 24, whether in use or not, so that a frame is neither made nor moved to be appended.
     places: ArrayVec<OutFrame, 24>,
@@ -125,7 +126,7 @@ impl OutFrames {
         self.places.get_mut(place)
     }
 
-    /// Appends a blank frame and lends it, so that a frame is written where it stays. None never comes.
+    /// Appends a blank frame and lends it, so that a frame is written where it stays. It is never None.
     pub fn push_blank(&mut self) -> Option<&mut OutFrame>
         requires { length self.old < 24 }
         ensures* lends { sem 𝓛 (LendsIf the_row frame_row self.entry result
@@ -147,7 +148,16 @@ impl OutFrames {
     }
 }
 
+impl fmt::Debug for OutFrames {
+    /// Shows the frames of the step alone, and not what stands in the places that it does not use.
+    fn fmt<W: fmt::Write>(&self, f: &mut fmt::Formatter<W>) -> fmt::Result {
+        f.debug_list().entries(self.frames()).finish()
+    }
+}
+
 /// What one step gives out: frames, and the tags that it made and checked.
+///
+/// It has room for all 24 frames from the start, about 10,000 octets, so make one and reuse it.
 #[derive(Debug, Drop)]
 pub struct Out {
     /// The frames, in the order in which they are sent.

@@ -184,6 +184,7 @@ impl<E: SlotEntry, const N: usize> SlotTable<E, N> {
             (K.store keeper.new).records }
         ensures elsewhere { OutsideStays E.layout.first (last_of E.layout) (K.store keeper.old) (K.store keeper.new) }
     {
+        // Shows the check what the table holds.
         let _ = &self.entries;
         store_entry(keeper, place, &entry)?;
         self.replace(place, entry);
@@ -244,7 +245,7 @@ impl<E: SlotEntry, const N: usize> SlotTable<E, N> {
         Ok(())
     }
 
-    // Holds an entry of a new key behind the others.
+    // Holds an entry of a new key after the others.
     fn push(&mut self, entry: E)
         requires room { length self.old < E.layout.slots }
         requires fits { length self.old < 65536 }

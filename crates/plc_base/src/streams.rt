@@ -3,8 +3,11 @@ ghost use Rattle.std.specs.Prelude.{◌<◌, ◌≤◌, length, IfOk};
 ghost use Rattle.std.specs.Io.{ReadsAtMost};
 ghost use Rattle.plc_base.specs.Streams.{SourceState, SinkState, Reads, Writes, HasWritten};
 
-/// A call of the outside failed, and the object counted it.
-#[derive(Clone, Copy, Debug, PartialEq, Eq)]
+use thiserror::Error;
+
+/// A store or a stream failed to read or to write, and counted it.
+#[derive(Clone, Copy, Debug, PartialEq, Eq, Error)]
+#[error("a read or a write failed")]
 pub struct Failed;
 
 /// Where octets come from.

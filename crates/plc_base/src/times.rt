@@ -9,12 +9,9 @@ pub fn is_within(seconds: u64, now: u64, since: u64) -> bool
     now < since || now - since < seconds
 }
 
-/// A time, or so many seconds after another one, where that is earlier.
+/// The earlier of a time and of so many seconds after another one.
 pub fn earlier_end(seconds: u64, time: u64, since: u64) -> u64
     ensures { result ≡ times.earlier_end seconds time since }
 {
-    if is_within(seconds, time, since) {
-        return time;
-    }
-    since + seconds
+    time.min(since.saturating_add(seconds))
 }

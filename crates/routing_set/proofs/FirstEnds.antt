@@ -1,12 +1,11 @@
 -- Before the first valid route ends, none does.
 use Rattle.std.proofs.Common.{◌≡◌, ℕ, ◌+◌, ◌<◌, ◌≤◌, not, Bool, true, false, cond, List, [], ◌∷◌, Option, Some, None, map, get_or, refl, sym, ap, subst, ◌∙◌, arith}
-use Rattle.std.specs.Prelude.{fold}
 use Rattle.std.specs.List.{All}
 use Rattle.std.specs.Option.{option_map_or}
 use Rattle.std.proofs.lemmas.Bool.{cond-false, lt-ltb}
-use Rattle.std.proofs.lemmas.List.Elements.{All-nil, All-cons, All-head, All-tail, All-map}
+use Rattle.std.proofs.lemmas.List.Elements.{All-head, All-tail, All-map}
 use Rattle.plc_base.specs.Times.{is_within, earlier_end}
-use Rattle.plc_base.proofs.EarlierEnds.{earlier}
+use Rattle.plc_base.proofs.EarlierEnds.{earlier, all_last}
 use Rattle.routing_set.specs.declared.entry.Route.{Route}
 use Rattle.routing_set.specs.declared.entry.RoutingEntry.{RoutingEntry}
 use Rattle.routing_set.specs.RoutingSet.{Routing, is_old, without_route, expired}
@@ -24,20 +23,11 @@ with_one : (time : ℕ) (route : Option Route)
 with_one time None = (omega arith, tt)
 with_one time (Some r) = earlier time (r.offered + 21600)
 
-all_last : (entries : List RoutingEntry) (time : ℕ) → (fold end_by time entries ≤ time) × IsStill (fold end_by time entries) entries
-all_last [] time = (omega arith, All-nil (λ (e : RoutingEntry). Lasts time e.route))
-all_last (e ∷ entries) time =
-    let first : ℕ = fold end_by (end_by time e) entries in
-    let rest = all_last entries (end_by time e) in
-    let one = with_one time e.route in (
-      omega (arith, rest.0, one.0),
-      All-cons (λ (x : RoutingEntry). Lasts first x.route) e entries (sooner first (end_by time e) e.route rest.0 one.1) rest.1,
-    )
-
 -- what is computed is such a time
 pub still : (entries : List RoutingEntry) → IsStill (first_end entries) entries
 unfolding first_end
-still entries = (all_last entries 18446744073709551615).1
+still entries =
+    (all_last end_by (λ (time : ℕ) (e : RoutingEntry). Lasts time e.route) (λ time e. with_one time e.route) (λ a b e le lasts. sooner a b e.route le lasts) entries 18446744073709551615).1
 
 -- # Routes end
 

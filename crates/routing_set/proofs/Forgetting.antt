@@ -58,7 +58,7 @@ record Chosen (now : ℕ) (best : Option RoutingEntry) (entries : List RoutingEn
   so_far : IfSome best (λ b. goes_before b e ≡ false)
   others : (other : RoutingEntry) → Among entries other → is_fresh now other ≡ false → goes_before other e ≡ false
 
--- the entries behind the first one
+-- the entries after the first one
 by_among : (P : RoutingEntry → Type 0) (x : RoutingEntry) (entries : List RoutingEntry) → P x → ((other : RoutingEntry) → Among entries other → P other) → (other : RoutingEntry) (place : ℕ)
     → slice_get (x ∷ entries) place ≡ Some other → P other
 by_among P x entries here more other zero there = let same : x ≡ other = cc in subst P same here

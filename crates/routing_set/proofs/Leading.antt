@@ -62,7 +62,7 @@ place_leads t e place within inside f x = leads_one IsRoutingIn t _ _ (λ r k.
       };
     })
 
--- an entry behind the others
+-- an entry after the others
 push_leads : (t : Routing) (e : RoutingEntry) → IsReadableEntry e → IsRanged (record t { entries = t.entries ++ e ∷ [] })
     → PutsLead IsRoutingIn t (slots.entry_write ranks (length t.entries) e ∷ []) (record t { entries = t.entries ++ e ∷ [] })
 push_leads t e f x = leads_one IsRoutingIn t _ _ (λ r k.

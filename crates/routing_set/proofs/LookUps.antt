@@ -90,7 +90,7 @@ came_held entries e place h at =
       sound = IsTable-set ranks entries place e h there.0 (free_found ranks entries e.address place h at);
     }
 
--- behind the others
+-- after the others
 pub came_new : (entries : List RoutingEntry) (e : RoutingEntry) → IsTable ranks entries → place_of entries e.address ≡ None → length entries < 64
     → Came entries (entries ++ e ∷ []) e None
 came_new entries e h at room = record {

@@ -206,7 +206,7 @@ on_ok P (Err e) h = tt
 
 -- # An offer that is taken, by where its entry goes
 
--- an entry at the place that was found for it, or behind the others
+-- an entry at the place that was found for it, or after the others
 abbrev placed : Routing → RoutingEntry → Option ℕ → Routing
 placed r e o = record r { entries = option_map_or (λ place. set r.entries place e) o (r.entries ++ e ∷ []) }
 
@@ -225,7 +225,7 @@ writes_held r e now place at =
     ap (λ gone. writes_of r gone e) (forgets_none r e.address now place at)
     ∙ ap (λ (o : Option ℕ). slots.entry_write ranks (unwrap_or o (length r.entries)) e ∷ []) at
 
--- behind the others
+-- after the others
 pub entered_new : (r : Routing) (e : RoutingEntry) (now : ℕ) → place_of r.entries e.address ≡ None → (length r.entries == 64) ≡ false
     → entered r e now ≡ record r { entries = r.entries ++ e ∷ [] }
 unfolding entered

@@ -6,7 +6,7 @@ use Rattle.plc_base.specs.Times.{earlier_end}
 use Rattle.routing_set.specs.declared.entry.Route.{Route}
 use Rattle.routing_set.specs.declared.entry.RoutingEntry.{RoutingEntry}
 
--- a time, or when the valid route of an entry ends, where that is earlier
+-- the earlier of a time and of when the valid route of an entry ends
 abbrev pub end_by : ℕ → RoutingEntry → ℕ
 end_by time e =
     option_map_or (λ route. earlier_end 21600 time route.offered) e.route time

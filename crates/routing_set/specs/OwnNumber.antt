@@ -57,11 +57,11 @@ IsOldLimitOrKept numbering old new = (stored_number limit_at new ≡ stored_numb
 abbrev pub limit_write : ℕ → Option Write
 limit_write limit = Some (number_write limit_at limit)
 
--- the limit that is stored for the number behind the last one
+-- the limit that is stored for the number after the last one
 abbrev pub raised : ℕ → ℕ
 raised last = min (last + 32) 65535
 
--- whether the number behind the last one passes the limit
+-- whether the number after the last one passes the limit
 abbrev pub passes : Numbering → Bool
 passes numbering = nat_lt numbering.limit (numbering.last + 1)
 

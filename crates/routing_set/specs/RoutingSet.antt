@@ -1,5 +1,5 @@
 -- The ranks that a node keeps, the floors of those that it forgot, and its valid routes.
-use Rattle.std.specs.Prelude.{◌≡◌, ◌⊎◌, ◌≢◌, ℕ, ◌+◌, ◌*◌, ◌%◌, ◌<◌, Bool, true, false, not, ◌&&◌, ◌||◌, ◌==◌, nat_lt, if◌then◌else◌, List, [], ◌∷◌, ◌++◌, length, map, set, drop, fold, slice_index, replicate, is_some, Option, Some, None, unwrap_or, Result, Ok, Err, refl}
+use Rattle.std.specs.Prelude.{◌≡◌, ◌⊎◌, ◌≢◌, ℕ, ◌*◌, ◌%◌, ◌<◌, Bool, true, false, not, ◌&&◌, ◌||◌, ◌==◌, nat_lt, if◌then◌else◌, List, [], ◌∷◌, ◌++◌, length, map, set, drop, fold, slice_index, replicate, is_some, Option, Some, None, unwrap_or, Result, Ok, Err, refl}
 use Rattle.std.specs.List.{range_with_len, list_all, flat_map}
 use Rattle.std.specs.Bool.{OnTrue}
 use Rattle.std.specs.Option.{option_map, option_map_or, option_and_then}
@@ -111,7 +111,7 @@ abbrev pub AreOldOrNewFloors : List ℕ → Records → Records → Type 0
 AreOldOrNewFloors floors old new =
     (floors_in (get new floor_slot) ≡ floors_in (get old floor_slot)) ⊎ AreFloorsOf floors new
 
--- What is held as stored is what the records give, and no record of a rank stands behind them.
+-- What is held as stored is what the records give, and no record of a rank stands after them.
 pub record IsKept (routing : Routing) (records : Records) : Type 0 where
   pub floors : floors_in (get records floor_slot) ≡ Some routing.floors
   pub ranks : slots.IsStored ranks routing.entries records

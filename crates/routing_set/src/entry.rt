@@ -101,7 +101,7 @@ impl RoutingEntry {
         }
     }
 
-    // A time, or when its valid route ends, where that is earlier.
+    // The earlier of a time and of when its valid route ends.
     pub(crate) fn end_by(&self, time: u64) -> u64
         ensures { result ≡ end_by time self.now }
     {

@@ -76,7 +76,7 @@ impl OwnNumber {
         self.last
     }
 
-    /// Gives out the number behind the last one. Where it passes the limit, the smaller of last + 32 and 65,535 is stored
+    /// Gives out the number after the last one. Where it passes the limit, the smaller of last + 32 and 65,535 is stored
     /// first.
     ///
     /// Only a failed put is an error. The number is then as it was, but may not be used until it is opened again.
@@ -102,7 +102,7 @@ impl OwnNumber {
         Ok(number)
     }
 
-    /// Gives out the number behind the last one. Where it passes the limit, the smaller of last + 32 and 65,535 is stored
+    /// Gives out the number after the last one. Where it passes the limit, the smaller of last + 32 and 65,535 is stored
     /// first.
     ///
     /// SeqSpent exactly where the last number is 65,535. Store where that put failed, and then the number may not be used

@@ -30,7 +30,7 @@ use std::marker::Model;
 pub struct RoutingSet {
     table: SlotTable<RoutingEntry, 64>,
     floors: [u16; 16],
-    // No valid route ends before, in seconds.
+    // No valid route ends before this time, in seconds.
     next_end: u64,
 }
 
@@ -219,7 +219,7 @@ impl RoutingSet {
         Ok(())
     }
 
-    // Stores an entry in the place of its address, behind the others, or in the place of one that is forgotten.
+    // Stores an entry in the place of its address, after the others, or in the place of one that is forgotten.
     fn enter<K: Keeper>(
         &mut self,
         keeper: &mut K,
@@ -333,9 +333,10 @@ impl RoutingSet {
         end
     }
 
-    // When a valid route ends at the earliest: before that, none does.
+    // When the first valid route ends, in seconds: before that, none does. It is 2^64 - 1 where none is valid.
     fn next_end(&self) -> u64
-        ensures { IsStill result self.now.entries }
+        ensures value { result ≡ first_end self.now.entries }
+        ensures still { IsStill result self.now.entries }
     {
         self.first_end()
     }
