@@ -1,11 +1,10 @@
 -- Before the first reassembly expires, none does.
 use Rattle.std.proofs.Common.{◌≡◌, ℕ, ◌+◌, ◌<◌, ◌≤◌, Bool, true, false, cond, List, [], ◌∷◌, ◌++◌, Option, Some, None, refl, ap, ◌∙◌, arith}
 use Rattle.std.specs.Prelude.{fold}
-use Rattle.std.specs.List.{All}
 use Rattle.std.proofs.lemmas.Bool.{cond-true, lt-ltb}
-use Rattle.std.proofs.lemmas.List.Elements.{All-nil, All-cons, All-head, All-tail, All-map, All-filter}
+use Rattle.std.proofs.lemmas.List.Elements.{All-cons, All-head, All-tail, All-map, All-filter}
 use Rattle.plc_base.specs.Times.{is_within}
-use Rattle.plc_base.proofs.EarlierEnds.{earlier}
+use Rattle.plc_base.proofs.EarlierEnds.{earlier, all_last}
 use Rattle.block_pool.specs.Pool.{PoolState}
 use Rattle.mesh_header.specs.Pieces.{Placed}
 use Rattle.fragment_buffers.specs.Reassembly.{PlacedPiece, Reassembly, placed, begun, datagram_of, repeats, overlaps}
@@ -13,18 +12,12 @@ use Rattle.fragment_buffers.specs.Taking.{Held, Full, taken, taken_in, has_room,
 use Rattle.fragment_buffers.specs.Entries.{Entry, told, reassembly_in}
 use Rattle.fragment_buffers.specs.FirstEnd.{end_by, first_end, IsStill}
 
-all_last : (entries : List Entry) (time : ℕ) → (fold end_by time entries ≤ time) × All (λ e. fold end_by time entries ≤ e.since + 60) entries
-all_last [] time = (omega arith, All-nil (λ (e : Entry). time ≤ e.since + 60))
-all_last (e ∷ entries) time =
-    let first : ℕ = fold end_by (end_by time e) entries in
-    let rest = all_last entries (end_by time e) in
-    let one = earlier time (e.since + 60) in
-    (omega (arith, rest.0, one.0), All-cons (λ (x : Entry). first ≤ x.since + 60) e entries (omega (arith, rest.0, one.1)) rest.1)
-
 -- what is computed is such a time
 pub still : (pool : PoolState) (entries : List Entry) → IsStill (first_end entries) (told pool entries)
 unfolding first_end
-still pool entries = All-map (λ (r : Reassembly). fold end_by 18446744073709551615 entries ≤ r.since + 60) (reassembly_in pool) entries (all_last entries 18446744073709551615).1
+still pool entries =
+    All-map (λ (r : Reassembly). fold end_by 18446744073709551615 entries ≤ r.since + 60) (reassembly_in pool) entries
+    (all_last end_by (λ (time : ℕ) (e : Entry). time ≤ e.since + 60) (λ time e. earlier time (e.since + 60)) (λ sooner later e le lasts. omega (arith, le, lasts)) entries 18446744073709551615).1
 
 pub still_sooner : (a b : ℕ) (held : List Reassembly) → a ≤ b → IsStill b held → IsStill a held
 still_sooner a b held le h = λ k d lt. omega (arith, le, h k d lt)

@@ -8,7 +8,7 @@ use Rattle.std.proofs.lemmas.List.Elements.{All-head, All-tail}
 use Rattle.std.specs.List.{list_any, slice_get, slice_range, All}
 use Rattle.mesh_header.specs.Pieces.{Placed, IsPiece}
 use Rattle.block_pool.specs.Pool.{PoolState, chain_octets, overwrite}
-use Rattle.fragment_buffers.specs.declared.place.Place.{Place}
+use Rattle.fragment_buffers.specs.declared.piece_span.PieceSpan.{PieceSpan}
 use Rattle.fragment_buffers.specs.Reassembly.{PlacedPiece, placed, overlap, overlaps, repeats, octet_of, octet_at, first_of, before_all, gathered, datagram_of}
 use Rattle.fragment_buffers.specs.Entries.{Entry, IsEntry, IsPlace, IsCovered, HasGap, place_of, same_place, meet, covers, piece_in, reassembly_in}
 use Rattle.fragment_buffers.proofs.Octets.{length-slice, slice_apart, slice_written, get-slice, get-past, list_any-map, map_same}
@@ -16,30 +16,30 @@ use Rattle.fragment_buffers.proofs.Places.{none_passes, apart_parts}
 
 -- # Tests on places are tests on pieces
 
-pub overlaps_in : (os : List ℕ) (ps : List Place) (piece : Placed) → All (IsPlace (length os)) ps → overlaps (map (piece_in os) ps) (placed piece) ≡ list_any (meet (place_of piece)) ps
+pub overlaps_in : (os : List ℕ) (ps : List PieceSpan) (piece : Placed) → All (IsPlace (length os)) ps → overlaps (map (piece_in os) ps) (placed piece) ≡ list_any (meet (place_of piece)) ps
 overlaps_in os ps piece places =
     list_any-map (overlap (placed piece)) (meet (place_of piece)) (piece_in os) ps (λ k d lt.
-    let q : Place = get_or ps k d in
+    let q : PieceSpan = get_or ps k d in
     ap (λ n. nat_lt (q.offset * 8) (piece.offset * 8 + length piece.octets) && nat_lt (piece.offset * 8) (q.offset * 8 + n)) (length-slice os (q.offset * 8) q.length (places k d lt).within))
 
 same_units : (a b m n : ℕ) → ((a * 8 == b * 8) && (m == n)) ≡ ((a == b) && (m == n))
 same_units a b m n = grind (arith, nat_tests)
 
-pub repeats_in : (os : List ℕ) (ps : List Place) (piece : Placed) → All (IsPlace (length os)) ps → repeats (map (piece_in os) ps) (placed piece) ≡ list_any (same_place (place_of piece)) ps
+pub repeats_in : (os : List ℕ) (ps : List PieceSpan) (piece : Placed) → All (IsPlace (length os)) ps → repeats (map (piece_in os) ps) (placed piece) ≡ list_any (same_place (place_of piece)) ps
 repeats_in os ps piece places =
     list_any-map (λ q. (q.start == piece.offset * 8) && (length q.octets == length piece.octets)) (same_place (place_of piece)) (piece_in os) ps (λ k d lt.
-    let q : Place = get_or ps k d in
+    let q : PieceSpan = get_or ps k d in
     ap (λ n. (q.offset * 8 == piece.offset * 8) && (n == length piece.octets)) (length-slice os (q.offset * 8) q.length (places k d lt).within) ∙ same_units q.offset piece.offset q.length (length piece.octets))
 
 -- # A piece that is written
 
-pub written_in : (os : List ℕ) (ps : List Place) (piece : Placed) → IsPiece piece → length os ≡ piece.size → All (IsPlace (length os)) ps → list_any (meet (place_of piece)) ps ≡ false
+pub written_in : (os : List ℕ) (ps : List PieceSpan) (piece : Placed) → IsPiece piece → length os ≡ piece.size → All (IsPlace (length os)) ps → list_any (meet (place_of piece)) ps ≡ false
     → map (piece_in (overwrite os (piece.offset * 8) piece.octets)) (ps ++ place_of piece ∷ []) ≡ map (piece_in os) ps ++ placed piece ∷ []
 written_in os ps piece rule long places none =
     let new : List ℕ = overwrite os (piece.offset * 8) piece.octets in
     let fits : piece.offset * 8 + length piece.octets ≤ length os = omega (arith, rule.within) in
     let old : map (piece_in new) ps ≡ map (piece_in os) ps = map_same (piece_in new) (piece_in os) ps (λ k d lt.
-    let q : Place = get_or ps k d in
+    let q : PieceSpan = get_or ps k d in
     ap (λ octets. record { start = q.offset * 8; octets = octets })
     (slice_apart os (piece.offset * 8) piece.octets (q.offset * 8) q.length (places k d lt).within fits (apart_parts (place_of piece) q (none_passes (meet (place_of piece)) ps none k d lt) rule.some (places k d lt).some))) in
     map-append (piece_in new) ps (place_of piece ∷ []) ∙ ap (λ xs. xs ++ piece_in new (place_of piece) ∷ []) old
@@ -47,7 +47,7 @@ written_in os ps piece rule long places none =
 
 -- # The octets at a position
 
-octet_in : (os : List ℕ) (q : Place) (i : ℕ) → IsPlace (length os) q → covers i q ≡ true → octet_of (piece_in os q) i ≡ slice_get os i
+octet_in : (os : List ℕ) (q : PieceSpan) (i : ℕ) → IsPlace (length os) q → covers i q ≡ true → octet_of (piece_in os q) i ≡ slice_get os i
 octet_in os q i place h =
     let parts = and_parts _ _ h in
     cond-true (nat_le (q.offset * 8) i) _ _ parts.0 ∙ get-slice os i (q.offset * 8) q.length (leb-true _ _ parts.0) (ltb-true _ _ parts.1) place.within
@@ -56,7 +56,7 @@ late_out : (os : List ℕ) (a n i : ℕ) (b : Bool) → nat_le a i ≡ b → (b 
 late_out os a n i false e h = refl
 late_out os a n i true e h = get-past os a n (i - a) (omega (arith, ltb-false _ _ h, leb-true _ _ e))
 
-octet_out : (os : List ℕ) (q : Place) (i : ℕ) → covers i q ≡ false → octet_of (piece_in os q) i ≡ None
+octet_out : (os : List ℕ) (q : PieceSpan) (i : ℕ) → covers i q ≡ false → octet_of (piece_in os q) i ≡ None
 octet_out os q i h = late_out os (q.offset * 8) q.length i _ refl h
 
 pub first_some : (o rest : Option ℕ) (x : ℕ) → o ≡ Some x → first_of o rest ≡ Some x
@@ -67,7 +67,7 @@ pub first_none : (o rest : Option ℕ) → o ≡ None → first_of o rest ≡ re
 first_none None rest e = refl
 first_none (Some y) rest e = cc
 
-octet_covered : (os : List ℕ) (ps : List Place) (i : ℕ) → All (IsPlace (length os)) ps → i < length os → list_any (covers i) ps ≡ true → octet_at (map (piece_in os) ps) i ≡ slice_get os i
+octet_covered : (os : List ℕ) (ps : List PieceSpan) (i : ℕ) → All (IsPlace (length os)) ps → i < length os → list_any (covers i) ps ≡ true → octet_at (map (piece_in os) ps) i ≡ slice_get os i
 octet_covered os [] i places lt h = cc
 octet_covered os (q ∷ qs) i places lt h =
     let rest : Option ℕ = octet_at (map (piece_in os) qs) i in
@@ -80,7 +80,7 @@ octet_covered os (q ∷ qs) i places lt h =
           ∙ octet_covered os qs i (All-tail (IsPlace (length os)) q qs places) lt (sym (ap (λ b. b || list_any (covers i) qs) not_here) ∙ h)
     ]
 
-octet_uncovered : (os : List ℕ) (ps : List Place) (i : ℕ) → list_any (covers i) ps ≡ false → octet_at (map (piece_in os) ps) i ≡ None
+octet_uncovered : (os : List ℕ) (ps : List PieceSpan) (i : ℕ) → list_any (covers i) ps ≡ false → octet_at (map (piece_in os) ps) i ≡ None
 octet_uncovered os [] i h = refl
 octet_uncovered os (q ∷ qs) i h =
     let parts = or_parts (covers i q) (list_any (covers i) qs) h in

@@ -10,7 +10,7 @@ use Rattle.std.proofs.lemmas.Map.Steps.{length-le_from_distinct_below}
 use Rattle.std.proofs.lemmas.Map.Made.{IsDistinct-from_AllPairs}
 use Rattle.std.specs.List.{list_any, All, AllPairs}
 use Rattle.mesh_header.specs.Pieces.{Placed, IsPiece}
-use Rattle.fragment_buffers.specs.declared.place.Place.{Place}
+use Rattle.fragment_buffers.specs.declared.piece_span.PieceSpan.{PieceSpan}
 use Rattle.fragment_buffers.specs.Entries.{Entry, IsEntry, IsPlace, IsCovered, place_of, meet, covers}
 
 pub piece_place : (piece : Placed) → IsPiece piece → IsPlace piece.size (place_of piece)
@@ -23,49 +23,49 @@ none_passes t (x ∷ xs) h (suc k) d lt = none_passes t xs (or_parts (t x) (list
 
 -- # How many
 
-meet_flips : (p q : Place) → meet p q ≡ false → meet q p ≡ false
+meet_flips : (p q : PieceSpan) → meet p q ≡ false → meet q p ≡ false
 meet_flips p q h = grind (arith, nat_tests)
 
 meet_parts : (a m b n : ℕ) → (nat_lt b (a + m) && nat_lt a (b + n)) ≡ false → 0 < m → 0 < n → (b + n ≤ a) ⊎ (a + m ≤ b)
 meet_parts a m b n h pm pn = grind (arith, nat_tests)
 
-pub apart_parts : (p q : Place) → meet p q ≡ false → 0 < p.length → 0 < q.length → (q.offset * 8 + q.length ≤ p.offset * 8) ⊎ (p.offset * 8 + p.length ≤ q.offset * 8)
+pub apart_parts : (p q : PieceSpan) → meet p q ≡ false → 0 < p.length → 0 < q.length → (q.offset * 8 + q.length ≤ p.offset * 8) ⊎ (p.offset * 8 + p.length ≤ q.offset * 8)
 apart_parts p q h pm pn = meet_parts (p.offset * 8) p.length (q.offset * 8) q.length h pm pn
 
-apart_offsets : (size : ℕ) (p q : Place) → IsPlace size p → IsPlace size q → meet p q ≡ false → p.offset ≢ q.offset
+apart_offsets : (size : ℕ) (p q : PieceSpan) → IsPlace size p → IsPlace size q → meet p q ≡ false → p.offset ≢ q.offset
 apart_offsets size p q ip iq h = λ e. elim (apart_parts p q h ip.some iq.some) [
   | inl before ↦ omega (arith, iq.some)
   | inr after ↦ omega (arith, ip.some)
 ]
 
-pub apart_push : (ps : List Place) (p : Place) → AllPairs (λ p q. meet p q ≡ false) ps → list_any (meet p) ps ≡ false → AllPairs (λ p q. meet p q ≡ false) (ps ++ p ∷ [])
+pub apart_push : (ps : List PieceSpan) (p : PieceSpan) → AllPairs (λ p q. meet p q ≡ false) ps → list_any (meet p) ps ≡ false → AllPairs (λ p q. meet p q ≡ false) (ps ++ p ∷ [])
 apart_push ps p apart none = all_pairs_push (λ p q. meet p q ≡ false) ps p apart (λ k d lt. meet_flips p (get_or ps k d) (none_passes (meet p) ps none k d lt))
 
 -- all places of pieces begin at units of their own
-at_most : (size : ℕ) (ps : List Place) → size ≤ 1280 → All (IsPlace size) ps → AllPairs (λ p q. meet p q ≡ false) ps → length ps ≤ 160
+at_most : (size : ℕ) (ps : List PieceSpan) → size ≤ 1280 → All (IsPlace size) ps → AllPairs (λ p q. meet p q ≡ false) ps → length ps ≤ 160
 at_most size ps le places apart =
     let offsets : List ℕ = map (λ p. p.offset) ps in
     let long : length offsets ≡ length ps = length-map ps (λ p. p.offset) in
     let differ : AllPairs (λ x y. x ≢ y) offsets = λ i j d lt lj.
-    let p : Place = get_or ps i (record { offset = d; length = 0 }) in
-    let q : Place = get_or ps j (record { offset = d; length = 0 }) in
+    let p : PieceSpan = get_or ps i (record { offset = d; length = 0 }) in
+    let q : PieceSpan = get_or ps j (record { offset = d; length = 0 }) in
     let ne : p.offset ≢ q.offset = apart_offsets size p q (places i _ (omega (arith, long))) (places j _ (omega (arith, long))) (apart i j _ lt (omega (arith, long))) in
     λ e. ne (sym (get_or-map (λ p. p.offset) ps i (record { offset = d; length = 0 }) d (omega (arith, long))) ∙ e ∙ get_or-map (λ p. p.offset) ps j (record { offset = d; length = 0 }) d (omega (arith, long))) in
     let below : (q : ℕ) → list_any (eqb q) offsets ≡ true → q < 160 = λ q found.
     let any = Any-from_list_any (eqb q) offsets found in
-    let p : Place = get_or ps any.0 (record { offset = any.1; length = 0 }) in
+    let p : PieceSpan = get_or ps any.0 (record { offset = any.1; length = 0 }) in
     let is : p.offset ≡ get_or offsets any.0 any.1 = sym (get_or-map (λ p. p.offset) ps any.0 (record { offset = any.1; length = 0 }) any.1 (omega (arith, long, any.2))) in
     let place : IsPlace size p = places any.0 _ (omega (arith, long, any.2)) in
     omega (arith, is, any.3, eqb-true q any.1 any.4, place.some, place.within) in
     omega (arith, long, length-le_from_distinct_below offsets 160 (IsDistinct-from_AllPairs Decides-eqb offsets differ) below)
 
-pub room_for_one : (size : ℕ) (ps : List Place) (p : Place) → size ≤ 1280 → All (IsPlace size) ps → AllPairs (λ p q. meet p q ≡ false) ps → IsPlace size p → list_any (meet p) ps ≡ false → length ps < 160
+pub room_for_one : (size : ℕ) (ps : List PieceSpan) (p : PieceSpan) → size ≤ 1280 → All (IsPlace size) ps → AllPairs (λ p q. meet p q ≡ false) ps → IsPlace size p → list_any (meet p) ps ≡ false → length ps < 160
 room_for_one size ps p le places apart place none =
     omega (arith, length-append ps (p ∷ []), at_most size (ps ++ p ∷ []) le (All-push (IsPlace size) ps p places place) (apart_push ps p apart none))
 
 -- # Units of 8 octets
 
-covers_rest : (size i : ℕ) (p : Place) → IsPlace size p → i < size → covers (i / 8 * 8) p ≡ true → covers i p ≡ true
+covers_rest : (size i : ℕ) (p : PieceSpan) → IsPlace size p → i < size → covers (i / 8 * 8) p ≡ true → covers i p ≡ true
 covers_rest size i p place lt h =
     let parts = and_parts _ _ h in
     let from : p.offset * 8 ≤ i / 8 * 8 = leb-true _ _ parts.0 in

@@ -212,7 +212,7 @@ has_come_push : (k : ℕ) (cs : List Coming) (c : Coming) → has_come k (cs ++ 
 has_come_push k [] c = or-false (k == c.piece)
 has_come_push k (b ∷ cs) c = ap (λ x. (k == b.piece) || x) (has_come_push k cs c) ∙ sym (or_assoc (k == b.piece) (has_come k cs) (k == c.piece))
 
--- the reassembly stands behind the others, of the pieces ks
+-- the reassembly stands after the others, of the pieces ks
 pub record Gathers (held : List Reassembly) (origin : ℕ) (d : List ℕ) (tag note : ℕ) (here : List Reassembly) (came : ℕ → Bool) : Type 0 where
   pub since : ℕ
   pub parts : List ℕ

@@ -9,7 +9,7 @@ use Rattle.block_pool.specs.Pool.{PoolState, IsChain, chain_octets, overwrite}
 use Rattle.block_pool.proofs.Chains.{get-insert_other, get-remove_other}
 use Rattle.block_pool.proofs.Callers.{chain_octets-insert, chain_octets-insert_other, chain_octets-remove_other}
 use Rattle.block_pool.proofs.Overwrites.{length-overwrite}
-use Rattle.fragment_buffers.specs.declared.place.Place.{Place}
+use Rattle.fragment_buffers.specs.declared.piece_span.PieceSpan.{PieceSpan}
 use Rattle.fragment_buffers.specs.Reassembly.{PlacedPiece, Reassembly, begun, placed, overlaps}
 use Rattle.fragment_buffers.specs.Taking.{grown}
 use Rattle.fragment_buffers.specs.Entries.{Entry, IsEntry, IsPlace, place_of, meet, piece_in, reassembly_in}
@@ -115,7 +115,7 @@ told_grown p q e e' f piece note now before rule ok size tag long w =
 
 -- # Beginning
 
-abbrev pub entry_begun : (origin : ℕ) → Placed → (note now chain : ℕ) → List Place → Entry
+abbrev pub entry_begun : (origin : ℕ) → Placed → (note now chain : ℕ) → List PieceSpan → Entry
 entry_begun origin piece note now chain places = record { origin = origin; size = piece.size; tag = piece.tag; note = note; since = now; chain = chain; places = places }
 
 pub begun_fits : (p : PoolState) (piece : Placed) (origin note now chain : ℕ) → IsPiece piece → length (chain_octets p chain) ≡ piece.size → Fits p (entry_begun origin piece note now chain []) piece
@@ -131,11 +131,11 @@ pub told_begun : (p q : PoolState) (f : Entry) (piece : Placed) (origin note now
     → Writes p q (entry_begun origin piece note now chain []) f piece → reassembly_in q f ≡ begun origin piece note now
 told_begun p q f piece origin note now chain rule long w = told_written p q (entry_begun origin piece note now chain []) f piece (begun_fits p piece origin note now chain rule long) w
 
-abbrev entry_of_parts : (origin note now chain size tag : ℕ) → List Place → Placed → Entry
+abbrev entry_of_parts : (origin note now chain size tag : ℕ) → List PieceSpan → Placed → Entry
 entry_of_parts origin note now chain size tag ps piece = record { origin = origin; size = size; tag = tag; note = note; since = now; chain = chain; places = ps ++ place_of piece ∷ [] }
 
 -- an entry whose parts were read one by one
-pub same_parts : (e : Entry) (origin note now chain size tag : ℕ) (ps : List Place) (piece : Placed) → e ≡ entry_of_parts origin note now chain size tag ps piece → size ≡ piece.size → tag ≡ piece.tag → ps ≡ []
+pub same_parts : (e : Entry) (origin note now chain size tag : ℕ) (ps : List PieceSpan) (piece : Placed) → e ≡ entry_of_parts origin note now chain size tag ps piece → size ≡ piece.size → tag ≡ piece.tag → ps ≡ []
     → e ≡ entry_of_parts origin note now chain piece.size piece.tag [] piece
 same_parts e origin note now chain size tag ps piece is is_size is_tag none =
     is ∙ ap (λ n. entry_of_parts origin note now chain n tag ps piece) is_size ∙ ap (λ t. entry_of_parts origin note now chain piece.size t ps piece) is_tag

@@ -4,7 +4,7 @@ use Rattle.std.specs.List.{sum_by, list_any, All, AllPairs}
 use Rattle.std.specs.Coded.{Coded, code_by, coded×, coded_ℕ, coded_list}
 use Rattle.block_pool.specs.Pool.{PoolState, IsChain, chain_octets}
 use Rattle.mesh_header.specs.Pieces.{Placed}
-use Rattle.fragment_buffers.specs.declared.place.Place.{Place}
+use Rattle.fragment_buffers.specs.declared.piece_span.PieceSpan.{PieceSpan}
 use Rattle.fragment_buffers.specs.Reassembly.{PlacedPiece, Reassembly}
 use Rattle.fragment_buffers.specs.Taking.{blocks}
 
@@ -16,15 +16,15 @@ pub record Entry : Type 0 where
   pub note : ℕ
   pub since : ℕ
   pub chain : ℕ
-  pub places : List Place
+  pub places : List PieceSpan
 
-abbrev pub place_code : Coded Place
+abbrev pub place_code : Coded PieceSpan
 place_code = code_by (ℕ × ℕ) (coded× coded_ℕ coded_ℕ) (λ p. (p.offset, p.length))
     (λ q. record { offset = q.0; length = q.1 }) (λ _. refl)
 
 abbrev pub entry_code : Coded Entry
 entry_code =
-    code_by (ℕ × (ℕ × (ℕ × (ℕ × (ℕ × (ℕ × List Place))))))
+    code_by (ℕ × (ℕ × (ℕ × (ℕ × (ℕ × (ℕ × List PieceSpan))))))
     (coded× coded_ℕ
     (coded× coded_ℕ (coded× coded_ℕ (coded× coded_ℕ (coded× coded_ℕ (coded× coded_ℕ (coded_list place_code)))))))
     (λ e. (e.origin, (e.size, (e.tag, (e.note, (e.since, (e.chain, e.places)))))))
@@ -54,7 +54,7 @@ blocks_used es = sum_by (λ e. blocks e.size) es
 -- # What they are with their pool
 
 -- the octets that a chain has at a place
-abbrev pub piece_in : List ℕ → Place → PlacedPiece
+abbrev pub piece_in : List ℕ → PieceSpan → PlacedPiece
 piece_in octets p =
     record { start = p.offset * 8; octets = slice_range octets (p.offset * 8) (p.offset * 8 + p.length) }
 
@@ -93,18 +93,18 @@ pub record Moves (p q : PoolState) (es fs : List Entry) : Type 0 where
 -- # Places
 
 -- the place of a piece
-abbrev pub place_of : Placed → Place
+abbrev pub place_of : Placed → PieceSpan
 place_of piece = record { offset = piece.offset; length = length piece.octets }
 
-abbrev pub same_place : Place → Place → Bool
+abbrev pub same_place : PieceSpan → PieceSpan → Bool
 same_place p q = (q.offset == p.offset) && (q.length == p.length)
 
 -- an octet stands at both
-abbrev pub meet : Place → Place → Bool
+abbrev pub meet : PieceSpan → PieceSpan → Bool
 meet p q = nat_lt (q.offset * 8) (p.offset * 8 + p.length) && nat_lt (p.offset * 8) (q.offset * 8 + q.length)
 
 -- an octet stands at the position
-abbrev pub covers : ℕ → Place → Bool
+abbrev pub covers : ℕ → PieceSpan → Bool
 covers i p = nat_le (p.offset * 8) i && nat_lt i (p.offset * 8 + p.length)
 
 -- every position of the datagram lies in a piece, or one does not
@@ -115,7 +115,7 @@ abbrev pub HasGap : Entry → Type 0
 HasGap e = (i : ℕ) × (i < e.size) × (list_any (covers i) e.places ≡ false)
 
 -- the place of a piece in a datagram of this size
-pub record IsPlace (size : ℕ) (p : Place) : Type 0 where
+pub record IsPlace (size : ℕ) (p : PieceSpan) : Type 0 where
   pub some : 0 < p.length
   pub within : p.offset * 8 + p.length ≤ size
   pub eighths : p.offset * 8 + p.length < size → p.length % 8 ≡ 0

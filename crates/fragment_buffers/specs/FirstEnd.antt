@@ -5,7 +5,7 @@ use Rattle.plc_base.specs.Times.{earlier_end}
 use Rattle.fragment_buffers.specs.Reassembly.{Reassembly}
 use Rattle.fragment_buffers.specs.Entries.{Entry}
 
--- a time, or when a reassembly expires, where that is earlier
+-- the earlier of a time and of when a reassembly expires
 abbrev pub end_by : ℕ → Entry → ℕ
 end_by time e = earlier_end 60 time e.since
 

@@ -49,7 +49,7 @@ IsShort (Command octets) = Unit {0}
 abbrev pub own_mesh : ℕ → ℕ → Mesh
 own_mesh own to = record { hops = 14; origin = own; to = to }
 
--- the units of a load: a datagram that fits goes whole, a longer one in pieces, and a command behind its code
+-- the units of a load: a datagram that fits goes whole, a longer one in pieces, and a command after its code
 abbrev pub units_of : ℕ → ℕ → Load → List MeshUnit
 units_of own to (Datagram octets tag) =
     if nat_le (length octets) 375 then Whole (own_mesh own to) octets ∷ []

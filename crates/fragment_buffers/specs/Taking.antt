@@ -57,7 +57,7 @@ joined r anew p rest =
 abbrev pub behind : Reassembly → Taking → Taking
 behind r t = record t { held = r ∷ t.held }
 
--- the piece joins the first reassembly of its name, or begins one behind all others
+-- the piece joins the first reassembly of its name, or begins one after all others
 unfoldable pub taken_in : List Reassembly → (anew : Reassembly) → PlacedPiece → Taking
 taken_in [] anew p = settled (datagram_of anew) anew []
 taken_in (r ∷ rest) anew p = if same_name anew r then joined r anew p rest else behind r (taken_in rest anew p)

@@ -11,7 +11,7 @@ ghost use Rattle.fragment_buffers.specs.Reassembly.{begun, placed, datagram_of};
 ghost use Rattle.fragment_buffers.specs.Taking.{grown};
 ghost use Rattle.fragment_buffers.specs.FirstEnd.{end_by};
 
-use crate::place::Place;
+use crate::piece_span::PieceSpan;
 use arrayvec::ArrayVec;
 use block_pool::{Chain, Pool};
 use mesh_header::Piece;
@@ -20,6 +20,9 @@ use std::marker::Model;
 
 /// The most pieces of a datagram: each begins at a unit of 8 octets of its own, of which 1,280 octets have 160.
 const PIECES: usize = 160;
+
+/// Blanks, as many as a datagram may have octets. A buffer gets its length by them, before the datagram is read into it.
+static BLANKS: [u8; 1280] = [0; 1280];
 
 /// A reassembly: its name, the note and the time of its first piece, the chain with its octets, and the places of its pieces. A
 /// blank one has no chain.
@@ -31,7 +34,7 @@ pub struct Buffer {
     note: u32,
     since: u64,
     chain: Option<Chain>,
-    places: ArrayVec<Place, PIECES>,
+    places: ArrayVec<PieceSpan, PIECES>,
 }
 
 impl Model for Buffer {
@@ -97,7 +100,7 @@ impl Buffer {
         !is_within(60, now, self.since)
     }
 
-    /// A time, or when it expires, where that is earlier.
+    /// The earlier of a time and of when it expires.
     pub(crate) fn end_by(&self, time: u64) -> u64
         ensures { result ≡ end_by time self.now }
     {
@@ -109,7 +112,7 @@ impl Buffer {
         ensures value { result ≡ list_any (same_place (place_of piece.now)) self.now.places }
         ensures rule { IsEntry self.now }
     {
-        let new = Place::of(piece);
+        let new = PieceSpan::of(piece);
         self.places.iter().any(|held| held.offset == new.offset && held.length == new.length)
     }
 
@@ -118,7 +121,7 @@ impl Buffer {
         ensures value { result ≡ list_any (meet (place_of piece.now)) self.now.places }
         ensures rule { IsEntry self.now }
     {
-        let new = Place::of(piece);
+        let new = PieceSpan::of(piece);
         let start = u32::from(new.start());
         let end = new.end();
         self.places
@@ -138,7 +141,7 @@ impl Buffer {
             ≡ map.insert pool.old.chains self.old.chain
             (overwrite (chain_octets pool.old self.old.chain) (piece.now.offset * 8) piece.now.octets) }
     {
-        let place = Place::of(piece);
+        let place = PieceSpan::of(piece);
         let Some(chain) = &self.chain else {
             unreachable!()
         };
@@ -193,20 +196,18 @@ impl Buffer {
         true
     }
 
-    /// Appends the datagram's octets, as they stand in the chain.
+    /// Reads the datagram's octets, as they stand in the chain, into an empty buffer.
     pub(crate) fn read(&self, pool: &Pool, out: &mut DatagramBuf)
         requires empty { out.old ≡ [] }
         requires some { 0 < self.now.size }
         requires chain { length (chain_octets pool.now self.now.chain) ≡ self.now.size }
         ensures { out.new ≡ chain_octets pool.now self.now.chain }
     {
-        let mut octets = [0; 1280];
-        let octets = &mut octets[..self.size as usize];
+        out.append(&BLANKS[..self.size as usize]);
         let Some(chain) = &self.chain else {
             unreachable!()
         };
-        pool.read_at(chain, 0, octets);
-        out.append(octets);
+        pool.read_at(chain, 0, out.octets_mut());
     }
 
     /// The note of the first piece.

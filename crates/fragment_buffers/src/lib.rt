@@ -10,7 +10,7 @@ mod buffer;
 mod cutting;
 mod laws;
 mod next_tag;
-mod place;
+mod piece_span;
 mod reassembly;
 
 pub use cutting::{cut_piece, pieces};
@@ -20,5 +20,5 @@ pub use laws::{
     the_pieces_of_a_datagram_come_together,
 };
 pub use next_tag::NextTag;
-pub use place::Place;
+pub use piece_span::PieceSpan;
 pub use reassembly::{BufferFull, Reassembly, Taken};

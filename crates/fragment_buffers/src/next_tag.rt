@@ -7,7 +7,7 @@ ghost use Rattle.fragment_buffers.specs.NextTag.{tag_in, tag_slot, IsKept, tag_a
 use plc_base::{BadStore, Failed, Keeper, NumberSlot};
 use std::marker::Model;
 
-/// Names the pieces of each datagram that is cut by a tag of its own, also over losses of power: the next tag is always stored
+/// Names the pieces of each datagram that is cut by a tag of its own, even over losses of power: the next tag is always stored
 /// (the datagram tag of RFC 4944, 5.3).
 ///
 /// A contract sees the tag.

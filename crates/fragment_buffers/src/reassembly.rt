@@ -135,7 +135,7 @@ impl Reassembly {
         }
     }
 
-    // When the first reassembly expires, the last second of 64 bits where none does.
+    // When the first reassembly expires, 2^64 - 1 where none is there.
     #[tactic(auto, unfolding(crate::specs::FirstEnd::first_end))]
     fn first_end(&self) -> u64
         ensures { result ≡ first_end self.now }
@@ -147,9 +147,10 @@ impl Reassembly {
         end
     }
 
-    /// When a reassembly expires at the earliest: before that, none does.
+    /// When the first reassembly expires, in seconds: before that, none does. It is 2^64 - 1 where none is there.
     pub fn next_end(&self) -> u64
-        ensures { (pool : PoolState) → IsStill result (told pool self.now) }
+        ensures value { result ≡ first_end self.now }
+        ensures still { (pool : PoolState) → IsStill result (told pool self.now) }
     {
         self.first_end()
     }
@@ -214,7 +215,7 @@ impl Reassembly {
         Ok(self.settle(pool, index, out))
     }
 
-    /// Begins a reassembly behind all others.
+    /// Begins a reassembly after all others.
     fn push(&mut self, pool: &mut Pool, origin: Short, piece: &Piece<'_>, note: u32, now: u64)
         requires keeps { Keeps pool.old self.old }
         requires rule { IsPiece piece.now }

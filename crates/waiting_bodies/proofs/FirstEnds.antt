@@ -1,38 +1,41 @@
 -- Before the first of the bodies ends, none does.
-use Rattle.std.proofs.Common.{◌≡◌, ℕ, suc, ◌+◌, ◌<◌, ◌≤◌, List, [], ◌∷◌, ◌++◌, take, drop, refl, ap, ◌∙◌, arith}
+use Rattle.std.proofs.Common.{◌≡◌, ℕ, suc, ◌+◌, ◌<◌, ◌≤◌, List, [], ◌∷◌, ◌++◌, take, drop, refl, sym, ap, ◌∙◌, arith}
 use Rattle.std.specs.Prelude.{fold}
 use Rattle.std.specs.List.{All, remove}
 use Rattle.std.proofs.lemmas.Bool.{cond-true, lt-ltb}
-use Rattle.std.proofs.lemmas.List.Elements.{All-nil, All-cons, All-head, All-tail, All-map, All-push, All-append, All-take, All-drop}
+use Rattle.std.proofs.lemmas.List.Folds.{fold-map}
+use Rattle.std.proofs.lemmas.List.Elements.{All-nil, All-head, All-tail, All-map, All-push, All-append, All-take, All-drop}
 use Rattle.plc_base.specs.Times.{earlier_end}
-use Rattle.plc_base.proofs.EarlierEnds.{earlier}
+use Rattle.plc_base.proofs.EarlierEnds.{earlier, all_last}
 use Rattle.block_pool.specs.Pool.{PoolState}
 use Rattle.mesh_header.specs.Pieces.{Placed}
 use Rattle.fragment_buffers.specs.Reassembly.{Reassembly}
 use Rattle.fragment_buffers.specs.Taking.{taken, unexpired}
-use Rattle.fragment_buffers.specs.Entries.{Entry, told}
+use Rattle.fragment_buffers.specs.Entries.{Entry, told, reassembly_in}
 use Rattle.fragment_buffers.specs.Waiting.{Body, still_waiting}
 use Rattle.fragment_buffers.specs.FirstEnd as pieces
 use Rattle.fragment_buffers.proofs.FirstEnds.{none_expires, still_sooner, still_taken, still_unexpired}
 use Rattle.waiting_bodies.specs.Bodies.{Held, Slot}
 use Rattle.waiting_bodies.specs.BodiesInPool.{body_in, bodies_in}
-use Rattle.waiting_bodies.specs.FirstEnd.{end_by, IsStill}
+use Rattle.waiting_bodies.specs.FirstEnd.{end_by, first_end, IsStill}
 
-all_last : (ws : List Slot) (time : ℕ) → (fold end_by time ws ≤ time) × All (λ w. fold end_by time ws ≤ w.since + 30) ws
-all_last [] time = (omega arith, All-nil (λ (w : Slot). time ≤ w.since + 30))
-all_last (w ∷ ws) time =
-    let first : ℕ = fold end_by (end_by time w) ws in
-    let rest = all_last ws (end_by time w) in
-    let one = earlier time (w.since + 30) in
-    (omega (arith, rest.0, one.0), All-cons (λ (x : Slot). first ≤ x.since + 30) w ws (omega (arith, rest.0, one.1)) rest.1)
+slots_last : (ws : List Slot) (time : ℕ) → (fold end_by time ws ≤ time) × All (λ w. fold end_by time ws ≤ w.since + 30) ws
+slots_last ws time = all_last end_by (λ (time : ℕ) (w : Slot). time ≤ w.since + 30) (λ time w. earlier time (w.since + 30)) (λ sooner later w le lasts. omega (arith, le, lasts)) ws time
 
 -- what is computed is such a time
 pub still : (pool : PoolState) (es : List Entry) (ws : List Slot) (time : ℕ) → pieces.IsStill time (told pool es)
     → IsStill (fold end_by time ws) (record { reassemblies = told pool es; waiting = bodies_in pool ws })
 still pool es ws time before = record {
-  gathered = still_sooner (fold end_by time ws) time (told pool es) (all_last ws time).0 before;
-  waiting = All-map (λ (b : Body). fold end_by time ws ≤ b.since + 30) (body_in pool) ws (all_last ws time).1;
+  gathered = still_sooner (fold end_by time ws) time (told pool es) (slots_last ws time).0 before;
+  waiting = All-map (λ (b : Body). fold end_by time ws ≤ b.since + 30) (body_in pool) ws (slots_last ws time).1;
 }
+
+-- what is computed is the first end
+pub is_first : (pool : PoolState) (es : List Entry) (ws : List Slot) → fold end_by (pieces.first_end es) ws ≡ first_end (record { reassemblies = told pool es; waiting = bodies_in pool ws })
+unfolding first_end pieces.first_end
+is_first pool es ws =
+    ap (λ (time : ℕ). fold end_by time ws) (sym (fold-map (λ (time : ℕ) (r : Reassembly). earlier_end 60 time r.since) (reassembly_in pool) 18446744073709551615 es))
+    ∙ sym (fold-map (λ (time : ℕ) (b : Body). earlier_end 30 time b.since) (body_in pool) _ ws)
 
 wait_sooner : (a b : ℕ) (bs : List Body) → a ≤ b → All (λ x. b ≤ x.since + 30) bs → All (λ x. a ≤ x.since + 30) bs
 wait_sooner a b bs le h = λ k d lt. omega (arith, le, h k d lt)

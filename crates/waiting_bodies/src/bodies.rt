@@ -11,6 +11,7 @@ ghost use Rattle.plc_base.specs.Times.{is_within};
 ghost use Rattle.fragment_buffers.specs.Loads.{load_of, units_in};
 ghost use Rattle.fragment_buffers.specs.Waiting.{waits_for, is_awaited_in, waiting_blocks, no_room_in, still_waiting, units_by, leaving};
 ghost use Rattle.waiting_bodies.specs.FirstEnd.{end_by, IsStill};
+ghost use Rattle.waiting_bodies.specs.FirstEnd as ends;
 ghost use Rattle.waiting_bodies.specs.Frames.{body_at, frames_of, with_frames};
 
 use crate::sealing::seal_load;
@@ -49,7 +50,7 @@ impl Model for Waiting {
 }
 
 impl Waiting {
-    // A time, or when it has waited for too long, where that is earlier.
+    // The earlier of a time and of when it has waited for too long.
     fn end_by(&self, time: u64) -> u64
         ensures { result ≡ end_by time self.now }
     {
@@ -79,7 +80,7 @@ pub struct Bodies {
     reassembly: Reassembly,
     waiting: ArrayVec<Waiting, 8>,
     blocks: u16,
-    // Nothing ends before, in seconds.
+    // Nothing ends before this time, in seconds.
     next_end: u64,
 }
 
@@ -97,6 +98,9 @@ impl Model for Bodies {
     ghost invariant = { AreSound };
 }
 
+/// Where the octets of one body stand one after another while it is sealed.
+pub type BodyRoom = [u8; 1280];
+
 /// How many blocks the pool has.
 const BLOCKS: u16 = 160;
 
@@ -109,7 +113,7 @@ fn any_for(waiting: &ArrayVec<Waiting, 8>, to: Short) -> bool
         .any(|waiting| waiting.to.number() == to.number())
 }
 
-// A time, or when the first of the bodies has waited for too long, where that is earlier.
+// The earlier of a time and of when the first of the bodies has waited for too long.
 fn first_end(waiting: &ArrayVec<Waiting, 8>, time: u64) -> u64
     ensures { result ≡ fold end_by time waiting.now.items }
 {
@@ -139,7 +143,7 @@ impl Bodies {
 
     /// Takes a piece in, by the rule of reassembly: `out` has the datagram that it completes, and is empty where it completes none.
     ///
-    /// BufferFull where the piece needs a reassembly more, and 8 are held or their blocks would pass 80.
+    /// BufferFull exactly where the piece needs another reassembly, and 8 are held or their blocks would pass 80.
     pub fn gather(
         &mut self,
         origin: Short,
@@ -248,6 +252,7 @@ impl Bodies {
         aes: &Aes,
         first: u32,
         hop: Short,
+        room: &mut BodyRoom,
         out: &mut Out,
     )
         requires there { index < length self.now.waiting }
@@ -258,8 +263,7 @@ impl Bodies {
             (units_by grant.now.address hop (body_at self.now.waiting index))) out.old }
     {
         let waiting = &self.waiting[index];
-        let mut octets = [0; 1280];
-        let octets = &mut octets[..waiting.size as usize];
+        let octets = &mut room[..waiting.size as usize];
         let Some(chain) = &waiting.chain else {
             unreachable!()
         };
@@ -288,6 +292,7 @@ impl Bodies {
         aes: &Aes,
         first: u32,
         hop: Short,
+        room: &mut BodyRoom,
         out: &mut Out,
     )
         requires there { index < length self.now.waiting }
@@ -302,7 +307,7 @@ impl Bodies {
         if !self.waits_at(index, dest) {
             return;
         }
-        self.seal_at(index, grant, key, aes, first, hop, out);
+        self.seal_at(index, grant, key, aes, first, hop, room, out);
     }
 
     // Whether the body at a place waits for an address.
@@ -315,7 +320,8 @@ impl Bodies {
     }
 
     /// Seals the bodies that wait for an address for a next hop, in the order of their arrival, with counters from `first` on. Their
-    /// frames come after those that `out` has. They wait on until `drop_for`.
+    /// frames come after those that `out` has. They wait on until `drop_for`. Each is read into `room`, whose octets mean nothing
+    /// before and after.
     pub fn seal_leaving(
         &self,
         dest: Short,
@@ -324,6 +330,7 @@ impl Bodies {
         aes: &Aes,
         first: u32,
         hop: Short,
+        room: &mut BodyRoom,
         out: &mut Out,
     )
         requires aes { aes.now ≡ key.now.0 }
@@ -335,7 +342,7 @@ impl Bodies {
         let before = out.frames.frames().len();
         for index in 0..self.waiting.len() {
             let sealed = (out.frames.frames().len() - before) as u32;
-            self.seal_if(index, dest, grant, key, aes, first + sealed, hop, out);
+            self.seal_if(index, dest, grant, key, aes, first + sealed, hop, room, out);
         }
     }
 
@@ -420,9 +427,10 @@ impl Bodies {
         }
     }
 
-    // When something ends at the earliest: before that, nothing does.
+    // When the first of all ends, in seconds: before that, nothing does. It is 2^64 - 1 where nothing is held.
     fn next_end(&self) -> u64
-        ensures { IsStill result self.now }
+        ensures value { result ≡ ends.first_end self.now }
+        ensures still { IsStill result self.now }
     {
         first_end(&self.waiting, self.reassembly.next_end())
     }

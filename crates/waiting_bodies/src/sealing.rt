@@ -12,7 +12,8 @@ use mac_frames::{MacHead, seal_written, write_header};
 use mesh_header::{Mesh, Unit, append_unit};
 use plc_base::{Grant, Key, OctetRef, Out, OutFrame, PAN, Short};
 
-/// Seals a unit under the active key of a grant, with a counter, and appends its frame to the others.
+/// Seals a unit under a key, of which `aes` is the schedule, and appends its frame to the others. The frame has the counter, and the
+/// address and the active index of the grant.
 ///
 /// `to` is the address of a neighbour, or 0xFFFF for all.
 pub fn seal(
@@ -36,11 +37,11 @@ pub fn seal(
     let Some(frame) = out.frames.push_blank() else {
         unreachable!()
     };
-    write_sealed(grant, key, aes, counter, to, unit, note, frame);
+    write_frame(grant, key, aes, counter, to, unit, note, frame);
 }
 
-// Writes the frame of a unit where it stays: the header, the unit behind it, and then all of it sealed in place.
-fn write_sealed(
+// Writes the frame of a unit where it stays: the header, the unit after it, and then all of it sealed in place.
+fn write_frame(
     grant: &Grant,
     key: &Key,
     aes: &Aes,
@@ -73,7 +74,7 @@ fn write_sealed(
     frame.key = Some(*key);
 }
 
-/// The mesh header of what a node sends itself.
+/// The mesh header of a unit that a node originates.
 pub fn own_mesh(grant: &Grant, to: Short) -> Mesh
     ensures { result ≡ loads.own_mesh grant.now.address to }
 {
@@ -125,8 +126,8 @@ fn seal_cut(
     }
 }
 
-/// Seals the units of a load for a next hop, with counters from `first` on, and appends their frames to the others. The load is a
-/// datagram with its tag, or a command, which has none.
+/// Seals the units of a load for a next hop, with counters from `first` on, and appends their frames to the others, as [`seal`]
+/// does. The load is a datagram with its tag, or a command, which has none.
 pub fn seal_load(
     grant: &Grant,
     key: &Key,

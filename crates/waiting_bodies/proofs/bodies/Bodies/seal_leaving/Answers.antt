@@ -36,13 +36,13 @@ pub overflow_add-first : goal.overflow_add-first
 overflow_add-first c = omega (arith, sealed_is c, bounded c, c.requires.left)
 
 -- the same, one step later
-so_far_then : (c : goal.After-seal_if-arg-1) → length c.loop-index.out.frames ≡ length c.args.out.now.frames + length (leaving c.args.grant.now.address c.args.dest c.args.hop (take c.loop-index.index c.args.self.now.waiting))
+so_far_then : (c : goal.After-seal_if-arg-in-loop-index-1) → length c.loop-index.out.frames ≡ length c.args.out.now.frames + length (leaving c.args.grant.now.address c.args.dest c.args.hop (take c.loop-index.index c.args.self.now.waiting))
 so_far_then c = ap (λ (o : Out). length o.frames) c.loop-index.invariant ∙ length-append c.args.out.now.frames (frames_of c.args.grant.now c.args.key.now c.args.first (leaving c.args.grant.now.address c.args.dest c.args.hop (take c.loop-index.index c.args.self.now.waiting))) ∙ ap (λ n. length c.args.out.now.frames + n) (length-frames c.args.grant.now c.args.key.now c.args.first (leaving c.args.grant.now.address c.args.dest c.args.hop (take c.loop-index.index c.args.self.now.waiting)))
 
-sealed_then : (c : goal.After-seal_if-arg-1) → length c.frames.result.now - length c.frames-before.result.now ≡ length (leaving c.args.grant.now.address c.args.dest c.args.hop (take c.loop-index.index c.args.self.now.waiting))
+sealed_then : (c : goal.After-seal_if-arg-in-loop-index-1) → length c.frames.result.now - length c.frames-before.result.now ≡ length (leaving c.args.grant.now.address c.args.dest c.args.hop (take c.loop-index.index c.args.self.now.waiting))
 sealed_then c = omega (arith, so_far_then c, ap length c.frames.ensures, ap length c.frames-before.ensures)
 
-bounded_then : (c : goal.After-seal_if-arg-1) → length (leaving c.args.grant.now.address c.args.dest c.args.hop (take c.loop-index.index c.args.self.now.waiting)) + length (leaving c.args.grant.now.address c.args.dest c.args.hop ((body_at c.args.self.now.waiting c.loop-index.index) ∷ [])) ≤ length (leaving c.args.grant.now.address c.args.dest c.args.hop c.args.self.now.waiting)
+bounded_then : (c : goal.After-seal_if-arg-in-loop-index-1) → length (leaving c.args.grant.now.address c.args.dest c.args.hop (take c.loop-index.index c.args.self.now.waiting)) + length (leaving c.args.grant.now.address c.args.dest c.args.hop ((body_at c.args.self.now.waiting c.loop-index.index) ∷ [])) ≤ length (leaving c.args.grant.now.address c.args.dest c.args.hop c.args.self.now.waiting)
 bounded_then c =
     let here : c.loop-index.index < length c.args.self.now.waiting =
     omega (arith, c.loop-index-test.true, c.len-index-end.ensures.value, ap (λ (h : Held). length h.waiting) c.self.view_is, length-map c.self.inside.waiting.items (body_in c.self.inside.pool)) in

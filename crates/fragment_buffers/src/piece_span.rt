@@ -6,18 +6,18 @@ use mesh_header::Piece;
 
 /// The place of a piece in its datagram.
 #[derive(Clone, Copy, Debug, Default)]
-pub struct Place {
+pub struct PieceSpan {
     /// Where it begins, in units of 8 octets.
     pub offset: u8,
     /// How many octets it has.
     pub length: u16,
 }
 
-impl Place {
-    pub(crate) fn of(piece: &Piece<'_>) -> Place
+impl PieceSpan {
+    pub(crate) fn of(piece: &Piece<'_>) -> PieceSpan
         ensures { result ≡ place_of piece.now }
     {
-        Place {
+        PieceSpan {
             offset: piece.offset(),
             length: piece.octets().len() as u16,
         }
@@ -30,7 +30,7 @@ impl Place {
         u16::from(self.offset) * 8
     }
 
-    /// The position behind the last one.
+    /// The position after the last one.
     pub(crate) fn end(self) -> u32
         ensures { result ≡ self.offset * 8 + self.length }
     {

@@ -6,9 +6,9 @@ use Rattle.plc_base.specs.declared.address.TheConstants.{PAN}
 use Rattle.mac_frames.specs.Sent.{to_all}
 use Rattle.plc_base.specs.Grant.{Granted}
 use Rattle.waiting_bodies.proofs.Letters.{sealed_is}
-use Rattle.waiting_bodies.proofs.sealing.write_sealed.Goals as goal
+use Rattle.waiting_bodies.proofs.sealing.write_frame.Goals as goal
 
--- what stands behind a header
+-- what stands after a header
 behind : (front rest octets : List ℕ) → octets ≡ front ++ rest → length front ≡ 15 → drop 15 octets ≡ rest
 behind front rest octets parts len =
     ap (drop 15) parts ∙ (λ i. drop (sym len i) (front ++ rest)) ∙ drop-append_seam front rest
