@@ -1,6 +1,6 @@
 -- Which route reply a plan of hearing sends, and how it is kept.
 use Rattle.std.proofs.Common.{◌≡◌, ℕ, ◌+◌, Bool, true, false, List, [], ◌∷◌, ◌++◌, Option, Some, None, Result, Ok, Err, refl, sym, ap, subst, ◌∙◌}
-use Rattle.std.specs.Prelude.{is_some, if◌then◌else◌, nat_lt, nat_le, map, length, ◌==◌}
+use Rattle.std.specs.Prelude.{IsSome, is_some, if◌then◌else◌, nat_lt, nat_le, map, length, ◌==◌}
 use Rattle.std.specs.List.{filter, flat_map}
 use Rattle.std.specs.Option.{option_map_or}
 use Rattle.plc_base.specs.Fields.{octet}
@@ -202,16 +202,43 @@ answer_told l g key own by origin rank now ring seals is =
     ∙ told_alone own by origin by l.waiting (Rrep (l.own_number.last + 1) 0 own origin)
     ∙ reply_told by (l.own_number.last + 1) 0 own origin is
 
-pub passed_told : (l : StationMemory) (g : Granted) (key : Key) (own by hop origin to : ℕ) (rank : Rank) (now : ℕ) → l.ring ≡ Some g → sealing_key g ≡ Some key → messages.IsMessage (Rrep rank.number rank.cost origin to)
+pub passed_told : (l : StationMemory) (g : Granted) (own by hop origin to : ℕ) (rank : Rank) (now : ℕ) → l.ring ≡ Some g → IsSome (sealing_key g) → messages.IsMessage (Rrep rank.number rank.cost origin to)
     → reply_among (sealing {H = Unit {0}} alone dropped (tells hop (Rrep rank.number rank.cost origin to) (offers own origin rank by now l)) tt).frames
     ≡ Some (record { to = hop; number = rank.number; origin = origin })
 unfolding goes leave with_rank empty_draft
-passed_told l g key own by hop origin to rank now ring seals is =
+passed_told l g own by hop origin to rank now ring seals is =
     let us = told_units own by origin hop l.waiting (Rrep rank.number rank.cost origin to) in
     ap (λ (r : Ring). reply_among (sealed_by r l.counter.next us)) ring
-    ∙ sealed_reply g key l.counter.next us seals
+    ∙ by_key us (sealing_key g) seals
     ∙ told_alone own by origin hop l.waiting (Rrep rank.number rank.cost origin to)
     ∙ reply_told hop rank.number rank.cost origin to is
+  where
+    by_key : (us : List Outgoing) (k : Option Key) → IsSome k → reply_among (option_map_or (λ q. letters g q l.counter.next us) k []) ≡ reply_in us
+    by_key us None h = absurd (cc)
+    by_key us (Some key) h = letters_reply g key l.counter.next us
+
+-- what is kept of a reply is no part of the plan that sent it
+pub retold : {A : Type 0} (s t : State StationMemory) (r : Option Reply) (p : Plan StationMemory A) (answer : A) (out : Out) → Carries s p answer out t → Carries s p answer out (record t { replied = r })
+retold {A} s t r p answer out c = record { done = c.done; wrote = c.wrote; answer_is = c.answer_is; out_is = c.out_is; new_is = ap (λ (u : State StationMemory). record u { replied = r }) c.new_is }
+
+-- it is the reply of the plan where that was done, and none where a put failed
+pub kept_done : {E : Type 0} (ends : Ends E) (s t : State StationMemory) (d : Draft StationMemory) (u : Unit {0}) (out : Out) (r : Option Reply) → Carries s (sealing {H = Unit {0}} alone ends d tt) (Ok u) out t
+    → reply_among (sealing {H = Unit {0}} alone ends d tt).frames ≡ r → r ≡ reply_sent (sealing {H = Unit {0}} alone ends d tt) t.memory
+kept_done {E} ends s t d u out r c e = by_done c.done t.memory c.answer_is (ap (λ (k : State StationMemory). k.memory) c.new_is)
+  where
+    by_done : (done : Bool) (m : Option StationMemory) → ◌≡◌ {A = Result (Unit {0}) E} (Ok u) (if done then Ok tt else Err ends.store) → m ≡ (if done then Some (sealing {H = Unit {0}} alone ends d tt).memory else None)
+        → r ≡ reply_sent (sealing {H = Unit {0}} alone ends d tt) m
+    by_done true m is e' = sym e ∙ ap (λ (o : Option StationMemory). reply_sent (sealing {H = Unit {0}} alone ends d tt) o) (sym e')
+    by_done false m is e' = cc
+
+pub kept_failed : {E : Type 0} (ends : Ends E) (s t : State StationMemory) (d : Draft StationMemory) (reason : E) (out : Out) (r : Option Reply) → Carries s (sealing {H = Unit {0}} alone ends d tt) (Err reason) out t
+    → r ≡ None → r ≡ reply_sent (sealing {H = Unit {0}} alone ends d tt) t.memory
+kept_failed {E} ends s t d reason out r c e = by_done c.done t.memory c.answer_is (ap (λ (k : State StationMemory). k.memory) c.new_is)
+  where
+    by_done : (done : Bool) (m : Option StationMemory) → ◌≡◌ {A = Result (Unit {0}) E} (Err reason) (if done then Ok tt else Err ends.store) → m ≡ (if done then Some (sealing {H = Unit {0}} alone ends d tt).memory else None)
+        → r ≡ reply_sent (sealing {H = Unit {0}} alone ends d tt) m
+    by_done true m is e' = cc
+    by_done false m is e' = e ∙ ap (λ (o : Option StationMemory). reply_sent (sealing {H = Unit {0}} alone ends d tt) o) (sym e')
 
 -- # Hearing
 

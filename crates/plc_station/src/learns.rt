@@ -53,8 +53,9 @@ impl<K: Keeper + Drop> Station<K> {
             return Err(Dropped::Store);
         };
         let key = grant.sealing_key();
+        let aes = Aes::new(&key);
         self.bodies
-            .seal_leaving(origin, grant, &key, &Aes::new(&key), first, by, out);
+            .seal_leaving(origin, grant, &key, &aes, first, by, &mut self.room, out);
         self.bodies.drop_for(origin);
         self.halted = false;
         Ok(())

@@ -18,14 +18,14 @@ ghost use Rattle.group_keys.specs.KeyRing as ring;
 
 use crate::station::Station;
 use aes_modes::Aes;
-use loadng_messages::{Message, write_message};
+use loadng_messages::{Message, MessageBuf, write_message};
 use mesh_header::{Mesh, Unit};
 use node_rules::{Dropped, Heard, Way};
-use plc_base::{DatagramBuf, FrameBuf, Grant, Keeper, OctetRef, Out, Short};
+use plc_base::{DatagramBuf, Grant, Keeper, OctetRef, Out, Short};
 use waiting_bodies::seal;
 
 // The unit of a route error.
-pub(crate) fn error_unit<'a>(lost: Short, to: Short, body: &'a mut FrameBuf) -> Unit<'a>
+pub(crate) fn error_unit<'a>(lost: Short, to: Short, body: &'a mut MessageBuf) -> Unit<'a>
     ensures { result ≡ local.Local 1 (messages.spelling (message.Rerr lost to)) }
 {
     body.clear();
@@ -131,7 +131,7 @@ impl<K: Keeper + Drop> Station<K> {
         if left < 1 {
             return Err(Dropped::CounterSpent);
         }
-        let mut body = FrameBuf::new();
+        let mut body = MessageBuf::new();
         let unit = error_unit(mesh.to, mesh.origin, &mut body);
         match self.send_unit(grant, hop.number(), &unit, 0, out) {
             Ok(()) => Ok(Heard::Reported),

@@ -60,12 +60,14 @@ impl<K: Keeper + Drop> Station<K> {
         ensures agrees { Agrees self.new }
         ensures replied { self.new.replied ≡ self.old.replied }
     {
+        // Shows the check that the next counter is within its bound.
         let _left = self.parts.counter.left();
         let rank = Rank { number: 1, cost };
         self.halted = true;
         let Ok(()) = self.parts.routing.keep(&mut self.keeper, to, rank, to, now) else {
             return Err(PresetFault::Store);
         };
+        // Nothing is sent, so no counter is stored: a rule ends with the counters of what it sends.
         let Ok(_) = self.parts.counter.reserve(&mut self.keeper, 0) else {
             return Err(PresetFault::Store);
         };
@@ -73,7 +75,7 @@ impl<K: Keeper + Drop> Station<K> {
         Ok(())
     }
 
-    /// Offers a neighbour over a link of this cost as a route by itself. NotBetter, RoutesFull, Store, in this order; after Store
+    /// Offers the route of one hop to a neighbour, over a link of this cost. NotBetter, RoutesFull, Store, in this order; after Store
     /// it is halted.
     pub fn preset_near(&mut self, to: Short, cost: LinkCost, now: u64) -> Result<(), PresetFault>
         requires running { IsSome self.old.memory }

@@ -10,16 +10,14 @@ ghost use Rattle.plc_station.specs.Hears.{Hears, reply_sent_by};
 ghost use Rattle.node_rules.specs.Agreement.{Agrees};
 ghost use Rattle.group_keys.specs.KeyRing as ring;
 
-use crate::sealing::seal_message;
 use crate::station::Station;
-use aes_modes::Aes;
 use loadng_messages::Message;
 use node_rules::{Dropped, Heard, Reply};
 use plc_base::{Grant, Keeper, Out, Short};
 use routing_set::Rank;
 
 impl<K: Keeper + Drop> Station<K> {
-    // Sends a reply for another address on: the rank is kept, what waits for the origin leaves, and the reply goes to the hop.
+    // Sends a reply for another address on, to the hop.
     fn pass_on(
         &mut self,
         grant: &Grant,
@@ -49,35 +47,18 @@ impl<K: Keeper + Drop> Station<K> {
             (drafts.tells hop (message.Rrep rank.number rank.cost origin to)
             (hearing.offers grant.now.address origin rank by now l)) self.new.memory) }
     {
-        self.halted = true;
-        let Ok(()) = self
-            .parts
-            .routing
-            .keep(&mut self.keeper, origin, rank, by, now)
-        else {
-            return Err(Dropped::Store);
-        };
-        let units = self.bodies.units_for(origin);
-        let Ok(first) = self.parts.counter.reserve(&mut self.keeper, units + 1) else {
-            return Err(Dropped::Store);
-        };
-        let key = grant.sealing_key();
-        self.bodies
-            .seal_leaving(origin, grant, &key, &Aes::new(&key), first, by, out);
         let reply = Message::Rrep {
             number: rank.number,
             cost: rank.cost,
             origin,
             to,
         };
-        seal_message(grant, first + units, hop.number(), &reply, out);
-        self.bodies.drop_for(origin);
+        self.relay(grant, by, hop.number(), &reply, origin, rank, now, out)?;
         self.replied = Some(Reply {
             to: hop,
             number: rank.number,
             origin,
         });
-        self.halted = false;
         Ok(())
     }
 

@@ -10,6 +10,7 @@ ghost use Rattle.node_rules.specs.Agreement.{Agrees};
 
 use crate::sealing::seal_message;
 use crate::station::Station;
+use aes_modes::Aes;
 use loadng_messages::Message;
 use node_rules::{Dropped, Heard};
 use plc_base::{Grant, Keeper, Out, Short};
@@ -45,6 +46,7 @@ impl<K: Keeper + Drop> Station<K> {
         ensures replied { self.new.replied ≡ self.old.replied }
     {
         self.halted = true;
+        // Nothing is sent, so no counter is stored: a rule ends with the counters of what it sends.
         let Ok(_) = self.parts.counter.reserve(&mut self.keeper, 0) else {
             return Err(Dropped::Store);
         };
@@ -79,7 +81,9 @@ impl<K: Keeper + Drop> Station<K> {
         };
         self.parts.routing.invalidate(lost, by);
         let error = Message::Rerr { lost, to };
-        seal_message(grant, counter, hop.number(), &error, out);
+        let key = grant.sealing_key();
+        let aes = Aes::new(&key);
+        seal_message(grant, &key, &aes, counter, hop.number(), &error, out);
         self.halted = false;
         Ok(Heard::Broken)
     }

@@ -65,15 +65,16 @@ impl<K: Keeper + Drop> Station<K> {
             return Err(Dropped::Store);
         };
         let key = grant.sealing_key();
+        let aes = Aes::new(&key);
         self.bodies
-            .seal_leaving(origin, grant, &key, &Aes::new(&key), first, by, out);
+            .seal_leaving(origin, grant, &key, &aes, first, by, &mut self.room, out);
         let reply = Message::Rrep {
             number,
             cost: 0,
             origin: grant.address,
             to: origin,
         };
-        seal_message(grant, first + units, by.number(), &reply, out);
+        seal_message(grant, &key, &aes, first + units, by.number(), &reply, out);
         self.bodies.drop_for(origin);
         self.replied = Some(Reply {
             to: by,

@@ -11,9 +11,9 @@ ghost use Rattle.node_rules.specs.Drafts as drafts;
 ghost use Rattle.node_rules.specs.Carrying.{nothing};
 
 use aes_modes::Aes;
-use loadng_messages::{Message, write_message};
+use loadng_messages::{Message, MessageBuf, write_message};
 use mesh_header::Unit;
-use plc_base::{FrameBuf, Grant, OctetRef, Out, Short};
+use plc_base::{Grant, Key, OctetRef, Out, Short};
 use waiting_bodies::{seal, seal_load};
 
 // Seals a datagram, whole or in pieces.
@@ -51,8 +51,18 @@ pub(crate) fn seal_datagram(
     );
 }
 
-// Seals a message for one neighbour or for all.
-pub(crate) fn seal_message(grant: &Grant, counter: u32, to: u16, message: &Message, out: &mut Out)
+// Seals a message for one neighbour or for all, under the active key of the grant, of which the caller has the schedule.
+pub(crate) fn seal_message(
+    grant: &Grant,
+    key: &Key,
+    aes: &Aes,
+    counter: u32,
+    to: u16,
+    message: &Message,
+    out: &mut Out,
+)
+    requires key { drafts.sealing_key grant.now ≡ Some key.now }
+    requires aes { aes.now ≡ key.now.0 }
     requires target { to ≢ 0xFFFE }
     requires allowed { messages.IsAllowed message.now }
     requires room { length out.old.frames < 24 }
@@ -62,15 +72,14 @@ pub(crate) fn seal_message(grant: &Grant, counter: u32, to: u16, message: &Messa
           (record { to = to; unit = mesh.Local 1 (messages.spelling message.now); note = 0 } ∷ []));
     } }
 {
-    let key = grant.sealing_key();
-    let mut body = FrameBuf::new();
+    let mut body = MessageBuf::new();
     write_message(message, &mut body);
     let octets = OctetRef::new(body.octets());
     let unit = Unit::Local {
         code: 1,
         body: octets,
     };
-    seal(grant, &key, &Aes::new(&key), counter, to, &unit, 0, out);
+    seal(grant, key, aes, counter, to, &unit, 0, out);
 }
 
 // Seals a request for the route to an address, which goes to all.
@@ -93,5 +102,7 @@ pub(crate) fn seal_request(grant: &Grant, counter: u32, number: u16, dest: Short
         origin: grant.address,
         dest,
     };
-    seal_message(grant, counter, 0xFFFF, &message, out);
+    let key = grant.sealing_key();
+    let aes = Aes::new(&key);
+    seal_message(grant, &key, &aes, counter, 0xFFFF, &message, out);
 }

@@ -88,6 +88,7 @@ impl<K: Keeper + Drop> Station<K> {
         let Ok(tag) = self.parts.next_tag.take(&mut self.keeper, datagram.len()) else {
             return Err(SendRefusal::Store);
         };
+        // Nothing is sent, so no counter is stored: a rule ends with the counters of what it sends.
         let Ok(_) = self.parts.counter.reserve(&mut self.keeper, 0) else {
             return Err(SendRefusal::Store);
         };

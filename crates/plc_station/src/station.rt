@@ -17,7 +17,7 @@ use plc_base::{BadStore, Eui, Keeper, Short};
 use std::alloc::Global;
 use std::marker::Model;
 use thiserror::Error;
-use waiting_bodies::Bodies;
+use waiting_bodies::{Bodies, BodyRoom};
 
 /// Why a station is not opened.
 #[derive(Clone, Copy, Debug, PartialEq, Eq, Error)]
@@ -28,7 +28,7 @@ pub enum OpenFault {
     /// A record of its store has no reading.
     #[error("{0}")]
     BadStore(BadStore),
-    /// A store write failed.
+    /// A store write failed. A coordinator alone writes when it is opened.
     #[error("a store write failed")]
     Store,
 }
@@ -43,6 +43,8 @@ pub struct Station<K: Keeper + Drop> {
     pub(crate) eui: Eui,
     pub(crate) parts: Parts,
     pub(crate) bodies: Bodies,
+    // Each body that leaves is read into it. It is kept, so that no call zeroes 1,280 octets.
+    pub(crate) room: BodyRoom,
     pub(crate) halted: bool,
     pub(crate) replied: Option<Reply>,
 }
@@ -71,7 +73,8 @@ impl<K: Keeper + Drop> Station<K> {
 
     /// A station over what its keeper holds, not halted. Its memory is taken here, and only here.
     ///
-    /// Memory, where there is none for it; BadStore, where a record has no reading. The keeper comes back with it.
+    /// Memory where there is none for it; BadStore exactly where a record has no reading, with the slot of the first one. Never Store. The
+    /// keeper comes back with the fault.
     pub fn open(alloc: Global, keeper: K, eui: Eui) -> Result<Station<K>, (OpenFault, K)>
         ensures opened { IfOk result (λ s. s ≡ record {
           store = K.store keeper;
@@ -94,6 +97,7 @@ impl<K: Keeper + Drop> Station<K> {
                 eui,
                 parts,
                 bodies,
+                room: [0; 1280],
                 halted: false,
                 replied: None,
             }),

@@ -1,0 +1,110 @@
+//! How a station sends route messages on.
+ghost use Rattle.std.specs.Prelude.{◌≡◌, ◌≢◌, ◌+◌, ◌<◌, ◌≤◌, true, false, Some, Ok, Err, IfOk, IfSome, IsSome, length};
+ghost use Rattle.loadng_messages.specs.Grammar as messages;
+ghost use Rattle.loadng_messages.specs.declared.message.Message.TheVariants as message;
+ghost use Rattle.node_rules.specs.Drafts as drafts;
+ghost use Rattle.node_rules.specs.Hearing as hearing;
+ghost use Rattle.routing_set.specs.RoutingSet as routing;
+ghost use Rattle.fragment_buffers.specs.Waiting.{leaving};
+ghost use Rattle.node_rules.specs.Carrying.{Carries, nothing};
+ghost use Rattle.node_rules.specs.Agreement.{Agrees};
+ghost use Rattle.group_keys.specs.KeyRing as ring;
+
+use crate::sealing::seal_message;
+use crate::station::Station;
+use aes_modes::Aes;
+use loadng_messages::Message;
+use node_rules::Dropped;
+use plc_base::{Grant, Keeper, Out, Short};
+use routing_set::Rank;
+
+impl<K: Keeper + Drop> Station<K> {
+    // Sends a route message on, to a neighbour or to all. Before, the rank that it offers is kept, and what waits for its
+    // origin leaves.
+    pub(crate) fn relay(
+        &mut self,
+        grant: &Grant,
+        by: Short,
+        to: u16,
+        message: &Message,
+        origin: Short,
+        rank: Rank,
+        now: u64,
+        out: &mut Out,
+    ) -> Result<(), Dropped>
+        requires running { IsSome self.old.memory }
+        requires agrees { Agrees self.old }
+        requires ring { IfSome self.old.memory (λ l. l.ring ≡ Some grant.now) }
+        requires target { to ≢ 0xFFFE }
+        requires allowed { messages.IsAllowed message.now }
+        requires better { IfSome self.old.memory (λ l. routing.is_better l.routing origin rank ≡ true) }
+        requires room { IfSome self.old.memory (λ l. routing.is_full l.routing origin now ≡ false) }
+        requires valid { 1 ≤ rank.number }
+        requires left { IfSome self.old.memory
+            (λ l. l.counter.next + (length (leaving grant.now.address origin by l.waiting) + 1) ≤ 4294967295) }
+        requires empty { out.old ≡ nothing }
+        ensures carries { IfSome self.old.memory (λ l. Carries self.old (drafts.sealing drafts.alone hearing.dropped
+            (drafts.tells to message.now (hearing.offers grant.now.address origin rank by now l)) tt)
+            result out.new self.new) }
+        ensures agrees { Agrees self.new }
+        ensures replied { self.new.replied ≡ self.old.replied }
+        ensures message { IfOk result (λ u. messages.IsMessage message.now) }
+        ensures key { IfOk result (λ u. IsSome (drafts.sealing_key grant.now)) }
+    {
+        self.halted = true;
+        let Ok(()) = self
+            .parts
+            .routing
+            .keep(&mut self.keeper, origin, rank, by, now)
+        else {
+            return Err(Dropped::Store);
+        };
+        let units = self.bodies.units_for(origin);
+        let Ok(first) = self.parts.counter.reserve(&mut self.keeper, units + 1) else {
+            return Err(Dropped::Store);
+        };
+        let key = grant.sealing_key();
+        let aes = Aes::new(&key);
+        self.bodies
+            .seal_leaving(origin, grant, &key, &aes, first, by, &mut self.room, out);
+        seal_message(grant, &key, &aes, first + units, to, message, out);
+        self.bodies.drop_for(origin);
+        self.halted = false;
+        Ok(())
+    }
+
+    // Sends a request for another address on, to all.
+    pub(crate) fn send_on(
+        &mut self,
+        grant: &Grant,
+        by: Short,
+        origin: Short,
+        dest: Short,
+        rank: Rank,
+        now: u64,
+        out: &mut Out,
+    ) -> Result<(), Dropped>
+        requires running { IsSome self.old.memory }
+        requires agrees { Agrees self.old }
+        requires ring { IfSome self.old.memory (λ l. l.ring ≡ Some grant.now) }
+        requires better { IfSome self.old.memory (λ l. routing.is_better l.routing origin rank ≡ true) }
+        requires room { IfSome self.old.memory (λ l. routing.is_full l.routing origin now ≡ false) }
+        requires valid { 1 ≤ rank.number }
+        requires left { IfSome self.old.memory
+            (λ l. l.counter.next + (length (leaving grant.now.address origin by l.waiting) + 1) ≤ 4294967295) }
+        requires empty { out.old ≡ nothing }
+        ensures carries { IfSome self.old.memory (λ l. Carries self.old (drafts.sealing drafts.alone hearing.dropped
+            (drafts.tells 0xFFFF (message.Rreq rank.number rank.cost origin dest)
+            (hearing.offers grant.now.address origin rank by now l)) tt) result out.new self.new) }
+        ensures agrees { Agrees self.new }
+        ensures replied { self.new.replied ≡ self.old.replied }
+    {
+        let request = Message::Rreq {
+            number: rank.number,
+            cost: rank.cost,
+            origin,
+            dest,
+        };
+        self.relay(grant, by, 0xFFFF, &request, origin, rank, now, out)
+    }
+}
