@@ -4,4 +4,4 @@
 
 mod relaying;
 
-pub use relaying::{NotRelayed, relay_down, relay_up};
+pub use relaying::{NotRelayed, goes_down, goes_up, relay_down, relay_up};

@@ -13,15 +13,15 @@ use thiserror::Error;
 #[error("no agent carries this joining message this way")]
 pub struct NotRelayed;
 
-// Whether an agent carries a body up.
-fn goes_up(body: &JoinBody) -> bool
+/// Whether an agent carries a message with this body up: a JOIN.
+pub fn goes_up(body: &JoinBody) -> bool
     ensures { result ≡ goes_up body.now }
 {
     matches!(body, JoinBody::Join { .. })
 }
 
-// Whether an agent carries a body down.
-fn goes_down(body: &JoinBody) -> bool
+/// Whether an agent carries a message with this body down: a CHALLENGE, an ACCEPT or a DECLINE.
+pub fn goes_down(body: &JoinBody) -> bool
     ensures { result ≡ goes_down body.now }
 {
     matches!(

@@ -13,7 +13,7 @@ ghost use Rattle.coordinator.specs.Answering as answering;
 
 use crate::coordinator::Coordinator;
 use crate::entries::issued;
-use crate::sessions::Session;
+use crate::sessions::ServerSession;
 use eap_psk::{Agreed, PskKeys};
 use group_keys::BookEntry;
 use joining_base::dropped_packet;
@@ -46,14 +46,14 @@ fn acceptance(eui: Eui) -> JoinMessage
 
 impl<K: Keeper + Drop> Coordinator<K> {
     // The session of a meter.
-    fn session_of(&self, eui: Eui) -> Option<Session>
+    fn session_of(&self, eui: Eui) -> Option<ServerSession>
         ensures { IfSome (node_of self.now).memory (λ m. result ≡ rules.session_of m eui) }
     {
         self.sessions.of(eui)
     }
 
     // A session takes the place of that of its meter.
-    fn put_session(&mut self, session: Session)
+    fn put_session(&mut self, session: ServerSession)
         requires running { IsSome (node_of self.old).memory }
         requires holds { Holds (node_of self.old) }
         requires room { IfSome (node_of self.old).memory (λ m. rules.sessions_full m session.server.eui ≡ false) }
@@ -65,7 +65,7 @@ impl<K: Keeper + Drop> Coordinator<K> {
     }
 
     // A session goes on, and this entry is that of its meter. It is halted where that is not stored.
-    fn note_keys(&mut self, session: Session, entry: BookEntry) -> Result<(), Failed>
+    fn note_keys(&mut self, session: ServerSession, entry: BookEntry) -> Result<(), Failed>
         requires running { IsSome (node_of self.old).memory }
         requires holds { Holds (node_of self.old) }
         requires session { IfSome (node_of self.old).memory (λ m. rules.sessions_full m session.server.eui ≡ false) }
@@ -84,7 +84,7 @@ impl<K: Keeper + Drop> Coordinator<K> {
     // This third packet goes to a meter: its session goes on, and the keys of its grant are noted as issued.
     fn give_keys(
         &mut self,
-        session: Session,
+        session: ServerSession,
         entry: BookEntry,
         message: &JoinMessage,
         grant: Grant,
@@ -121,7 +121,7 @@ impl<K: Keeper + Drop> Coordinator<K> {
     // Takes the second packet of a session.
     fn take_second(
         &mut self,
-        session: &Session,
+        session: &ServerSession,
         entry: &BookEntry,
         packet: &[u8],
         now: u64,
@@ -148,7 +148,7 @@ impl<K: Keeper + Drop> Coordinator<K> {
         {
             Err(fault) => Err(dropped_packet(fault)),
             Ok(server) => {
-                let next = Session { server, ..*session };
+                let next = ServerSession { server, ..*session };
                 let message = third_with(eui, eap);
                 self.give_keys(
                     next,
@@ -166,7 +166,7 @@ impl<K: Keeper + Drop> Coordinator<K> {
     // Accepts a meter: its session ends.
     fn accept_meter(
         &mut self,
-        session: &Session,
+        session: &ServerSession,
         agreed: Agreed,
         tags: TagList,
         now: u64,
@@ -197,7 +197,7 @@ impl<K: Keeper + Drop> Coordinator<K> {
     // Takes the fourth packet of a session.
     fn take_fourth(
         &mut self,
-        session: &Session,
+        session: &ServerSession,
         entry: &BookEntry,
         rand_p: Rand,
         packet: &[u8],
@@ -224,7 +224,7 @@ impl<K: Keeper + Drop> Coordinator<K> {
     // Takes the packet of a session that it awaits.
     fn take_packet(
         &mut self,
-        session: &Session,
+        session: &ServerSession,
         entry: &BookEntry,
         packet: &[u8],
         now: u64,

@@ -11,7 +11,7 @@ ghost use Rattle.coordinator.specs.CoordinatorStates.{node_of, identity_of};
 ghost use Rattle.coordinator.specs.CoordinatorAgreement.{Holds};
 
 use crate::coordinator::Coordinator;
-use crate::sessions::Session;
+use crate::sessions::ServerSession;
 use eap_psk::Server;
 use joining_messages::{JoinBody, JoinMessage};
 use node_rules::{CoordinatorHeard, Dropped, Way};
@@ -57,7 +57,7 @@ impl<K: Keeper + Drop> Coordinator<K> {
     // This first packet goes to a meter by the way that it asked, and this session of it begins.
     fn open_back(
         &mut self,
-        session: Session,
+        session: ServerSession,
         message: &JoinMessage,
         out: &mut Out,
     ) -> Result<CoordinatorHeard<'static>, Dropped>
@@ -105,7 +105,7 @@ impl<K: Keeper + Drop> Coordinator<K> {
     {
         let mut eap = EapBuf::new();
         let server = Server::first(eui, self.station.eui(), value, &mut eap);
-        let session = Session {
+        let session = ServerSession {
             server,
             way: *way,
             since: now,

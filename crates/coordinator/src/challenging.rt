@@ -12,12 +12,12 @@ ghost use Rattle.coordinator.specs.CoordinatorAgreement.{Holds};
 ghost use Rattle.coordinator.specs.Telling as telling;
 
 use crate::coordinator::Coordinator;
-use crate::sessions::Session;
+use crate::sessions::ServerSession;
 use eap_psk::Server;
-use joining_base::write_command;
+use joining_base::{CommandBuf, write_command};
 use joining_messages::{JoinBody, JoinMessage};
 use node_rules::{CoordinatorRefusal, Way};
-use plc_base::{EapBuf, Eui, FrameBuf, Keeper, Out, Rand, Short};
+use plc_base::{EapBuf, Eui, Keeper, Out, Rand, Short};
 
 impl<K: Keeper + Drop> Coordinator<K> {
     // The address of a meter that is allowed.
@@ -53,13 +53,13 @@ impl<K: Keeper + Drop> Coordinator<K> {
         ensures refused { IfErr result (λ reason. IfSome (node_of self.now).memory (λ m.
             telling.lacks m to (length (command_of message.now)) ≡ Some reason)) }
     {
-        let mut octets = FrameBuf::new();
+        let mut octets = CommandBuf::new();
         write_command(message, &mut octets);
         self.room_for(to, octets.len() as u16)
     }
 
     // A session begins, with the oldest random value.
-    pub(crate) fn begin_session(&mut self, session: Session)
+    pub(crate) fn begin_session(&mut self, session: ServerSession)
         requires running { IsSome (node_of self.old).memory }
         requires holds { Holds (node_of self.old) }
         requires room { IfSome (node_of self.old).memory (λ m. rules.sessions_full m session.server.eui ≡ false) }
@@ -93,7 +93,7 @@ impl<K: Keeper + Drop> Coordinator<K> {
         ensures holds { Holds (node_of self.new) }
     {
         self.message_room(to, message)?;
-        self.begin_session(Session {
+        self.begin_session(ServerSession {
             server,
             way: Way::Mesh(to),
             since: now,

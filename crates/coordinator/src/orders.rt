@@ -11,10 +11,10 @@ ghost use Rattle.coordinator.specs.Ordering as ordering;
 
 use crate::coordinator::Coordinator;
 use group_keys::BookEntry;
-use joining_base::write_command;
+use joining_base::{CommandBuf, write_command};
 use joining_messages::{JoinBody, JoinMessage};
 use node_rules::{CoordinatorRefusal, RandomFault, SendRefusal, SentHow};
-use plc_base::{Eui, FrameBuf, Keeper, Key, Out, Rand, Short};
+use plc_base::{Eui, Keeper, Key, Out, Rand, Short};
 
 // What a command is refused for, as the refusal of an order.
 pub(crate) fn order_refusal(reason: SendRefusal) -> CoordinatorRefusal
@@ -94,7 +94,7 @@ impl<K: Keeper + Drop> Coordinator<K> {
             Carries (node_of self.old) (rules.activate_at m to message.now now) result out.new (node_of self.new)) }
         ensures holds { Holds (node_of self.new) }
     {
-        let mut octets = FrameBuf::new();
+        let mut octets = CommandBuf::new();
         write_command(message, &mut octets);
         let sent = self.station.send_command(to, octets.octets(), now, out);
         order_answer(sent)

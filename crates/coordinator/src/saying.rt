@@ -13,10 +13,10 @@ ghost use Rattle.coordinator.specs.Telling as telling;
 ghost use Rattle.coordinator.specs.Saying as saying;
 
 use crate::coordinator::Coordinator;
-use joining_base::{dropped_send, push_down, write_command};
+use joining_base::{CommandBuf, dropped_send, push_down, write_command};
 use joining_messages::JoinMessage;
 use node_rules::{Dropped, Way};
-use plc_base::{FrameBuf, Keeper, Out, Short, TagList};
+use plc_base::{Keeper, Out, Short, TagList};
 
 // The address of the coordinator.
 fn home() -> Short
@@ -50,7 +50,7 @@ impl<K: Keeper + Drop> Coordinator<K> {
         ensures refused { IfErr result (λ reason. IfSome (node_of self.now).memory (λ m.
             command_fault dropped dropped_for m.station to (length (command_of message.now)) ≡ Some reason)) }
     {
-        let mut octets = FrameBuf::new();
+        let mut octets = CommandBuf::new();
         write_command(message, &mut octets);
         self.command_room(to, octets.len() as u16)
     }

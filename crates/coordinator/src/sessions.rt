@@ -12,13 +12,13 @@ use std::marker::Model;
 
 /// The coordinator's end of the joining of a meter, whose answers go this way, since a time in seconds.
 #[derive(Clone, Copy)]
-pub(crate) struct Session {
+pub(crate) struct ServerSession {
     pub(crate) server: Server,
     pub(crate) way: Way,
     pub(crate) since: u64,
 }
 
-impl Model for Session {
+impl Model for ServerSession {
     ghost use Rattle.node_rules.specs.Memory.{CoordinatorSession};
 
     ghost Value = { CoordinatorSession };
@@ -28,10 +28,10 @@ impl Model for Session {
     ghost inverse = { λ s. record { server = s.server; way = s.way; since = s.since } };
 }
 
-impl Default for Session {
-    fn default() -> Session {
+impl Default for ServerSession {
+    fn default() -> ServerSession {
         let eui = Eui([0; 8]);
-        Session {
+        ServerSession {
             server: Server {
                 eui,
                 id_s: eui,
@@ -44,7 +44,7 @@ impl Default for Session {
     }
 }
 
-impl Session {
+impl ServerSession {
     // Whether it is that of a meter.
     fn is_of(&self, eui: Eui) -> bool
         ensures { result ≡ is_of eui self.now }
@@ -63,7 +63,7 @@ impl Session {
 /// The sessions of the meters that join: one a meter, and at most 8. A contract sees the list of them.
 #[derive(Drop)]
 pub(crate) struct Sessions {
-    items: ArrayVec<Session, 8>,
+    items: ArrayVec<ServerSession, 8>,
 }
 
 impl Model for Sessions {
@@ -93,7 +93,7 @@ impl Sessions {
     }
 
     /// The session of a meter, None exactly where none is open.
-    pub(crate) fn of(&self, eui: Eui) -> Option<Session>
+    pub(crate) fn of(&self, eui: Eui) -> Option<ServerSession>
         ensures { result ≡ session_in self.now eui }
     {
         let place = self.place_of(eui)?;
@@ -108,7 +108,7 @@ impl Sessions {
     }
 
     /// A session takes the place of that of its meter, or stands after the others.
-    pub(crate) fn put(&mut self, session: Session)
+    pub(crate) fn put(&mut self, session: ServerSession)
         requires { is_full_for self.old session.server.eui ≡ false }
         ensures { self.new ≡ placed session self.old }
     {

@@ -9,10 +9,10 @@ ghost use Rattle.coordinator.specs.Telling as telling;
 
 use crate::coordinator::Coordinator;
 use crate::orders::order_refusal;
-use joining_base::write_command;
+use joining_base::{CommandBuf, write_command};
 use joining_messages::JoinMessage;
 use node_rules::CoordinatorRefusal;
-use plc_base::{FrameBuf, Keeper, Out, Short};
+use plc_base::{Keeper, Out, Short};
 
 impl<K: Keeper + Drop> Coordinator<K> {
     // What stands in the way of a command of so many octets for an address.
@@ -61,7 +61,7 @@ impl<K: Keeper + Drop> Coordinator<K> {
             Carries (node_of self.old) (telling.telling m to message.now now) result out.new (node_of self.new)) }
         ensures holds { Holds (node_of self.new) }
     {
-        let mut octets = FrameBuf::new();
+        let mut octets = CommandBuf::new();
         write_command(message, &mut octets);
         let Ok(_) = self.station.send_command(to, octets.octets(), now, out) else {
             return Err(CoordinatorRefusal::Store);

@@ -11,7 +11,7 @@ ghost use Rattle.node_rules.specs.Joining.{command_of};
 
 use joining_messages::{JoinMessage, read_join, write_join};
 use mac_frames::{MacHead, write_header};
-use plc_base::{Eui, FrameBuf, Out, PAN, Short};
+use plc_base::{Eui, FrameBuf, Octets, Out, PAN, Short};
 
 /// The message that octets are, None where they are none.
 pub fn read_message(octets: &[u8]) -> Option<JoinMessage>
@@ -24,8 +24,11 @@ pub fn read_message(octets: &[u8]) -> Option<JoinMessage>
     }
 }
 
+/// The command that carries a joining message: at most 138 octets.
+pub type CommandBuf = Octets<138>;
+
 /// Writes the octets of the command that carries a message, its code 02 first, in place of what `out` held.
-pub fn write_command(message: &JoinMessage, out: &mut FrameBuf)
+pub fn write_command(message: &JoinMessage, out: &mut CommandBuf)
     requires { IsMessage message.now }
     ensures command { out.new ≡ command_of message.now }
     ensures fits { length out.new ≤ 138 }

@@ -12,7 +12,7 @@ use plc_base::OctetRef;
 pub struct JoiningCommand<'a> {
     /// Where it comes from, and where its answer goes.
     pub way: Way,
-    /// What stands behind the code 02.
+    /// What stands after the code 02.
     pub body: OctetRef<'a>,
 }
 

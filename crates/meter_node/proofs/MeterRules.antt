@@ -5,12 +5,10 @@ use Rattle.std.specs.Option.{option_map_or}
 use Rattle.joining_messages.specs.declared.message.JoinMessage.{JoinMessage}
 use Rattle.joining_messages.specs.declared.message.JoinBody.{JoinBody}
 use Rattle.joining_messages.specs.declared.message.JoinBody.TheVariants as body
-use Rattle.agent_node.specs.Relaying.{frame_down}
 use Rattle.agent_node.specs.Relaying as relaying
 use Rattle.node_rules.specs.declared.heard.MeterHeard.TheVariants as heard
 use Rattle.node_rules.specs.declared.refusal.Dropped.TheVariants.{BadUnit, NoSession}
-use Rattle.node_rules.specs.Ciphers.{network}
-use Rattle.node_rules.specs.Frames.{Down, spelled}
+use Rattle.node_rules.specs.Frames.{Down}
 use Rattle.node_rules.specs.Memory.{StationMemory, ByAgent, address_of}
 use Rattle.node_rules.specs.Plans.{resting, within}
 use Rattle.node_rules.specs.Drafts.{empty_draft, refused, sealing, choose, with_ring}
@@ -88,8 +86,3 @@ module _ (x : MeterState) (l : StationMemory) where
   carried_without join (body.Join eap) none = refl
   carried_without join body.Kick none = refl
   carried_without join (body.Activate index) none = refl
-
--- the frame of a message that is carried down
-pub down_frame : (join : JoinMessage) (own : ℕ) → spelled network (Down own join) ≡ record { octets = frame_down join own; note = 0; key = None }
-unfolding spelled
-down_frame join own = refl

@@ -10,9 +10,9 @@ ghost use Rattle.meter_node.specs.MeterStates.{identity_of, node_of};
 use crate::commanding::{coordinator, join_with, write_up};
 use crate::meter::Meter;
 use crate::session::{Course, Session};
-use joining_base::push_up;
+use joining_base::{CommandBuf, push_up};
 use node_rules::{Dropped, MeterHeard};
-use plc_base::{EapBuf, FrameBuf, Keeper, Out, Short, TagList};
+use plc_base::{EapBuf, Keeper, Out, Short, TagList};
 
 // Whether a packet counts as a first one.
 #[tactic(auto, unfolding(plc_base::specs::Fields::octet))]
@@ -81,7 +81,7 @@ impl<K: Keeper + Drop> Meter<K> {
         let peer = self.second(packet, &mut eap, &mut tags)?;
         let eui = self.station.eui();
         let join = join_with(eui, eap);
-        let mut command = FrameBuf::new();
+        let mut command = CommandBuf::new();
         write_up(&join, &mut command);
         self.room(&command)?;
         self.randoms.drop_oldest();
@@ -158,7 +158,7 @@ impl<K: Keeper + Drop> Meter<K> {
         let taken = self.fourth(packet, &mut eap, &mut tags)?;
         let eui = self.station.eui();
         let join = join_with(eui, eap);
-        let mut command = FrameBuf::new();
+        let mut command = CommandBuf::new();
         write_up(&join, &mut command);
         self.room(&command)?;
         self.session = None;

@@ -1,7 +1,6 @@
 //! Joining messages that go to the coordinator in commands.
 ghost use Rattle.std.specs.Prelude.{◌≡◌, ◌≤◌, Ok, Err, IfSome, IsSome, MatchResult, length, Some};
 ghost use Rattle.joining_messages.specs.Messages.{IsMessage};
-ghost use Rattle.agent_node.specs.Relaying as relaying;
 ghost use Rattle.node_rules.specs.Joining.{command_of, message};
 ghost use Rattle.joining_messages.specs.declared.message.JoinBody.TheVariants as body;
 ghost use Rattle.node_rules.specs.Meters as meters;
@@ -14,10 +13,11 @@ ghost use Rattle.meter_node.specs.MeterStates.{node_of};
 ghost use Rattle.meter_node.specs.Hearing as hearing;
 
 use crate::meter::Meter;
-use joining_base::{dropped_send, write_command};
+use agent_node::goes_up;
+use joining_base::{CommandBuf, dropped_send, write_command};
 use joining_messages::{JoinBody, JoinMessage};
 use node_rules::{Dropped, MeterHeard, SendRefusal};
-use plc_base::{EapBuf, Eui, FrameBuf, Keeper, Out, Short};
+use plc_base::{EapBuf, Eui, Keeper, Out, Short};
 
 // The address of the coordinator.
 pub(crate) fn coordinator() -> Short
@@ -38,20 +38,13 @@ pub(crate) fn join_with(eui: Eui, eap: EapBuf) -> JoinMessage
 }
 
 // Writes the command that carries a message.
-pub(crate) fn write_up(message: &JoinMessage, command: &mut FrameBuf)
+pub(crate) fn write_up(message: &JoinMessage, command: &mut CommandBuf)
     requires { IsMessage message.now }
     ensures command { command.new ≡ command_of message.now }
     ensures some { 1 ≤ length command.new }
     ensures fits { length command.new ≤ 138 }
 {
     write_command(message, command);
-}
-
-// Whether a body is a node's JOIN.
-fn is_join(body: &JoinBody) -> bool
-    ensures { result ≡ relaying.goes_up body.now }
-{
-    matches!(body, JoinBody::Join { .. })
 }
 
 // What a command lacks, as the reason of a drop.
@@ -66,7 +59,7 @@ fn room_as(done: Result<(), SendRefusal>) -> Result<(), Dropped>
 
 impl<K: Keeper + Drop> Meter<K> {
     // What a command to the coordinator would be dropped for, where the meter is joined.
-    pub(crate) fn room(&self, command: &FrameBuf) -> Result<(), Dropped>
+    pub(crate) fn room(&self, command: &CommandBuf) -> Result<(), Dropped>
         requires joined { IfSome self.now.station.memory (λ l. IsSome l.ring) }
         requires fits { length command.now ≤ 138 }
         ensures { IfSome self.now.station.memory (λ l. MatchResult result (λ _. HasRoom l 0 (length command.now))
@@ -94,13 +87,13 @@ impl<K: Keeper + Drop> Meter<K> {
         ensures agrees { Agrees self.new.station }
         ensures psk { self.new.psk ≡ self.old.psk }
     {
-        if !is_join(&join.body) {
+        if !goes_up(&join.body) {
             return Err(Dropped::BadUnit);
         }
         if join.eui.number() != from.number() {
             return Err(Dropped::BadUnit);
         }
-        let mut command = FrameBuf::new();
+        let mut command = CommandBuf::new();
         write_up(join, &mut command);
         self.room(&command)?;
         let Ok(_) = self

@@ -14,12 +14,12 @@ ghost use Rattle.meter_node.specs.Hearing as hearing;
 
 use crate::meter::Meter;
 use crate::session::Course;
-use agent_node::relay_down;
+use agent_node::goes_down;
 use group_keys::RingFault;
-use joining_base::{joining_command, read_message};
+use joining_base::{joining_command, push_down, read_message};
 use joining_messages::{JoinBody, JoinMessage};
 use node_rules::{Accepted, Dropped, Heard, MeterHeard, Way};
-use plc_base::{DatagramBuf, FrameBuf, Keeper, LinkCost, Out, OutFrame, Short};
+use plc_base::{DatagramBuf, Keeper, LinkCost, Out, Short};
 
 // Whether two sessions run alike.
 fn same_course(a: Course, b: Course) -> bool
@@ -136,15 +136,10 @@ impl<K: Keeper + Drop> Meter<K> {
         let Some(own) = self.station.ring().joined() else {
             return Err(Dropped::BadUnit);
         };
-        let mut octets = FrameBuf::new();
-        let Ok(()) = relay_down(join, own, &mut octets) else {
+        if !goes_down(&join.body) {
             return Err(Dropped::BadUnit);
-        };
-        out.frames.push(OutFrame {
-            octets,
-            note: 0,
-            key: None,
-        });
+        }
+        push_down(join, own, out);
         Ok(MeterHeard::Carried)
     }
 

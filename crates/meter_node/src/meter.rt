@@ -56,7 +56,8 @@ impl<K: Keeper + Drop> Meter<K> {
 
     /// A meter over what its keeper holds, not halted, without a random value and a session. Its memory is taken here, and only here.
     ///
-    /// Memory, where there is none for it; BadStore, where a record has no reading. The keeper comes back with it.
+    /// Memory where there is none for it; BadStore exactly where a record has no reading, with the slot of the first one. Never Store. The
+    /// keeper comes back with the fault.
     pub fn open(alloc: Global, keeper: K, eui: Eui, psk: Key) -> Result<Meter<K>, (OpenFault, K)>
         ensures opened { IfOk result (λ m. (m.station.store ≡ K.store keeper) × (m.station.eui ≡ eui) × (m.psk ≡ psk)
             × ((node_of m).memory ≡ result_ok (memory_of (memory.Meter psk) (K.store keeper).records))) }
@@ -126,7 +127,7 @@ impl<K: Keeper + Drop> Meter<K> {
         self.session = session_within(now, self.session);
     }
 
-    /// Forgets everything but the store, its random values and its session too, and ends a halt. After BadStore it is halted.
+    /// Forgets all but the store, also its random values and its session, and ends a halt. After BadStore it is halted.
     pub fn restart(&mut self) -> Result<(), BadStore>
         ensures answer { result ≡ read_answer (memory_of (memory.Meter self.old.psk) self.old.station.store.records) }
         ensures memory { (node_of self.new).memory

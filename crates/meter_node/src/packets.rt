@@ -18,9 +18,9 @@ use joining_base::dropped_packet;
 use node_rules::Dropped;
 use plc_base::{EapBuf, Grant, Keeper, Short, TagList};
 
-/// What a third packet gave.
+/// The grant that was taken from a third packet, and with what.
 #[derive(Clone, Copy, Debug)]
-pub(crate) struct Taken {
+pub(crate) struct TakenGrant {
     /// The peer that took it.
     pub peer: Peer,
     /// The grant in it.
@@ -75,7 +75,7 @@ impl<K: Keeper + Drop> Meter<K> {
         packet: &[u8],
         eap: &mut EapBuf,
         tags: &mut TagList,
-    ) -> Result<Taken, Dropped>
+    ) -> Result<TakenGrant, Dropped>
         ensures exact { hearing.third_refusal (keys_of self.now.psk.0) self.now.session packet.now ≡ result_err result }
         ensures peer { IfOk result (λ x. hearing.peer_in self.now.session ≡ Some x.peer) }
         ensures grant { IfOk result (λ x. granted_by (keys_of self.now.psk.0) x.peer packet.now ≡ Some x.grant) }
@@ -92,7 +92,7 @@ impl<K: Keeper + Drop> Meter<K> {
         };
         let keys = self.pair_key.keys();
         match peer.take_third(keys, packet, eap, tags) {
-            Ok((grant, agreed)) => Ok(Taken {
+            Ok((grant, agreed)) => Ok(TakenGrant {
                 peer,
                 grant,
                 agreed,
