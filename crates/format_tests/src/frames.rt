@@ -14,7 +14,7 @@ const KEY: Key = Key([
     0x00, 0x01, 0x02, 0x03, 0x04, 0x05, 0x06, 0x07, 0x08, 0x09, 0x0A, 0x0B, 0x0C, 0x0D, 0x0E, 0x0F,
 ]);
 
-// The datagram `Hello` from node 1 to node 2 behind its mesh header.
+// The datagram `Hello` from node 1 to node 2 after its mesh header.
 const PAYLOAD: &str = "be000100024148656c6c6f";
 
 // The frame that another implementation seals it into, and that a protocol analyser opens.

@@ -90,7 +90,7 @@ fn is_same(a: &JoinBody, b: &JoinBody) -> bool {
     }
 }
 
-// The message of this body is written as these octets, behind what was there, and they are read as that message.
+// The message of this body is written as these octets, after what was there, and they are read as that message.
 fn stands_for(rt: &impl Abort, body: JoinBody, octets: &[u8])
     requires allowed { IsAllowed body }
     requires room { 10 + rest_length body ≤ 400 }

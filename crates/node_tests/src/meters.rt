@@ -4,7 +4,7 @@ ghost use Rattle.std.specs.FinMap as map;
 ghost use Rattle.joining_messages.specs.Messages.{IsMessage};
 ghost use Rattle.node_rules.specs.Agreement.{Agrees};
 
-use joining_base::write_command;
+use joining_base::{CommandBuf, write_command};
 use joining_messages::{JoinBody, JoinMessage};
 use meter_node::Meter;
 use node_rules::{Dropped, FrameRefusal, Heard, MeterHeard};
@@ -176,7 +176,7 @@ impl Node {
     fn commands(&mut self, to: Short, message: &JoinMessage) -> bool
         requires { IsMessage message.now }
     {
-        let mut body = FrameBuf::new();
+        let mut body = CommandBuf::new();
         write_command(message, &mut body);
         self.meter
             .station()

@@ -278,7 +278,7 @@ fn each_octet_changed_in_one_bit(rt: HostRuntime) {
     }
 }
 
-// So many octets of the packet, with zeros behind it where they are more, and with their number in the length field.
+// So many octets of the packet, with zeros after it where they are more, and with their number in the length field.
 fn sized(packet: &EapBuf, size: u8) -> EapBuf {
     let mut octets = [0; 128];
     let count = packet.len();

@@ -1,5 +1,4 @@
-//! A line by hand, event by event: what is set up, datagrams that come up, joinings, a loss of power at a store write, and that
-//! every event that takes memory finds it.
+//! A line by hand, event by event: what is set up, datagrams that come up, and that every event that takes memory finds it.
 ghost use Rattle.line_rules.specs.Events.{IsEvent};
 
 use line_rules::{Answer, Event, Happenings, MAX_EVENTS, StepFault};
