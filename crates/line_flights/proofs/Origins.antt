@@ -18,7 +18,7 @@ use Rattle.line_flights.proofs.FlightLists.{octets_at, count_of}
 abbrev pub origin_of : List Flight → List ℕ → Key → Origin
 origin_of fs octets key = record { is_forged = is_forged_frame fs octets key; note = note_of fs octets key }
 
--- what one flight tells, where `later` is what those behind it tell
+-- what one flight tells, where `later` is what those after it tell
 abbrev pub told_by : Bool → ℕ → Origin → Origin
 told_by b note later = if b then record { is_forged = false; note = note } else later
 
@@ -67,7 +67,7 @@ module _ (octets : List ℕ) (key : Key) where
       ∙ ap (λ b. told_by b f.note (origin_of fs octets key)) (own f same)
   here (g ∷ fs) (suc k) f there same = here fs k f there same
 
-  -- no flight behind the last of these octets has them
+  -- no flight after the last of these octets has them
   pub from_last : (strings : List (List ℕ)) (items : List Kept) (n : ℕ) → length strings ≡ length items → IsLast strings octets n
       → origin_of (drop n (flights_of strings items)) octets key ≡ record { is_forged = true; note = 0 }
   from_last strings items n count is =

@@ -6,7 +6,7 @@ use Rattle.plc_base.specs.declared.tags.PairTag.{PairTag}
 use Rattle.plc_base.specs.declared.tags.PairTag.TheVariants.{MacP, MacS, Channel}
 use Rattle.plc_base.specs.Tags.{IsTag, blank_tag, tag_octets}
 
--- a field that begins with its length, and what stands behind it
+-- a field that begins with its length, and what stands after it
 abbrev pub field_of : List ℕ → List ℕ
 field_of [] = []
 field_of (count ∷ rest) = take count rest
@@ -15,14 +15,14 @@ abbrev pub behind_field : List ℕ → List ℕ
 behind_field [] = []
 behind_field (count ∷ rest) = drop count rest
 
--- a tag of the protected channel, by its EUI, its random value, and the octets behind these
+-- a tag of the protected channel, by its EUI, its random value, and the octets after these
 abbrev pub channel_by : List ℕ → List ℕ → List ℕ → PairTag
 channel_by eui rand rest =
     Channel (record { 0 = eui }) (record { 0 = rand }) (big_number 4 rest)
     (field_of (drop 4 rest))
     (behind_field (drop 4 rest))
 
--- a tag by its kind and the octets behind it
+-- a tag by its kind and the octets after it
 abbrev pub tag_by : ℕ → List ℕ → PairTag
 tag_by zero rest = MacP (record { 0 = take 8 rest }) (drop 8 rest)
 tag_by (suc zero) rest = MacS (record { 0 = take 8 rest }) (drop 8 rest)

@@ -105,7 +105,7 @@ module _ (At Own : ℕ → Type 0) (C : ℕ → ℕ → Rank → Type 0) where
   pub same_ranks : (x : Node) → NodeRanks At Own C x x []
   same_ranks x = record { above = λ dest. inl refl; not_own = λ dest is none. none; routes = λ dest next e. Stood e refl; backed = All-nil (FrameBacked At (stored x)) }
 
-  -- the ranks that the records before and behind give
+  -- the ranks that the records before and after give
   module _ (x y : Node) (t s : routing.Routing) (sound : IsRouting t) (kept : routing.IsKept t x.store.records) (q : RankKept Own C t s y.store.records) where
     was : (dest : ℕ) → routing.held (stored x) dest ≡ routing.held t dest
     was dest = held_read t x.store.records sound kept dest

@@ -23,7 +23,7 @@ if_some (Some p) P Q f h = f p h
 pub below_higher : (number low high : ℕ) → low ≤ high → (f : Flight) → IsBelow number low f → IsBelow number high f
 below_higher number low high le f h same = if_some (nonce_parts f) (λ p. p.counter < low) (λ p. p.counter < high) (λ p lt. omega arith) (h same)
 
--- a flight behind those that are below it
+-- a flight after those that are below it
 rises_behind : (number low : ℕ) (f g : Flight) → g.from ≡ number → IfSome (nonce_parts g) (λ q. low ≤ q.counter) → IsBelow number low f → CounterRises f g
 rises_behind number low f g home at h same = both (nonce_parts f) (nonce_parts g) (h (same ∙ home)) at
   where

@@ -42,7 +42,7 @@ use Rattle.line_laws.specs.Loops.{stored}
 use Rattle.line_laws.proofs.LettersRead.{LetterRead}
 use Rattle.line_laws.proofs.Homed.{Homes}
 
--- The node of an address stands behind a message.
+-- The node of an address stands after a message.
 pub record SaidBy (h : Homes) (w : World) (by : ℕ) (message : Message) : Type 0 where
   pub number : ℕ
   pub node : Node
@@ -68,7 +68,7 @@ not_below a b e lt = omega arith
 not_above : (a b : ℕ) → a ≡ b → b < a → ⊥
 not_above a b e lt = omega arith
 
--- What stands in octets that are the same, at a place and behind it.
+-- What stands in octets that are the same, at a place and after it.
 record SameTwo (a b : ℕ) : Type 0 where
   high : a / 256 % 256 ≡ b / 256 % 256
   low : a % 256 ≡ b % 256

@@ -482,7 +482,7 @@ module _ (ciphers : Ciphers) (fits : KeepsRanges ciphers) (h : Homes) (w : World
 
   -- # deliver, inject
 
-  -- what a node makes of a frame, as it is behind accepting it
+  -- what a node makes of a frame, as it is after accepting it
   hears_hold : (number : ℕ) (y : Node) (got : Accepted) (cost note : ℕ) → NodeOk y → RoutesFit got → SaidRight h (ran w) got → 1 ≤ cost
       → ((psk : Key) → y.role ≡ Meter psk → (m : Memory) → y.memory ≡ Some m → (agreed : Agreed) → (meters.hear_meter (identity ciphers y psk) m got cost note w.clock).answer ≡ Ok (meter_heard.Took agreed)
       → (granted : Granted) → (t : TakenFrom (identity ciphers y psk) m got cost note w.clock granted) → IsTagged t (meters.hear_meter (identity ciphers y psk) m got cost note w.clock).opened → h number ≡ Some granted.address)

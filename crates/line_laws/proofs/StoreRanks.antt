@@ -71,7 +71,7 @@ place_leads B lasts l e place within inside f x = low_one B lasts l _ _ (omega a
       ranks = stored_set routing.ranks l.routing.entries r _ place e k.routing.ranks within refl (reads_entry e place f);
     }))
 
--- an entry behind the others
+-- an entry after the others
 push_leads : (B : Records → Type 0) (lasts : Lasts B) (l : StationMemory) (e : RoutingEntry) → EntryFits e → IsRanged (record l.routing { entries = l.routing.entries ++ e ∷ [] })
     → Leads (With B) l (slots.entry_write routing.ranks (length l.routing.entries) e ∷ []) (record l { routing = record l.routing { entries = l.routing.entries ++ e ∷ [] } })
 push_leads B lasts l e f x = low_one B lasts l _ _ (let short = x.sound.entries.short in let longer = length-append l.routing.entries (e ∷ []) in omega arith) (λ r k.

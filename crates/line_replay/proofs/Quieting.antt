@@ -5,7 +5,7 @@ use Rattle.line_rules.specs.Worlds.{World, Flight, flight_at}
 use Rattle.line_rules.specs.Runs.{Entry}
 use Rattle.line_script.specs.Texts.{happened_text}
 use Rattle.line_replay.specs.Texts.{fly_by, flight_text, flies_text, sent_text}
-use Rattle.line_replay.specs.Report.{Piece, Fly, Other, full_text, quiet_text, IsQuieted, report, entry_text, entries, entries_text, last_text}
+use Rattle.line_replay.specs.Replay.{Piece, Fly, Other, full_text, quiet_text, IsQuieted, report, entry_text, entries, entries_text, last_text}
 use Rattle.line_replay.proofs.Running.{report_by_entries}
 
 -- ---- the pieces of a report

@@ -24,7 +24,7 @@ use Rattle.line_script.specs.declared.report.Reason.TheVariants as reasons
 use Rattle.line_script.specs.Lines.{IsInRange}
 use Rattle.line_script.specs.Readings.{reading}
 use Rattle.line_script.proofs.Ranges.{reading_fits}
-use Rattle.line_replay.specs.Report.{Taking, Skipped, Taken, Refused, step_taking, reading_taking, taking, Playing, entry_text, turn_by, turn_of, end_of, is_forged, outcome, report, entries_by, entries_from, entries, entries_text, last_by, last_from, last_text, forged_in}
+use Rattle.line_replay.specs.Replay.{Taking, Skipped, Taken, Refused, step_taking, reading_taking, taking, Playing, entry_text, turn_by, turn_of, end_of, is_forged, outcome, report, entries_by, entries_from, entries, entries_text, last_by, last_from, last_text, forged_in}
 use Rattle.line_replay.specs.declared.status.Status.{Status}
 use Rattle.line_replay.specs.declared.status.Status.TheVariants as status
 use Rattle.line_replay.specs.Tool.{status_of, Ran, Names, is_whole}
@@ -102,7 +102,7 @@ module _ (quiet : Bool) where
 
   -- ---- forged events
 
-  -- the last state has counted the forged events of a history behind those of the first
+  -- the last state has counted the forged events of a history after those of the first
   abbrev CountedBehind : World → List Entry → Playing → Type 0
   CountedBehind w xs last = last.world.forged ≡ w.forged + forged_in xs
 

@@ -16,7 +16,7 @@ use Rattle.line_rules.specs.Steps.{step}
 use Rattle.line_world.specs.Steps.{Takes as TakesStep}
 use Rattle.line_script.specs.Texts.{happened_text}
 use Rattle.line_replay.specs.Texts.{sent_text}
-use Rattle.line_replay.specs.Report.{Playing, event_taking, turn_by}
+use Rattle.line_replay.specs.Replay.{Playing, event_taking, turn_by}
 
 abbrev text_of : Bool → ℕ → World → Event → Happenings → List ℕ
 text_of quiet number next e h = happened_text number e h ++ sent_text quiet next h.first_flight

@@ -3,7 +3,7 @@ use Rattle.std.specs.Prelude.{ℕ, Bool, refl}
 use Rattle.std.specs.Coded.{Coded, code_by, coded×, coded_ℕ, coded_bool}
 use Rattle.line_rules.specs.Worlds.{World}
 use Rattle.line_world.specs.WorldCodes.{world_code}
-use Rattle.line_replay.specs.Report.{Playing}
+use Rattle.line_replay.specs.Replay.{Playing}
 use Rattle.line_replay.specs.Drills.{Drilling}
 
 abbrev pub playing_code : Coded Playing

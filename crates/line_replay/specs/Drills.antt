@@ -45,7 +45,7 @@ parent node = if nat_le node 20 then 0 else node - 20
 unfoldable pub cost : ℕ → ℕ → ℕ
 cost a b = 1 + (a + b) % 7
 
--- the reading of a meter in a round, with zeros behind it
+-- the reading of a meter in a round, with zeros after it
 unfoldable pub reading : (node round zeros : ℕ) → List ℕ
 reading node round zeros = to_be_bytes w16 node ++ (to_be_bytes w16 round ++ replicate zeros 0)
 

@@ -1,6 +1,6 @@
 pub mod Codes
 pub mod Drills
-pub mod Report
+pub mod Replay
 pub mod Shown
 pub mod Statuses
 pub mod Texts

@@ -18,7 +18,7 @@ use Rattle.line_replay.specs.declared.tool.Command.TheVariants.{Replay, Show, Ve
 use Rattle.line_replay.specs.declared.status.Status.{Status}
 use Rattle.line_replay.specs.declared.status.Status.TheVariants as status
 use Rattle.line_replay.specs.Shown.{show_outcome}
-use Rattle.line_replay.specs.Report.{is_forged, outcome, report, entries, entries_text, last_text, forged_in, IsQuieted}
+use Rattle.line_replay.specs.Replay.{is_forged, outcome, report, entries, entries_text, last_text, forged_in, IsQuieted}
 
 -- a drill with so many meters: 1 to 60, as a line has a number
 abbrev pub drill_of : List ℕ → Option Command

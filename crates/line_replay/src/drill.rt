@@ -53,7 +53,7 @@ fn cost(a: u16, b: u32) -> LinkCost
     LinkCost::new(1 + (sum % 7) as u8).unwrap()
 }
 
-/// The reading of a meter in a round, with so many zeros behind it.
+/// The reading of a meter in a round, with so many zeros after it.
 #[tactic(auto, unfolding(crate::specs::Drills::reading))]
 fn reading(alloc: Global, node: u32, round: u16, zeros: usize) -> Result<Vec<u8>, AllocError>
     requires { zeros ≤ 2044 }

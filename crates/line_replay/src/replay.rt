@@ -5,7 +5,7 @@ ghost use Rattle.line_rules.specs.Events.{IsEvent};
 ghost use Rattle.line_rules.specs.Worlds.{start};
 ghost use Rattle.line_script.specs.Texts.{happened_text};
 ghost use Rattle.line_replay.specs.Texts.{sent_text};
-ghost use Rattle.line_replay.specs.Report.{Playing, is_forged, event_taking, turn_by, turn_of, end_of, stops_at_too_much};
+ghost use Rattle.line_replay.specs.Replay.{Playing, is_forged, event_taking, turn_by, turn_of, end_of, stops_at_too_much};
 
 use crate::report::{push_sent, refuse, totals};
 use line_driver::{LineKind, LineMachine, StopReason, tell, tell_made};
@@ -30,7 +30,7 @@ struct Player {
 
 impl Model for Player {
     ghost use Rattle.line_replay.specs.Codes.{playing_code};
-    ghost use Rattle.line_replay.specs.Report.{Playing};
+    ghost use Rattle.line_replay.specs.Replay.{Playing};
 
     ghost Value = { Playing };
 
@@ -106,7 +106,7 @@ pub struct Replay {
 
 impl Model for Replay {
     ghost use Rattle.line_replay.specs.Codes.{playing_code};
-    ghost use Rattle.line_replay.specs.Report.{Playing};
+    ghost use Rattle.line_replay.specs.Replay.{Playing};
 
     ghost Value = { Playing };
 
@@ -148,7 +148,7 @@ impl LineMachine for Replay {
 
     ghost stops = { stops_at_too_much };
 
-    #[tactic(auto, unfolding(crate::specs::Report::taking), using(line_driver::proofs::Turned::stopped))]
+    #[tactic(auto, unfolding(crate::specs::Replay::taking), using(line_driver::proofs::Turned::stopped))]
     fn take<K: Sink>(
         &mut self,
         number: u32,

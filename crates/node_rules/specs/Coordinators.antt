@@ -73,7 +73,7 @@ session_of m eui = option_and_then (slice_get m.sessions) (position (is_of eui) 
 abbrev pub without_session : Eui → Memory → Memory
 without_session eui m = record m { sessions = filter (λ s. not (is_of eui s)) m.sessions }
 
--- a session stands in the place of that of its meter, or behind the others
+-- a session stands in the place of that of its meter, or after the others
 abbrev pub with_session : CoordinatorSession → Memory → Memory
 with_session s m = record m {
   sessions =

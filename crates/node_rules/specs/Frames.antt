@@ -70,7 +70,7 @@ pub record Arrived : Type 0 where
   pub body : List ℕ
   pub opened : Key → Option (List ℕ)
 
--- a frame in octets: its head, the octets behind it, and what each key opens of them
+-- a frame in octets: its head, the octets after it, and what each key opens of them
 abbrev pub arrived_with : Ciphers → MacHead → List ℕ → List ℕ → Arrived
 arrived_with ciphers head front body =
     record { head = head; body = body; opened = λ key. ciphers.opens key head front body }

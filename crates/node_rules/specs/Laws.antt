@@ -41,7 +41,7 @@ all_put (w ∷ rest) records = all_put rest (insert records w.slot w.octets)
 abbrev pub nearer_by : ℕ → Cut → Cut
 nearer_by count cut = record cut { nth = cut.nth - count }
 
--- A plan that was carried out to its end: the loss of power was to come behind its writes.
+-- A plan that was carried out to its end: the loss of power was to come after its writes.
 pub record IsWhole {M A : Type 0} (records : Records) (cut : Option Cut) (p : Plan M A) (o : Outcome M A) : Type 0 where
   pub spared : IfSome cut (λ c. (p.puts ≡ []) ⊎ (length p.puts < c.nth))
   pub cut_left : o.cut ≡ option_map (nearer_by (length p.puts)) cut

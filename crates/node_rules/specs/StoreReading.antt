@@ -46,7 +46,7 @@ station_of records =
 
 -- # A meter and the coordinator
 
--- the memory behind a restart: no random value is left, and no session
+-- the memory after a restart: no random value is left, and no session
 abbrev pub remembering : StationMemory → book.Book → Memory
 remembering l b = record { station = l; randoms = []; session = None; sessions = []; book = b }
 

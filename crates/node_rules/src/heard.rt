@@ -120,7 +120,7 @@ pub enum Heard<'a> {
     Joining {
         /// Where it comes from.
         way: Way,
-        /// What stands behind the code 02.
+        /// What stands after the code 02.
         body: OctetRef<'a>,
     },
     /// A command of code 03, 04 or 05, whose body is not read yet.
@@ -131,7 +131,7 @@ pub enum Heard<'a> {
         to_all: bool,
         /// The code: 3 to 5.
         code: u8,
-        /// What stands behind the code.
+        /// What stands after the code.
         body: OctetRef<'a>,
     },
 }

@@ -17,7 +17,7 @@ ghost use Rattle.node_rules.specs.Plans.{Plan, resting, within};
 ghost use Rattle.node_rules.specs.States.{State};
 ghost use Rattle.node_rules.specs.Laws.{WritesFailCleanly, NoCutNoFailure, HaltedHasNoAddress, RinglessHasNoAddress, HaltedDoesNothing, AFrameRefusedChangesNothing, ADropChangesNothing, AMetersDropChangesNothing, ACoordinatorsDropChangesNothing, ASendRefusedChangesNothing, AJoinRefusedChangesNothing, AnOrderRefusedChangesNothing, TheRoomTellsTheRefusal, HearingIsBounded, AMetersHearingIsBounded, ACoordinatorsHearingIsBounded, ASendIsBounded, AJoinIsBounded, AnOrderIsBounded, AcceptingOnlyMarks, AnEmptyStoreIsBlank};
 
-/// Where the write of a plan fails, the writes in front of it are stored and those behind it are not; the failed one is stored as the
+/// Where the write of a plan fails, the writes in front of it are stored and those after it are not; the failed one is stored as the
 /// loss of power says. The node answers the word of a failed write, and nothing is sent, made or kept in memory. A plan whose writes are
 /// all in front of the loss is carried out whole.
 #[tactic(auto, using(crate::proofs::Writing::clean))]

@@ -211,7 +211,7 @@ DiscoveryIsJudgedInOrder =
     × (meter_answer unjoined (beacon_spelling 0 PAN 2 5) ≡ Err discovery.NotScanning)
     × (meter_answer (scanning unjoined) (beacon_spelling 0 PAN 2 5) ≡ Ok Beaconed)
 
--- The lowest three bits of the first octet say what is heard as discovery, whatever comes behind it.
+-- The lowest three bits of the first octet say what is heard as discovery, whatever comes after it.
 unfoldable pub DiscoveryIsToldByItsType : Type 0
 DiscoveryIsToldByItsType =
     (is_discovery (0x00 ∷ []) ≡ true)

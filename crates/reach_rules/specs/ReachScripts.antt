@@ -176,7 +176,7 @@ APathIsTold =
     ∷ Hearing (Ok (OfCommand commands.Relayed)) ∷ Hearing (Ok (OfCommand (commands.Path (0 ∷ 1 ∷ 2 ∷ [])))) ∷ []))
     × (flown_in three_in_a_row path_told ≡ 9)
 
--- the link behind the first hop breaks before the ask comes there
+-- the link after the first hop breaks before the ask comes there
 abbrev pub path_broken : List Doing
 path_broken = path_sought ++ (Breaks 1 2 ∷ Comes 6 1 1 ∷ [])
 

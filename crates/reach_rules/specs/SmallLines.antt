@@ -221,7 +221,7 @@ abbrev pub words_of : SmallLine → List Doing → List Word
 words_of s [] = []
 words_of s (doing ∷ rest) = (happens s doing).word ∷ words_of (happens s doing).line rest
 
--- the line behind it
+-- the line after it
 abbrev pub behind : SmallLine → List Doing → SmallLine
 behind s [] = s
 behind s (doing ∷ rest) = behind (happens s doing).line rest

@@ -43,7 +43,7 @@ use Rattle.line_rules.specs.Runs.{Entry, run, one_of}
 
 -- # Plain ciphers
 
--- the payload stays as it is, and four octets of the key stand behind it as a tag
+-- the payload stays as it is, and four octets of the key stand after it as a tag
 abbrev pub plain_tag : Key → List ℕ
 plain_tag key = take 4 key.0
 
@@ -219,16 +219,16 @@ said_of code n rest = 0x40 ∷ 0x02 ∷ joining_octets code n rest
 
 -- # What a run is seen as
 
--- the world behind a run
+-- the world after a run
 abbrev pub world_behind : World → List Entry → World
 world_behind w [] = w
 world_behind w (x ∷ rest) = world_behind x.after rest
 
--- the answers behind so many events
+-- the answers after so many events
 abbrev pub answers_after : ℕ → List Event → List Answer
 answers_after count events = map (λ (x : Entry). x.trace.happened.answer) (drop count (run plain start events))
 
--- the answers to events behind a script
+-- the answers to events after a script
 abbrev pub answers_to : List Event → List Event → List Answer
 answers_to before events =
     map (λ (x : Entry). x.trace.happened.answer) (run plain (world_behind start (run plain start before)) events)
@@ -278,22 +278,22 @@ pub record Counted : Type 0 where
 abbrev pub counted : World → Counted
 counted w = record { events = w.events; flights = length w.flights; sends = w.sends; ups = w.ups; forged = w.forged }
 
--- what the world behind a script has counted
+-- what the world after a script has counted
 abbrev pub counts_of : List Event → Counted
 counts_of events = counted (world_behind start (run plain start events))
 
--- why an event is not taken behind others
+-- why an event is not taken after others
 abbrev pub fault_by : Step → Option StepFault
 fault_by (Ok r) = None
 fault_by (Err fault) = Some fault
 
--- why an event is not taken behind a script
+-- why an event is not taken after a script
 abbrev pub fault_after : List Event → Event → Option StepFault
 fault_after events event = fault_by (step plain (world_behind start (run plain start events)) event)
 
--- # What is left behind a script
+-- # What is left after a script
 
--- the world behind it
+-- the world after it
 abbrev pub world_of : List Event → World
 world_of events = world_behind start (run plain start events)
 

@@ -10,7 +10,7 @@ const FRAMES: [(&str, &str); 6] = [
         "61d8001d78000008070605040302014002010102030405060708\n69\n",
         "1 plain to 0000 from 0102030405060708 payload 4002010102030405060708\n2 fault Short 1\nend 2\n",
     ),
-    // a sealed frame, behind lines with no frame
+    // a sealed frame, after lines with no frame
     (
         "# sealed\n\n6998001d78020001000d0000000000e8c6be3fa01dc6a252e03de38f4258",
         "3 sealed to 0002 from 0001 counter 0 index 0 body 15\nend 1\n",

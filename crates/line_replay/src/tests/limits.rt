@@ -75,7 +75,7 @@ fn push_repeated(text: &mut String, line: &str, count: u32) -> Result<(), AllocE
     Ok(())
 }
 
-// Lines without an event come behind the last one.
+// Lines without an event come after the last one.
 #[test]
 fn fifty_thousand_events(rt: HostRuntime) -> Result<(), Fail> {
     let mut script = String::from_str(rt.alloc(), COORDINATOR)?;

@@ -1,7 +1,7 @@
 use Rattle.std.proofs.Common.{sym, true}
 use Rattle.line_replay.proofs.Running.{entries_run, report_by_entries, names, ran_of, whole_exit, read_cause, write_cause}
 use Rattle.line_replay.proofs.Quieting.{report_quieted}
-use Rattle.line_replay.specs.Report.{entries, is_forged, outcome}
+use Rattle.line_replay.specs.Replay.{entries, is_forged, outcome}
 use Rattle.line_replay.proofs.tool.replay.Goals as goal
 
 pub returns-clause-replays : goal.returns-clause-replays

@@ -3,7 +3,7 @@ use Rattle.std.specs.Prelude.{slice_get}
 use Rattle.line_flights.proofs.Origins.{origin_of}
 use Rattle.line_flights.proofs.flights.Flights.origin.Given as goal
 
--- what the flights behind a number tell; that of the number has the octets
+-- what the flights after a number tell; that of the number has the octets
 abbrev pub invariant-loop-number : goal.invariant-loop-number
 invariant-loop-number l = record {
   told : l.origin ≡ origin_of (drop l.number l.self.flights) l.octets l.key;
