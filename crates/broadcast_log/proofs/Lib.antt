@@ -1,3 +1,4 @@
 pub mod Runs
 pub mod Leading
 pub mod Spellings
+pub mod Reopening

@@ -27,11 +27,11 @@ record Holds (given : List ℕ) (before : List Admitted) (was : Option Log) (rec
   marks : HoldsAdmitted 0x0300 32 before (option_map (λ l. l.marks) was) records
 
 -- a log that was opened has both parts opened
-record IsOpened (log : Log) (records : Records) : Type 0 where
-  numbering : numbering_in records ≡ Ok log.numbering
-  marks : slots.opened marks records ≡ Ok log.marks
+pub record IsOpened (log : Log) (records : Records) : Type 0 where
+  pub numbering : numbering_in records ≡ Ok log.numbering
+  pub marks : slots.opened marks records ≡ Ok log.marks
 
-both_opened : (log : Log) (records : Records) → opened records ≡ Ok log → IsOpened log records
+pub both_opened : (log : Log) (records : Records) → opened records ≡ Ok log → IsOpened log records
 both_opened log records e = by_parts (numbering_in records) (slots.opened marks records) refl refl e
   where
     by_parts : (n : Result Numbering BadStore) (m : Result Marks BadStore) → numbering_in records ≡ n → slots.opened marks records ≡ m → log_of n m ≡ Ok log → IsOpened log records

@@ -3,7 +3,7 @@ use Rattle.std.proofs.Common.{◌≡◌, ℕ, zero, suc, ◌-◌, ◌<◌, true,
 use Rattle.std.specs.Prelude.{slice_get, slice_set, MatchOption, ◌==◌}
 use Rattle.std.proofs.lemmas.Option.{slice_get-get_or}
 use Rattle.std.proofs.Math.Dec.{eqb-suc-zero}
-use Rattle.line_rules.specs.Worlds.{Flight}
+use Rattle.line_flights.specs.Flights.{Flight}
 use Rattle.line_flights.specs.declared.flights.Kept.{Kept}
 use Rattle.line_flights.specs.Flown.{Flown, flight_in, not_lost}
 use Rattle.line_flights.specs.Keeping.{flight_of, flights_of}

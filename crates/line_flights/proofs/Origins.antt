@@ -8,7 +8,7 @@ use Rattle.std.proofs.lemmas.List.{drop_all}
 use Rattle.octet_log.specs.Logs.{IsLast}
 use Rattle.octet_log.proofs.Lasts.{got_take}
 use Rattle.plc_base.specs.declared.key.Key.{Key}
-use Rattle.line_rules.specs.Worlds.{Flight, has_octets, note_of, is_forged_frame}
+use Rattle.line_flights.specs.Flights.{Flight, has_octets, note_of, is_forged_frame}
 use Rattle.line_flights.specs.declared.flights.Kept.{Kept}
 use Rattle.line_flights.specs.declared.flights.Origin.{Origin}
 use Rattle.line_flights.specs.Flown.{is_under}

@@ -4,7 +4,7 @@ use Rattle.std.specs.Option.{option_map_or}
 use Rattle.plc_base.specs.declared.key.Key.{Key}
 use Rattle.plc_base.specs.declared.tags.PairTag.{PairTag}
 use Rattle.group_keys.specs.KeyBook.{same_key}
-use Rattle.line_rules.specs.Worlds.{Flight}
+use Rattle.line_flights.specs.Flights.{Flight}
 
 -- the flights by their numbers from 1, how many more may be added, and how many octets those may have together
 pub record Flown : Type 0 where

@@ -1,7 +1,7 @@
 -- How flights are kept, for the clauses of private functions. No public clause names what stands here.
 use Rattle.std.specs.Prelude.{◌≡◌, ◌≤◌, ℕ, ◌+◌, List, [], ◌∷◌, length}
 use Rattle.octet_log.specs.Logs.{Log}
-use Rattle.line_rules.specs.Worlds.{Flight}
+use Rattle.line_flights.specs.Flights.{Flight}
 use Rattle.line_flights.specs.declared.flights.Kept.{Kept}
 
 -- a flight, by its octets and what is kept beside them

@@ -1,3 +1,4 @@
+pub mod Flights
 pub mod Flown
 pub mod Keeping
 pub mod Spellings

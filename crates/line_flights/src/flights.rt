@@ -2,8 +2,8 @@
 ghost use Rattle.std.specs.Prelude.{◌≡◌, ◌+◌, ◌*◌, ◌-◌, ◌<◌, ◌≤◌, ◌++◌, ◌∷◌, [], false, true, max, IsOk, OnOk, OnErr, MatchOption, if◌then◌else◌, length, map, slice_set};
 ghost use Rattle.std.specs.Option.{ForSome, option_copied, option_map};
 ghost use Rattle.std.specs.Str.{bytes_eq};
-ghost use Rattle.line_rules.specs.Steps.{flight_by};
-ghost use Rattle.line_rules.specs.Worlds.{Flight, is_forged_frame, note_of};
+ghost use Rattle.line_flights.specs.Flights.{flight_by};
+ghost use Rattle.line_flights.specs.Flights.{Flight, is_forged_frame, note_of};
 ghost use Rattle.line_flights.specs.Flown.{flight_in, not_lost, is_under};
 
 use byteorder::{BigEndian, ByteOrder};
@@ -37,7 +37,7 @@ pub struct FlightRef<'a> {
 }
 
 impl<'a> Model for FlightRef<'a> {
-    ghost use Rattle.line_rules.specs.Worlds.{Flight};
+    ghost use Rattle.line_flights.specs.Flights.{Flight};
 
     ghost Value = { Flight };
 

@@ -1,7 +1,7 @@
 //! The pair tags that were made, so that one that was made by nobody is told.
 ghost use Rattle.std.specs.Prelude.{◌≡◌, ◌+◌, ◌-◌, ◌<◌, ◌≤◌, ◌++◌, ◌∷◌, [], max, IsOk, OnOk, OnErr, length};
 ghost use Rattle.std.specs.List.{list_any};
-ghost use Rattle.line_rules.specs.Worlds.{is_forged_tag};
+ghost use Rattle.line_flights.specs.Flights.{is_forged_tag};
 
 use octet_log::OctetLog;
 use plc_base::PairTag;

@@ -613,3 +613,8 @@ module _ (ciphers : Ciphers) (fits : KeepsRanges ciphers) (w : World) (ok : Worl
   step_agrees (events.Activate node index) e = activate_agrees node index
   step_agrees (events.Kick node) e = kick_agrees node
   step_agrees (events.Show node) e = show_agrees node
+  step_agrees events.Checks e = Refused faults.Setup
+  step_agrees (events.Bcast node datagram) e = Refused faults.Setup
+  step_agrees (events.Scan node) e = Refused faults.Setup
+  step_agrees (events.Choose node k) e = Refused faults.Setup
+  step_agrees (events.Path from to) e = Refused faults.Setup

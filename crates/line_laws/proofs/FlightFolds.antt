@@ -57,7 +57,7 @@ use Rattle.line_laws.proofs.Tellings.{IsCall, Gives, Joins, Leaves, Sends, Break
 -- # What holds of every frame that is sent holds of every flight
 
 module _ (ciphers : Ciphers) (P : Flight → Type 0) (sent : (number : ℕ) (f : Sent) → P (flight_by number (spelled ciphers f))) (lost : (f : Flight) → P f → P (record f { lost = true })) where
-  told_all : {A : Type 0} (u : World) (number : ℕ) (d : NodeStep A) → All P u.flights → All P (told ciphers u number d).flights
+  pub told_all : {A : Type 0} (u : World) (number : ℕ) (d : NodeStep A) → All P u.flights → All P (told ciphers u number d).flights
   unfolding told
   told_all u number d all = All-append P u.flights (flights_of ciphers number d) all (All-map P (λ frame. flight_by number (spelled ciphers frame)) d.frames (λ k e lt. sent number _))
 

@@ -48,7 +48,7 @@ abbrev pub High : ℕ → List Write → Type 0
 High floor [] = Unit {0}
 High floor (w ∷ ws) = IsHigh floor w × High floor ws
 
-High-append : (floor : ℕ) (ps qs : List Write) → High floor ps → High floor qs → High floor (ps ++ qs)
+pub High-append : (floor : ℕ) (ps qs : List Write) → High floor ps → High floor qs → High floor (ps ++ qs)
 High-append floor [] qs h k = k
 High-append floor (p ∷ ps) qs h k = (h.0, High-append floor ps qs h.1 k)
 

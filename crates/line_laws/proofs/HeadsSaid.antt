@@ -1,5 +1,5 @@
 -- What the head of a frame says of its nonce, as nodes spell it.
-use Rattle.std.proofs.Common.{◌≡◌, ℕ, ◌<◌, ◌^◌, Bool, true, false, List, take, Option, Some, None, refl, sym, ap, ◌∙◌, subst}
+use Rattle.std.proofs.Common.{inl, ◌≡◌, ℕ, ◌<◌, ◌^◌, Bool, true, false, List, take, Option, Some, None, refl, sym, ap, ◌∙◌, subst}
 use Rattle.std.specs.Prelude.{◌%◌, ◌==◌, not, IfSome, All, is_some, if◌then◌else◌}
 use Rattle.std.proofs.lemmas.Option.{same_Some}
 use Rattle.plc_base.specs.declared.fields.Fault.{Fault}
@@ -126,5 +126,5 @@ spelled_well ciphers number (Sealed l) = record { sealed = λ k e. subst (λ k. 
 
     no_key : (spelled ciphers (Sealed l)).key ≡ None → ⊥
     no_key e = some_key l.key (sealed_key ciphers l ∙ e)
-spelled_well ciphers number (Up agent from message) = record { sealed = λ k e. absurd (none_key k (up_key ciphers agent from message ∙ e)); plain = λ e. (up_plain ciphers agent from message, up_note ciphers agent from message) }
-spelled_well ciphers number (Down from message) = record { sealed = λ k e. absurd (none_key k (down_key ciphers from message ∙ e)); plain = λ e. (down_plain ciphers from message, down_note ciphers from message) }
+spelled_well ciphers number (Up agent from message) = record { sealed = λ k e. absurd (none_key k (up_key ciphers agent from message ∙ e)); plain = λ e. (inl (up_plain ciphers agent from message), up_note ciphers agent from message) }
+spelled_well ciphers number (Down from message) = record { sealed = λ k e. absurd (none_key k (down_key ciphers from message ∙ e)); plain = λ e. (inl (down_plain ciphers from message), down_note ciphers from message) }

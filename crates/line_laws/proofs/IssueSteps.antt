@@ -794,3 +794,8 @@ module _ (ciphers : Ciphers) (fits : KeepsRanges ciphers) (w : World) (ok : Worl
   step_keyed (events.Activate node index) e = activate_keyed node index e.1
   step_keyed (events.Kick node) e = kick_keyed node
   step_keyed (events.Show node) e = show_keyed node
+  step_keyed events.Checks e = Fails faults.Setup
+  step_keyed (events.Bcast node datagram) e = Fails faults.Setup
+  step_keyed (events.Scan node) e = Fails faults.Setup
+  step_keyed (events.Choose node k) e = Fails faults.Setup
+  step_keyed (events.Path from to) e = Fails faults.Setup

@@ -28,7 +28,16 @@ use Rattle.line_laws.specs.Agreed.{Confirmed}
 use Rattle.line_laws.specs.InCustody.{Custody, SentUnder}
 use Rattle.line_laws.specs.Custody.{sent_is}
 use Rattle.line_laws.specs.Keyed.{CoordinatorOk, Keyed}
-use Rattle.line_laws.specs.Later.{GoesOn, Holds, MayBeSealed, PlainKeeps, RunningKeeps, SealingKeeps, seals_at, sends_plain}
+use Rattle.line_laws.specs.Later.{GoesOn, Holds, IsOfLog, MayBeSealed, PlainKeeps, RunningKeeps, SealingKeeps, StoringKeeps, seals_at, sends_plain, stores, stores_at}
+use Rattle.plc_base.specs.Keeper.{Write}
+use Rattle.line_laws.specs.Later.{Keeps}
+use Rattle.node_rules.specs.NodeSteps.{acts}
+use Rattle.line_laws.proofs.FurtherForms.{AnyUnits, IsFurther, further_ok}
+use Rattle.line_laws.proofs.FurtherSeals.{IsOne, further_away, further_clean, further_makes, further_octets, further_quietly, further_ranged, further_ranks}
+use Rattle.line_laws.proofs.IssueWords.{Each}
+use Rattle.line_laws.proofs.LaterStores.{log_away, log_ranks, stores_ok, stores_quietly}
+use Rattle.line_laws.proofs.RankAccount.{account_same}
+use Rattle.line_laws.proofs.RankWrites as rank_writes
 use Rattle.line_laws.specs.Letters.{IsFlight, IsPlainFrame}
 use Rattle.line_laws.specs.Lines.{FlightFits, NodeOk, WorldOk, frontier}
 use Rattle.line_laws.specs.Live.{book_of, live, marks_of}
@@ -138,6 +147,80 @@ module _ (given : List Issued) (sent : List Sending) (taken : List Pairing) (all
 
       quietly : (m : Memory) → IsMemorySized m → Quietly m (plan ends to unit m)
       quietly m sized = plan_quietly ends to unit m
+
+      at_home : (m : Memory) → x.memory ≡ Some m → IsAt (At old_homes number) (address_of m.station)
+      at_home m here = by_address (address_of m.station) refl
+        where
+          by_address : (o : Option ℕ) → address_of m.station ≡ o → IsAt (At old_homes number) o
+          by_address None e = tt
+          by_address (Some a) e = (addressed w given h.line h.keyed).home number x there a (ap (option_and_then (λ (n : Memory). address_of n.station)) here ∙ e)
+
+  -- a node that stores its log of broadcasts
+  stores_beside : (ps : List Write) → Each IsOfLog ps → (number : ℕ) (x : Node) → node_at w number ≡ Some x → SentBeside number x (stores_at ps x)
+  stores_beside ps is number x there = record {
+    did = acts_ok x tt does good (λ m here kept sized. stores_ok ps is x.role m sized);
+    ranged = acts_ranged x tt does ranged (λ m here k. record { station = k; frames = All-nil IsSent });
+    clean = acts_clean S (home number) x tt does ranged (h.custody.nodes number x there)
+        (λ m here k true_is. record { ranged = k; fits = All-nil IsSent; station = true_is; frames = All-nil (SentIsOf S); kept = λ n i some. omega arith });
+    octets = acts_send SentOctets x tt does (λ m here. All-nil SentOctets);
+    stays = acts_stays x tt does (λ m. log_away ps is);
+    keyed = quiet_told network network_ranges w given h.keyed number x there good tt does quietly;
+    made = acts_nothing x tt does (λ m here. refl);
+    book = λ first. quiet_grows network network_ranges w h.line h.octets given h.keyed number x tt does first there quietly;
+    shut = λ eui out. quiet_shut eui network network_ranges w h.line h.octets out number x tt does there quietly;
+    ranks = acts_ranks (At old_homes number) (Own old_homes number) (IsNearer old_homes w) x tt does good
+        (λ m here kept. record {
+          leads = λ first. rank_writes.away_leads (Own old_homes number) (IsNearer old_homes w) first m.station.routing ps (log_ranks ps is);
+          account = λ sound. account_same m.station.routing sound;
+          backed = λ sound. All-nil (FrameBacked (At old_homes number) m.station.routing);
+          here = at_home m here;
+        });
+  }
+    where
+      does : Memory → Plan Memory (Unit {0})
+      does = stores tt tt ps
+
+      good : NodeOk x
+      good = good_at number x there
+
+      ranged : NodeRanged x
+      ranged = at_place NodeRanged w.nodes number x there h.ranged.nodes
+
+      quietly : (m : Memory) → IsMemorySized m → Quietly m (does m)
+      quietly m sized = stores_quietly ps is m
+
+      at_home : (m : Memory) → x.memory ≡ Some m → IsAt (At old_homes number) (address_of m.station)
+      at_home m here = by_address (address_of m.station) refl
+        where
+          by_address : (o : Option ℕ) → address_of m.station ≡ o → IsAt (At old_homes number) o
+          by_address None e = tt
+          by_address (Some a) e = (addressed w given h.line h.keyed).home number x there a (ap (option_and_then (λ (n : Memory). address_of n.station)) here ∙ e)
+
+  -- a node that carries out a plan of its further rules
+  further_beside : {A : Type 0} (halted : A) (does : Memory → Plan Memory A) → ((m : Memory) → IsFurther AnyUnits m (does m)) → (number : ℕ) (x : Node) → ((m : Memory) → x.memory ≡ Some m → IsFurther IsOne m (does m)) → node_at w number ≡ Some x
+      → SentBeside number x (acts x halted does)
+  further_beside halted does is number x one there = record {
+    did = acts_ok x halted does good (λ m here kept sized. further_ok AnyUnits x.role m sized (does m) (is m));
+    ranged = acts_ranged x halted does ranged (λ m here k. further_ranged m (does m) (one m here) k);
+    clean = acts_clean S (home number) x halted does ranged (h.custody.nodes number x there) (λ m here k true_is. further_clean m S (home number) (does m) (one m here) k true_is);
+    octets = acts_send SentOctets x halted does (λ m here. further_octets m (does m) (one m here) (ring_readable x m good here));
+    stays = acts_stays x halted does (λ m. further_away m (does m) (is m));
+    keyed = quiet_told network network_ranges w given h.keyed number x there good halted does quietly;
+    made = acts_nothing x halted does (λ m here. further_makes m (does m) (is m));
+    book = λ first. quiet_grows network network_ranges w h.line h.octets given h.keyed number x halted does first there quietly;
+    shut = λ eui out. quiet_shut eui network network_ranges w h.line h.octets out number x halted does there quietly;
+    ranks = acts_ranks (At old_homes number) (Own old_homes number) (IsNearer old_homes w) x halted does good
+        (λ m here kept. further_ranks m (At old_homes number) (Own old_homes number) (IsNearer old_homes w) (does m) (one m here) (at_home m here));
+  }
+    where
+      good : NodeOk x
+      good = good_at number x there
+
+      ranged : NodeRanged x
+      ranged = at_place NodeRanged w.nodes number x there h.ranged.nodes
+
+      quietly : (m : Memory) → IsMemorySized m → Quietly m (does m)
+      quietly m sized = further_quietly m (does m) (is m)
 
       at_home : (m : Memory) → x.memory ≡ Some m → IsAt (At old_homes number) (address_of m.station)
       at_home m here = by_address (address_of m.station) refl
@@ -356,6 +439,18 @@ pub plain_keeps : PlainKeeps
 plain_keeps frame plain are w number x runs there given sent taken all home ups h =
     let f = plain_beside given sent taken all home ups w h frame plain are number x there in
     (holds given sent taken all home ups w h number x (sends_plain frame x) runs there f, goes_on given sent taken all home ups w h number x (sends_plain frame x) runs there f)
+
+pub storing_keeps : StoringKeeps
+storing_keeps ps is w number x runs there given sent taken all home ups h =
+    let f = stores_beside given sent taken all home ups w h ps is number x there in
+    (holds given sent taken all home ups w h number x (stores_at ps x) runs there f, goes_on given sent taken all home ups w h number x (stores_at ps x) runs there f)
+
+-- a node that carries out a plan of its further rules keeps all of it
+pub further_keeps : {A : Type 0} (halted : A) (does : Memory → Plan Memory A) → ((m : Memory) → IsFurther AnyUnits m (does m)) → (w : World) (number : ℕ) (x : Node) → ((m : Memory) → x.memory ≡ Some m → IsFurther IsOne m (does m))
+    → w.running ≡ true → node_at w number ≡ Some x → Keeps w (told network w number (acts x halted does))
+further_keeps halted does is w number x one runs there given sent taken all home ups h =
+    let f = further_beside given sent taken all home ups w h halted does is number x one there in
+    (holds given sent taken all home ups w h number x (acts x halted does) runs there f, goes_on given sent taken all home ups w h number x (acts x halted does) runs there f)
 
 ran_homes : (b : books.Book) (w : World) → homed.Grows (homes_of b w) (homes_of b (ran w))
 unfolding homes_of

@@ -190,7 +190,7 @@ module _ {E : Type 0} (ends : Ends E) (to : ℕ) (unit : MeshUnit) where
         (λ left. sealed_speak m.station.ring m.station.counter.next (one ∷ []) reads (All-cons OutSpeaks one [] may.octets (All-nil OutSpeaks)))
 
     -- sends and custody
-    sealed_true : (S : ℕ → SentAs → Type 0) (r : ring.Ring) (first : ℕ) → All (SentIsOf S) (sealed_by r first (one ∷ []))
+    pub sealed_true : (S : ℕ → SentAs → Type 0) (r : ring.Ring) (first : ℕ) → All (SentIsOf S) (sealed_by r first (one ∷ []))
     sealed_true S None first = All-nil (SentIsOf S)
     sealed_true S (Some g) first = by_key (sealing_key g)
       where
@@ -198,7 +198,7 @@ module _ {E : Type 0} (ends : Ends E) (to : ℕ) (unit : MeshUnit) where
         by_key None = All-nil (SentIsOf S)
         by_key (Some key) = All-cons (SentIsOf S) _ [] (no_send S unit may.beside) (All-nil (SentIsOf S))
 
-    sealed_weighs : (n i : ℕ) (r : ring.Ring) (first : ℕ) → sum_by (sent_is n i) (sealed_by r first (one ∷ [])) ≤ 0
+    pub sealed_weighs : (n i : ℕ) (r : ring.Ring) (first : ℕ) → sum_by (sent_is n i) (sealed_by r first (one ∷ [])) ≤ 0
     sealed_weighs n i None first = zero-le
     sealed_weighs n i (Some g) first = by_key (sealing_key g)
       where
@@ -221,7 +221,7 @@ module _ {E : Type 0} (ends : Ends E) (to : ℕ) (unit : MeshUnit) where
 
     -- ranks and routes
     module _ (At Own : ℕ → Type 0) (C : ℕ → ℕ → Rank → Type 0) where
-      sealed_backed : (t : routing.Routing) (r : ring.Ring) (first : ℕ) → IsAt At (option_map (λ (g : Granted). g.address) r) → All (FrameBacked At t) (sealed_by r first (one ∷ []))
+      pub sealed_backed : (t : routing.Routing) (r : ring.Ring) (first : ℕ) → IsAt At (option_map (λ (g : Granted). g.address) r) → All (FrameBacked At t) (sealed_by r first (one ∷ []))
       sealed_backed t None first h = All-nil (FrameBacked At t)
       sealed_backed t (Some g) first h = by_key (sealing_key g)
         where

@@ -133,3 +133,14 @@ pub mod RestartRuns
 pub mod LaterSeals
 pub mod LaterKeeps
 pub mod LaterEnds
+pub mod LaterStores
+pub mod LaterMoves
+pub mod LaterTurns
+pub mod FurtherForms
+pub mod FurtherLines
+pub mod SplitWrites
+pub mod FurtherSeals
+pub mod FurtherSteps
+pub mod FurtherTellings
+pub mod FurtherLogs
+pub mod FurtherOctets

@@ -59,7 +59,7 @@ pub record WorldSpeaks (w : World) : Type 0 where
   pub flights : All FlightFits w.flights
 
 -- what a node did is told
-told_speaks : {A : Type 0} (u : World) (number : ℕ) (d : NodeStep A) → WorldSpeaks u → DidSpeak d → WorldSpeaks (told network u number d)
+pub told_speaks : {A : Type 0} (u : World) (number : ℕ) (d : NodeStep A) → WorldSpeaks u → DidSpeak d → WorldSpeaks (told network u number d)
 unfolding told
 told_speaks u number d s did = record {
   nodes = All-set NodeSpeaks u.nodes number d.node did.node s.nodes;
@@ -90,7 +90,7 @@ module _ (w : World) (ok : WorldOk w) (s : WorldSpeaks w) where
   set_up_speaks : WorldSpeaks (set_up w)
   set_up_speaks = record { nodes = s.nodes; flights = s.flights }
 
-  pair_of : (number : ℕ) (x : Node) (m : Memory) (psk : Key) → node_at w number ≡ Some x → x.memory ≡ Some m → psk_of x ≡ Some psk → AreOctets psk.0
+  pub pair_of : (number : ℕ) (x : Node) (m : Memory) (psk : Key) → node_at w number ≡ Some x → x.memory ≡ Some m → psk_of x ≡ Some psk → AreOctets psk.0
   pair_of number x m psk there here pair = pair_octets x m psk (node_kept x m (good_at number x there) here) (psk_meter x psk pair)
 
   -- # Calls

@@ -605,3 +605,8 @@ module _ (ciphers : Ciphers) (fits : KeepsRanges ciphers) (h : Homes) (w : World
   event_holds (events.Activate node index) e fit = activate_holds node index e.1
   event_holds (events.Kick node) e fit = kick_holds node
   event_holds (events.Show node) e fit = show_holds node
+  event_holds events.Checks e fit = Fails faults.Setup
+  event_holds (events.Bcast node datagram) e fit = Fails faults.Setup
+  event_holds (events.Scan node) e fit = Fails faults.Setup
+  event_holds (events.Choose node k) e fit = Fails faults.Setup
+  event_holds (events.Path from to) e fit = Fails faults.Setup

@@ -230,7 +230,7 @@ ticked_frontier now x = by_role x.role x.memory
     by_role Coordinator (Some m) = refl
     by_role (Meter psk) (Some m) = refl
 
-true_false : true ≡ false → ⊥
+pub true_false : true ≡ false → ⊥
 true_false e = cc
 
 -- # Steps
@@ -244,29 +244,29 @@ pub data StepGood (w : World) : Step → Type 0 where
   Taken : (r : World × Trace) → WorldOk r.0 → r.1.happened.flights ≤ 24 → IsTold w r → StepGood w (Ok r)
 
 -- a node's frames are flights more
-told_more : {A : Type 0} (ciphers : Ciphers) (w : World) (number : ℕ) (d : NodeStep A) → length (told ciphers w number d).flights ≡ length w.flights + length d.frames
+pub told_more : {A : Type 0} (ciphers : Ciphers) (w : World) (number : ℕ) (d : NodeStep A) → length (told ciphers w number d).flights ≡ length w.flights + length d.frames
 unfolding told
 told_more ciphers w number d = let both = length-append w.flights (flights_of ciphers number d) in let same : length (flights_of ciphers number d) ≡ length d.frames = length-map d.frames _ in omega arith
 
-told_none : {A : Type 0} (ciphers : Ciphers) (w : World) (number : ℕ) (d : NodeStep A) → d.frames ≡ [] → length (told ciphers w number d).flights ≡ length w.flights + 0
+pub told_none : {A : Type 0} (ciphers : Ciphers) (w : World) (number : ℕ) (d : NodeStep A) → d.frames ≡ [] → length (told ciphers w number d).flights ≡ length w.flights + 0
 told_none ciphers w number d none = told_more ciphers w number d ∙ ap (λ fs. length w.flights + length fs) none
 
-none_more : (w v : World) → v.flights ≡ w.flights → length v.flights ≡ length w.flights + 0
+pub none_more : (w v : World) → v.flights ≡ w.flights → length v.flights ≡ length w.flights + 0
 none_more w v e = let same : length v.flights ≡ length w.flights = ap length e in omega arith
 
 module _ (ciphers : Ciphers) (fits : KeepsRanges ciphers) (w : World) (ok : WorldOk w) (flown : All FlightFits w.flights) where
-  branch : (b : Bool) (p q : Step) → (b ≡ true → StepGood w p) → (b ≡ false → StepGood w q) → StepGood w (if b then p else q)
+  pub branch : (b : Bool) (p q : Step) → (b ≡ true → StepGood w p) → (b ≡ false → StepGood w q) → StepGood w (if b then p else q)
   branch true p q s t = s refl
   branch false p q s t = t refl
 
-  by_option : {X : Type 0} (f : X → Step) (x : Option X) (p : Step) → ((y : X) → x ≡ Some y → StepGood w (f y)) → StepGood w p → StepGood w (option_map_or f x p)
+  pub by_option : {X : Type 0} (f : X → Step) (x : Option X) (p : Step) → ((y : X) → x ≡ Some y → StepGood w (f y)) → StepGood w p → StepGood w (option_map_or f x p)
   by_option f None p s t = t
   by_option f (Some y) p s t = s y refl
 
-  once : (s : Step) → StepGood w s → StepGood w (once_begun w s)
+  pub once : (s : Step) → StepGood w s → StepGood w (once_begun w s)
   once s h = branch (has_begun w) s (Err faults.Setup) (λ _. h) (λ _. Fails faults.Setup)
 
-  setup : (s : Step) → StepGood w s → StepGood w (in_setup w s)
+  pub setup : (s : Step) → StepGood w s → StepGood w (in_setup w s)
   setup s h = branch (takes_setup w) s (Err faults.Setup) (λ _. h) (λ _. Fails faults.Setup)
 
   setup_with : (s : Step) → (takes_setup w ≡ true → StepGood w s) → StepGood w (in_setup w s)
@@ -280,26 +280,26 @@ module _ (ciphers : Ciphers) (fits : KeepsRanges ciphers) (w : World) (ok : Worl
       by_running true e = cc
       by_running false e = refl
 
-  at_node : (number : ℕ) (f : Node → Step) → ((x : Node) → node_at w number ≡ Some x → StepGood w (f x)) → StepGood w (on_node w number f)
+  pub at_node : (number : ℕ) (f : Node → Step) → ((x : Node) → node_at w number ≡ Some x → StepGood w (f x)) → StepGood w (on_node w number f)
   at_node number f h = by_option f (node_at w number) (Err faults.Node) h (Fails faults.Node)
 
-  at_meter : (number : ℕ) (f : Node → Step) → ((x : Node) → node_at w number ≡ Some x → StepGood w (f x)) → StepGood w (on_meter w number f)
+  pub at_meter : (number : ℕ) (f : Node → Step) → ((x : Node) → node_at w number ≡ Some x → StepGood w (f x)) → StepGood w (on_meter w number f)
   at_meter number f h = branch (number == 0) (Err faults.Node) (on_node w number f) (λ _. Fails faults.Node) (λ _. at_node number f h)
 
-  node_ok : (number : ℕ) (x : Node) → node_at w number ≡ Some x → NodeOk x
+  pub node_ok : (number : ℕ) (x : Node) → node_at w number ≡ Some x → NodeOk x
   node_ok number x e = at_place NodeOk w.nodes number x e ok.nodes
 
-  node_fits : (number : ℕ) (x : Node) → node_at w number ≡ Some x → NodeFits x
+  pub node_fits : (number : ℕ) (x : Node) → node_at w number ≡ Some x → NodeFits x
   node_fits number x e = at_place NodeFits w.nodes number x e ok.fits
 
-  set_up_ok : WorldOk (set_up w)
+  pub set_up_ok : WorldOk (set_up w)
   set_up_ok = counts_ok w (set_up w) ok refl refl (λ e. e)
 
-  ran_ok : WorldOk (ran w)
+  pub ran_ok : WorldOk (ran w)
   ran_ok = counts_ok w (ran w) ok refl refl (λ e. absurd (true_false e))
 
   -- the octets of a flight
-  flight_octets : (number : ℕ) (f : Flight) → flight_at w number ≡ Some f → FlightFits f
+  pub flight_octets : (number : ℕ) (f : Flight) → flight_at w number ≡ Some f → FlightFits f
   flight_octets number f = by_number (number == 0)
     where
       by_number : (b : Bool) → (if b then None else slice_get w.flights (number - 1)) ≡ Some f → FlightFits f
@@ -307,7 +307,7 @@ module _ (ciphers : Ciphers) (fits : KeepsRanges ciphers) (w : World) (ok : Worl
       by_number false e = at_place FlightFits w.flights (number - 1) f e flown
 
   -- what a node did is told to the world and to the report
-  acted_good : (number : ℕ) (x : Node) (d : NodeStep Answer) → node_at w number ≡ Some x → DidOk x d → StepGood w (Ok (acted ciphers w number d))
+  pub acted_good : (number : ℕ) (x : Node) (d : NodeStep Answer) → node_at w number ≡ Some x → DidOk x d → StepGood w (Ok (acted ciphers w number d))
   acted_good number x d there did = Taken _ (told_ok ciphers fits (ran w) number x d ran_ok there did (λ e. absurd (true_false e))) did.few (told_more ciphers (ran w) number d)
 
   -- # coordinator, meter
@@ -402,7 +402,7 @@ module _ (ciphers : Ciphers) (fits : KeepsRanges ciphers) (w : World) (ok : Worl
       by_flight None there = Fails faults.Flight
       by_flight (Some f) there = by_lost f f.lost there
 
-  tick_good : (seconds : ℕ) → StepGood w (tick w seconds)
+  pub tick_good : (seconds : ℕ) → StepGood w (tick w seconds)
   unfolding tick
   tick_good seconds = once _ (Taken _ (record {
     nodes = All-map NodeOk (ticked (w.clock + seconds)) w.nodes (All-weaker NodeOk (λ x. NodeOk (ticked (w.clock + seconds) x)) (ticked_ok (w.clock + seconds)) w.nodes ok.nodes);
@@ -461,7 +461,7 @@ module _ (ciphers : Ciphers) (fits : KeepsRanges ciphers) (w : World) (ok : Worl
       by_role Coordinator is = answering_ok x coordinator_reception _ (coordinator_acts x (Err drops.Store) _ is h (λ m sized. coordinator_hears_ok ciphers fits (record { eui = x.eui; ciphers = ciphers }) m sized got cost note now routes))
       by_role (Meter psk) is = answering_ok x meter_reception _ (acts_ok x (Err drops.Store) _ h (λ m there kept sized. meter_hears_ok x.role m sized ciphers fits (identity ciphers x psk) refl got cost note now (pair_octets x m psk kept is) routes))
 
-  received_good : (number : ℕ) (x : Node) (forged : Bool) (d : NodeStep Reception) → node_at w number ≡ Some x → DidOk x d → StepGood w (Ok (received ciphers w number forged d))
+  pub received_good : (number : ℕ) (x : Node) (forged : Bool) (d : NodeStep Reception) → node_at w number ≡ Some x → DidOk x d → StepGood w (Ok (received ciphers w number forged d))
   received_good number x forged d there did = Taken _ (counts_ok (told ciphers (ran w) number d) _ (told_ok ciphers fits (ran w) number x d ran_ok there did (λ e. absurd (true_false e))) refl refl (λ e. e)) did.few (told_more ciphers (ran w) number d)
 
   arrives_good : (number : ℕ) (x : Node) (octets : List ℕ) (cost : ℕ) → node_at w number ≡ Some x → AreOctets octets → StepGood w (Ok (arrives ciphers w number x octets cost))
@@ -702,3 +702,8 @@ module _ (ciphers : Ciphers) (fits : KeepsRanges ciphers) (w : World) (ok : Worl
   step_good (events.Activate node index) e = activate_good node index e.1
   step_good (events.Kick node) e = kick_good node
   step_good (events.Show node) e = show_good node
+  step_good events.Checks e = Fails faults.Setup
+  step_good (events.Bcast node datagram) e = Fails faults.Setup
+  step_good (events.Scan node) e = Fails faults.Setup
+  step_good (events.Choose node k) e = Fails faults.Setup
+  step_good (events.Path from to) e = Fails faults.Setup

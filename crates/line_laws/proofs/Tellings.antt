@@ -384,3 +384,8 @@ module _ (ciphers : Ciphers) (w : World) where
   step_is (events.Activate node index) e = activate_step node index e.1
   step_is (events.Kick node) e = kick_step node
   step_is (events.Show node) e = show_step node
+  step_is events.Checks e = Fails _ faults.Setup
+  step_is (events.Bcast node datagram) e = Fails _ faults.Setup
+  step_is (events.Scan node) e = Fails _ faults.Setup
+  step_is (events.Choose node k) e = Fails _ faults.Setup
+  step_is (events.Path from to) e = Fails _ faults.Setup

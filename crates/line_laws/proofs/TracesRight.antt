@@ -51,7 +51,7 @@ use Rattle.node_rules.specs.NodeSteps.{NodeStep, acts, stays, answering, changin
 use Rattle.node_rules.specs.Plans.{Plan, carry_out, resting}
 use Rattle.node_rules.specs.StoreReading.{memory_of}
 use Rattle.line_rules.specs.Answers.{Reception, Up, SentGrant, drop_word, send_word, order_word, frame_word, random_word, join_word, leave_word, sent_word, ordered_word, station_reception, meter_reception, coordinator_reception}
-use Rattle.line_rules.specs.Worlds.{World, Flight, Trace, Pairing, node_at, flight_at, is_forged_tag}
+use Rattle.line_rules.specs.Worlds.{World, Flight, Trace, Pairing, node_at, flight_at, is_forged_tag, nothing_further}
 use Rattle.line_rules.specs.Steps.{Step, is_taken, set_up, ran, told, flights_of, acted, trace_of, happened, sending, sent_if, tag_of, offered_near, hears, received, forged_by, note_by, number_if, handed_by, issued_of, identity, restart_word, restarts, made_node}
 use Rattle.line_rules.specs.Runs.{Entry, one_of}
 use Rattle.line_rules.specs.Forgery.{Comes, OfFlight, OfScript, accepting, AcceptsSealed, NoneFlew, IsForged, ByFrame, ByTag}
@@ -314,7 +314,7 @@ none_at place tag opened none e = nothing place (sym (ap (λ xs. slice_get xs pl
 module _ (ciphers : Ciphers) (w : World) where
   -- what is said where nothing was heard
   abbrev quiet_trace : Happenings → List PairTag → List PairTag → Trace
-  quiet_trace h made opened = record { happened = h; sent = None; issued = []; taken = None; done = None; made = made; opened = opened }
+  quiet_trace h made opened = record { happened = h; sent = None; issued = []; taken = None; done = None; made = made; opened = opened; further = nothing_further }
 
   abbrev NoneCame : Event → Type 0
   NoneCame event = (octets : List ℕ) (key : Key) → AcceptsSealed ciphers w event octets key → ⊥
@@ -581,7 +581,7 @@ module _ (ciphers : Ciphers) (w : World) where
   right event s (BreaksLink number next x a there call) n =
       acted_right n (events.Break number next) number _ (breaks_plain x a) (acts_opened x said.Halted _ (call_opened ciphers w number x _ said.Halted _ call)) (unbrought (events.Break number next) (λ b. b))
   right event s (SendsFrom from to datagram x a there call target) n =
-      sent_right n from to datagram x _ there (send_unsaid (acts x (Err sends.Halted) (λ m. of_station m (calls.send m.station a datagram (w.sends + 1) w.clock))).answer) (acts_opened x (Err sends.Halted) _ (call_opened ciphers w from x _ (Err sends.Halted) _ call))
+      sent_right n from to datagram x (answering sent_word (acts x (Err sends.Halted) (λ m. of_station m (calls.send m.station a datagram (w.sends + 1) w.clock)))) there (send_unsaid (acts x (Err sends.Halted) (λ m. of_station m (calls.send m.station a datagram (w.sends + 1) w.clock))).answer) (acts_opened x (Err sends.Halted) (λ m. of_station m (calls.send m.station a datagram (w.sends + 1) w.clock)) (call_opened ciphers w from x _ (Err sends.Halted) _ call))
   right event s (AllowsMeter number y c psk there call meter) n =
       let d = acts c (Err orders.Halted) (λ m. coordinator_rules.allow m y.eui psk) in
       let none = none_told (ran w) 0 d (acts_quiet c (Err orders.Halted) _ (λ m. allow_quiet m y.eui psk)) (acts_untagged c (Err orders.Halted) _ (λ m. allow_untagged m y.eui psk)).0 in

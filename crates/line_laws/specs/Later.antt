@@ -1,5 +1,8 @@
 -- What later rules stand on: a node that seals a command alone of code 03, 04 or 05 keeps all that the laws rest on.
-use Rattle.std.specs.Prelude.{◌≡◌, ℕ, ◌≤◌, true, All, List, [], ◌∷◌, drop, length, Some, None, Result, Err}
+use Rattle.std.specs.Prelude.{◌≡◌, ◌⊎◌, ℕ, ◌<◌, ◌≤◌, true, All, List, [], ◌∷◌, ◌++◌, Bool, drop, take, length, Some, None, Result, Err}
+use Rattle.plc_base.specs.Keeper.{Write}
+use Rattle.pan_discovery.specs.declared.message.Discovery.{Discovery}
+use Rattle.pan_discovery.specs.Messages.{IsDiscovery, discovery_spelling}
 use Rattle.mac_frames.specs.Grammar.{IsTarget}
 use Rattle.mesh_header.specs.declared.unit.Mesh.{Mesh}
 use Rattle.mesh_header.specs.declared.unit.Unit.{Unit as MeshUnit}
@@ -16,14 +19,17 @@ use Rattle.node_rules.specs.Drafts.{Ends, alone, counters_left, empty_draft, goe
 use Rattle.node_rules.specs.Frames.{Sent, Sealed, spelled}
 use Rattle.node_rules.specs.Memory.{StationMemory, Memory, Node}
 use Rattle.node_rules.specs.NodeSteps.{NodeStep, acts, of_station, stays}
+use Rattle.node_rules.specs.Composing.{behind}
 use Rattle.node_rules.specs.Plans.{Plan}
+use Rattle.reach_rules.specs.ReachingNodes.{Beside}
 use Rattle.line_rules.specs.Nonces.{HasSender, IsSpelled}
 use Rattle.line_rules.specs.Steps.{ran, told}
-use Rattle.line_rules.specs.Worlds.{World, Issued, Pairing, Sending, node_at, start}
+use Rattle.line_rules.specs.Worlds.{World, Flight, Issued, Pairing, Sending, node_at, start}
+use Rattle.line_rules.specs.Further.{discovery_flight}
 use Rattle.line_rules.specs.declared.happenings.Handed.{Handed}
 use Rattle.line_laws.specs.Agreed.{Confirmed}
 use Rattle.line_laws.specs.InCustody.{Custody, SentUnder}
-use Rattle.line_laws.specs.Keyed.{AtHome, Keyed}
+use Rattle.line_laws.specs.Keyed.{AtHome, Each, Keyed}
 use Rattle.line_laws.specs.Letters.{IsFit, IsPlainFrame}
 use Rattle.line_laws.specs.Lines.{FlightFits, WorldOk}
 use Rattle.line_laws.specs.Live.{MarksRise, live}
@@ -113,6 +119,82 @@ abbrev pub PlainKeeps : Type 0
 PlainKeeps =
     (frame : Sent) → IsPlainFrame frame → AreOctets (spelled network frame).octets → (w : World) (number : ℕ) (x : Node)
     → w.running ≡ true → node_at w number ≡ Some x → Keeps w (told network w number (sends_plain frame x))
+
+-- # What is stored beside
+
+-- a write at a slot of the log of broadcasts: the limit of its numbers, or the mark of an origin
+abbrev pub IsOfLog : Write → Type 0
+IsOfLog p = (p.slot ≡ 6) ⊎ ((0x0300 ≤ p.slot) × (p.slot < 0x0320))
+
+-- records are stored, and nothing of the memory changes
+abbrev pub stores : {A : Type 0} → A → A → List Write → Memory → Plan Memory A
+stores answer failed ps m = record { answer = answer; failed = failed; puts = ps; memory = m; frames = []; made = []; opened = [] }
+
+-- a node does so
+abbrev pub stores_at : List Write → Node → NodeStep (Unit {0})
+stores_at ps x = acts x tt (λ m. stores tt tt ps m)
+
+-- whatever power is lost, a node that stores its log keeps all of it
+abbrev pub StoringKeeps : Type 0
+StoringKeeps =
+    (ps : List Write) → Each IsOfLog ps → (w : World) (number : ℕ) (x : Node)
+    → w.running ≡ true → node_at w number ≡ Some x → Keeps w (told network w number (stores_at ps x))
+
+-- what a node did is what it did in two steps, of which the first sent nothing and made no tag
+pub record IsSplit {A B : Type 0} (whole : NodeStep A) (first : NodeStep B) (rest : NodeStep A) : Type 0 where
+  pub node : whole.node ≡ rest.node
+  pub frames : whole.frames ≡ rest.frames
+  pub made : whole.made ≡ rest.made
+  pub silent : first.frames ≡ []
+  pub untold : first.made ≡ []
+
+-- a node that stores its log before its other writes does so before all else, whatever power is lost
+abbrev pub PlansSplit : Type 0 → Type 0
+PlansSplit A =
+    (x : Node) (halted : A) (ps : List Write) (q : Memory → Plan Memory A)
+    → IsSplit (acts x halted (λ m. behind ps (q m))) (stores_at ps x) (acts (stores_at ps x).node halted q)
+
+-- # What flies unsealed
+
+-- a frame of discovery flies, and nothing else happens
+abbrev pub flown : ℕ → Discovery → World → World
+flown number frame w = record w { flights = w.flights ++ discovery_flight number frame ∷ [] }
+
+-- it keeps all of it
+abbrev pub DiscoveringKeeps : Type 0
+DiscoveringKeeps =
+    (frame : Discovery) → IsDiscovery frame → AreOctets (discovery_spelling frame) → (w : World) (number : ℕ) (x : Node)
+    → w.running ≡ true → node_at w number ≡ Some x → Keeps w (flown number frame w)
+
+-- # What is not sent after all
+
+-- the flights that a step would have sent are not sent: the first so many are there
+abbrev pub unsent : ℕ → World → World
+unsent count w = record w { flights = take count w.flights }
+
+-- it holds as before
+abbrev pub UnsentHolds : Type 0
+UnsentHolds =
+    (given : List Issued) (sent : List Sending) (taken : List Pairing) (all : List Sending) (home : ℕ → ℕ) (ups : List Handed)
+    (w : World) (count : ℕ) → count ≤ length w.flights → w.running ≡ true → Holds given sent taken all home ups w → Holds given sent taken all home ups (unsent count w)
+
+-- # What only further rules see
+
+-- checks are turned on, and nodes hold other things beside their memories
+abbrev pub BesideKeeps : Type 0
+BesideKeeps = (w : World) (on : Bool) (bs : List Beside) → Keeps w (record w { checks_on = on; beside = bs })
+
+-- # One after the other
+
+-- marks, live flights, ranks and what is shut out go on from one world to the next, and so from the first to the last; whose address the
+-- new flights have is said of each by itself
+abbrev pub KeepsOn : World → World → Type 0
+KeepsOn w v = (given : List Issued) (sent : List Sending) (taken : List Pairing) (all : List Sending) (home : ℕ → ℕ) (ups : List Handed)
+    → Holds given sent taken all home ups w
+    → Holds given sent taken all home ups v × MarksRise w v × LiveFalls live w v None × RanksRise w v × ((eui : Eui) → ShutAt eui w → ShutAt eui v)
+
+abbrev pub KeepsInTurn : Type 0
+KeepsInTurn = (w v u : World) → KeepsOn w v → KeepsOn v u → KeepsOn w u
 
 -- # At its ends
 

@@ -10,6 +10,8 @@ use Rattle.loadng_messages.specs.declared.message.Message.{Message}
 use Rattle.loadng_messages.specs.Grammar.{IsMessage}
 use Rattle.loadng_messages.specs.Grammar as messages
 use Rattle.joining_messages.specs.declared.message.JoinMessage.{JoinMessage}
+use Rattle.pan_discovery.specs.declared.message.Discovery.{Discovery}
+use Rattle.pan_discovery.specs.Messages.{discovery_spelling}
 use Rattle.node_rules.specs.Ciphers.{Ciphers}
 use Rattle.node_rules.specs.Frames.{Letter, Sent, Sealed, Up, Down, spelled}
 use Rattle.line_rules.specs.Worlds.{Flight}
@@ -44,12 +46,13 @@ pub record SpellsLetter (ciphers : Ciphers) (f : Flight) (key : Key) : Type 0 wh
   pub octets : f.octets ≡ (spelled ciphers (Sealed letter)).octets
   pub note : f.note ≡ letter.note
 
--- A frame without a key: up to an agent, or down to the node of its message.
+-- A frame without a key: up to an agent, down to the node of its message, or of discovery.
 pub data IsPlain (ciphers : Ciphers) (octets : List ℕ) : Type 0 where
   GoesUp : (agent : ℕ) → (from : _) → (message : JoinMessage)
       → octets ≡ (spelled ciphers (Up agent from message)).octets → IsPlain ciphers octets
   GoesDown : (from : ℕ) → (message : JoinMessage) → octets ≡ (spelled ciphers (Down from message)).octets
       → IsPlain ciphers octets
+  Discovers : (frame : Discovery) → octets ≡ discovery_spelling frame → IsPlain ciphers octets
 
 -- A flight is what its key says.
 pub record IsFlight (ciphers : Ciphers) (f : Flight) : Type 0 where

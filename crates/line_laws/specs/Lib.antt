@@ -22,3 +22,4 @@ pub mod InCustody
 pub mod Agreed
 pub mod Shut
 pub mod Later
+pub mod FurtherLines

@@ -1,7 +1,8 @@
 //! Laws of the runs: each carried by a function that does nothing.
+ghost use Rattle.line_laws.specs.FurtherLines.{CallsKeepAll, CallsKeepTheLine, CommandsKeepTheLine, CommandsFit, DiscoveryKeepsTheLine, EveryReachRunHolds, LineLogsHold, LineStepsHold, LineStepsRise, LineStepsSpell, LogsFit, TablesAreShort};
 ghost use Rattle.line_laws.specs.Issued.{EveryJoiningAgrees, OnlyIssuedKeys};
 ghost use Rattle.line_laws.specs.Kicked.{EveryKickedMeterStaysOut};
-ghost use Rattle.line_laws.specs.Later.{CommandsMayBeSealed, JoinedNodesSeal, OthersMayNot, PlainKeeps, RunningKeeps, SealingKeeps, StartHolds};
+ghost use Rattle.line_laws.specs.Later.{BesideKeeps, CommandsMayBeSealed, DiscoveringKeeps, JoinedNodesSeal, KeepsInTurn, OthersMayNot, PlainKeeps, PlansSplit, RunningKeeps, SealingKeeps, StartHolds, StoringKeeps, UnsentHolds};
 ghost use Rattle.line_laws.specs.Live.{EveryFlightFalls, EveryMarkRises};
 ghost use Rattle.line_laws.specs.Once.{EveryFrameIsAcceptedOnce, EveryNodeAcceptsOnce};
 ghost use Rattle.line_laws.specs.Network.{EveryNetworkRunIsRight, EveryRunIsSafe, LastFlightsSayAll};
@@ -207,6 +208,42 @@ pub fn sealing_keeps<E>()
     ensures { SealingKeeps E }
 {}
 
+/// Where a node stores records at the slots of its log of broadcasts, all of this is kept too, whatever power is lost.
+#[tactic(auto)]
+pub fn storing_keeps()
+    ensures { StoringKeeps }
+{}
+
+/// A node that stores records of its log before its other writes does the same as one that stores them and then does the rest.
+#[tactic(auto)]
+pub fn plans_split<A>()
+    ensures { PlansSplit A }
+{}
+
+/// Where a frame of discovery flies, all of this is kept too.
+#[tactic(auto)]
+pub fn discovering_keeps()
+    ensures { DiscoveringKeeps }
+{}
+
+/// Where checks are turned on, or nodes hold other things beside their memories, all of this is kept too.
+#[tactic(auto)]
+pub fn beside_keeps()
+    ensures { BesideKeeps }
+{}
+
+/// Where flights that a step would have sent are not sent after all, all holds as before.
+#[tactic(auto)]
+pub fn unsent_holds()
+    ensures { UnsentHolds }
+{}
+
+/// What is kept from one world to the next, and from that to a third, is kept from the first to the third.
+#[tactic(auto)]
+pub fn keeps_in_turn()
+    ensures { KeepsInTurn }
+{}
+
 /// Where a node sends a plain frame of octets, all of this is kept too.
 #[tactic(auto)]
 pub fn plain_keeps()
@@ -241,4 +278,66 @@ pub fn joined_nodes_seal<E>()
 #[tactic(auto)]
 pub fn the_start_holds()
     ensures { StartHolds }
+{}
+
+/// What holds of a line of nodes in every run, forged or not, holds after a broadcast and after an ask for a path.
+#[tactic(auto)]
+pub fn calls_keep_the_line()
+    ensures { CallsKeepTheLine }
+{}
+
+/// So it does after every event of a line with further reach, for any ciphers that keep their ranges and whatever power is lost; no event
+/// sends more than 24 frames, and the flights that it says are those that it adds. A log that is what its store gives fits its slots,
+/// and the tables of such a line are as short as the law of the logs asks.
+#[tactic(auto)]
+pub fn line_steps_hold()
+    ensures holds { LineStepsHold }
+    ensures logs { LogsFit }
+    ensures tables { TablesAreShort }
+{}
+
+/// In every run of the network with further reach, forged or not, over restarts and failed writes: the line holds, what flies is octets, the
+/// log of each node is what its store gives, and no event sends more than 24 frames.
+#[tactic(auto)]
+pub fn every_reach_run_holds()
+    ensures { EveryReachRunHolds }
+{}
+
+/// No event of such a line makes a mark fall, so no node admits a counter again that it did not admit before.
+#[tactic(auto)]
+pub fn line_steps_rise()
+    ensures { LineStepsRise }
+{}
+
+/// And the log of each node is what its store gives after every event of such a line, and where a node is halted some log is: what that asks
+/// of a command that comes holds too.
+#[tactic(auto)]
+pub fn line_logs_hold()
+    ensures commands { CommandsFit }
+    ensures logs { LineLogsHold }
+{}
+
+/// And each flight is what its key says after every event of a line with further reach, where it was before: a sealed frame under it, and
+/// without a key a plain frame or one of discovery.
+#[tactic(auto)]
+pub fn line_steps_spell()
+    ensures { LineStepsSpell }
+{}
+
+/// And after a scan that begins, and frames of discovery that come.
+#[tactic(auto)]
+pub fn discovery_keeps_the_line()
+    ensures { DiscoveryKeepsTheLine }
+{}
+
+/// And after a command for the neighbours that was heard.
+#[tactic(auto)]
+pub fn commands_keep_the_line()
+    ensures { CommandsKeepTheLine }
+{}
+
+/// A broadcast and an ask keep all that the laws rest on, whatever power is lost.
+#[tactic(auto)]
+pub fn further_calls_keep_all()
+    ensures { CallsKeepAll }
 {}

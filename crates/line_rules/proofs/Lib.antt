@@ -1,1 +1,4 @@
 pub mod StepsOn
+pub mod LogSteps
+pub mod LogPlans
+pub mod LogsKept

@@ -21,11 +21,19 @@ use Rattle.node_rules.specs.Ciphers.{Ciphers}
 use Rattle.node_rules.specs.Memory.{StationMemory, Node, node_address}
 use Rattle.node_rules.specs.Calls as calls
 use Rattle.node_rules.specs.Coordinators as coordinator_rules
+use Rattle.plc_base.specs.declared.keeper.BadStore.{BadStore}
+use Rattle.node_rules.specs.declared.heard.Reply.{Reply}
+use Rattle.node_rules.specs.declared.refusal.LocalRefusal.{LocalRefusal}
+use Rattle.node_rules.specs.Memory.{Memory}
+use Rattle.reach_rules.specs.ReachingNodes.{Beside, restarted}
+use Rattle.reach_rules.specs.Beacons.{is_discovery}
+use Rattle.reach_rules.specs.Receiving.{NeighbourCommand, command_of}
 use Rattle.line_rules.specs.Answers.{Reception}
 use Rattle.line_rules.specs.Worlds.{World, Flight, Trace, node_at, flight_at}
-use Rattle.line_rules.specs.Steps.{provisioned, ticked, Step, set_up, ran, told, acted, has_begun, takes_setup, once_begun, in_setup, on_node, on_meter, made_node, is_known, coordinator, meter, depot, depot_by, psk_of, near, near_by, preset, allow, allowed, rand, join, joins_by, leave, send, sends_by, sent_if, breaks, breaks_by, deliver, inject, arrives, accepted_by, received, on_flight, lose, tick, restart, cut, show, rekey, challenge, activate, activate_at, kick, step}
+use Rattle.line_rules.specs.Steps.{provisioned, ticked, Step, set_up, ran, told, acted, has_begun, takes_setup, once_begun, in_setup, on_node, on_meter, made_node, is_known, coordinator, meter, depot, depot_by, psk_of, near, near_by, preset, allow, allowed, rand, join, joins_by, leave, send, sends_by, sent_if, breaks, breaks_by, deliver, inject, arrives, accepted_by, received, on_flight, lose, tick, restart, cut, show, rekey, challenge, activate, activate_at, kick, step, spoken, hears, heard, forged_by, note_by, restarts}
+use Rattle.line_rules.specs.Further.{line_step, checks, bcast, broadcasts_by, path, asks_by, scan, scans_by, has_discovered, choose, chooses_by, discovers_by, commanded, checked, acknowledged_if, acknowledged, acknowledging, heard_by, heard_further, is_dropped, accepted_further, comes, delivers, injects, ticks, after_ok, restarts_by, restarts_further, beside_at, set_beside}
 use Rattle.node_rules.specs.NodeSteps.{NodeStep, acts}
-use Rattle.line_rules.specs.Laws.{SameFlight, KeepsFlights, GoesOn, StepsGoOn}
+use Rattle.line_rules.specs.Laws.{SameFlight, KeepsFlights, GoesOn, StepsGoOn, LineStepsGoOn}
 
 -- # Flights
 
@@ -69,6 +77,13 @@ told_goes ciphers w v number d g = record {
 -- the counts of a world are of no account
 counts_go : (w v : World) (sends ups forged done : ℕ) → GoesOn w v → GoesOn w (record v { sends = sends; ups = ups; forged = forged; done = done })
 counts_go w v sends ups forged done g = record { events = g.events; clock = g.clock; running = g.running; nodes = g.nodes; flights = g.flights; made = g.made }
+
+-- nor is what stands beside the memories, or whether neighbours are checked
+beside_goes : (w v : World) (bs : List Beside) → GoesOn w v → GoesOn w (record v { beside = bs })
+beside_goes w v bs g = record { events = g.events; clock = g.clock; running = g.running; nodes = g.nodes; flights = g.flights; made = g.made }
+
+checks_go : (w v : World) (on : Bool) → GoesOn w v → GoesOn w (record v { checks_on = on })
+checks_go w v on g = record { events = g.events; clock = g.clock; running = g.running; nodes = g.nodes; flights = g.flights; made = g.made }
 
 -- # Steps
 
@@ -294,6 +309,142 @@ module _ (ciphers : Ciphers) (w : World) where
   step_shape (events.Activate node index) = activate_shape node index
   step_shape (events.Kick node) = kick_shape node
   step_shape (events.Show node) = show_shape node
+  step_shape events.Checks = Fails faults.Setup
+  step_shape (events.Bcast node datagram) = Fails faults.Setup
+  step_shape (events.Scan node) = Fails faults.Setup
+  step_shape (events.Choose node k) = Fails faults.Setup
+  step_shape (events.Path from to) = Fails faults.Setup
+
+  -- # Further reach
+
+  checks_shape : StepShape w (checks w)
+  unfolding checks
+  checks_shape = setup _ (branch w.checks_on _ _ (Fails faults.Setup) (Taken _ (checks_go w (set_up w) true (set_up_goes w))))
+
+  bcast_shape : (number : ℕ) (datagram : List ℕ) → StepShape w (bcast ciphers w number datagram)
+  unfolding bcast
+  bcast_shape number datagram = once _ (at_node number _ (λ x. Taken _ (beside_goes w _ _ (told_goes ciphers w (ran w) number _ (ran_goes w)))))
+
+  asks_go : (number : ℕ) (x : Node) (target : Option ℕ) → GoesOn w (asks_by ciphers w number x target).0
+  asks_go number x None = ran_goes w
+  asks_go number x (Some target) = beside_goes w _ _ (told_goes ciphers w (ran w) number _ (ran_goes w))
+
+  path_shape : (from to : ℕ) → StepShape w (path ciphers w from to)
+  unfolding path
+  path_shape from to = once _ (at_node from _ (λ x. at_node to _ (λ y. Taken _ (asks_go from x (node_address y)))))
+
+  discovered_go : (number : ℕ) (bs : List Beside) (new : List Flight) → GoesOn w (record (ran w) { flights = w.flights ++ new; beside = bs })
+  discovered_go number bs new =
+      let g = ran_goes w in
+      record { events = g.events; clock = g.clock; running = g.running; nodes = g.nodes; flights = more_flights w.flights w.flights new (same_flights w.flights); made = g.made }
+
+  scans_go : (number : ℕ) (o : Option Memory) → GoesOn w (scans_by w number o).0
+  scans_go number None = ran_goes w
+  scans_go number (Some m) = discovered_go number _ _
+
+  scan_shape : (number : ℕ) → StepShape w (scan w number)
+  unfolding scan
+  scan_shape number = once _ (at_meter number _ (λ x. Taken _ (scans_go number x.memory)))
+
+  chooses_go : (number : ℕ) (x : Node) (k : ℕ) (psk : Option Key) → GoesOn w (chooses_by ciphers w number x k psk).0
+  chooses_go number x k None = ran_goes w
+  chooses_go number x k (Some psk) = beside_goes w _ _ (told_goes ciphers w (ran w) number _ (ran_goes w))
+
+  choose_shape : (number k : ℕ) → StepShape w (choose ciphers w number k)
+  unfolding choose
+  choose_shape number k = once _ (at_meter number _ (λ x. Taken _ (chooses_go number x k (psk_of x))))
+
+  discovers_go : (number : ℕ) (x : Node) (octets : List ℕ) (link : ℕ) (o : Option Memory) → GoesOn w (discovers_by w number x octets link o).0
+  discovers_go number x octets link None = ran_goes w
+  discovers_go number x octets link (Some m) = discovered_go number _ _
+
+  heard_go : (number : ℕ) (x : Node) (octets : List ℕ) (got : Accepted) (cost : ℕ) → GoesOn w (heard ciphers w number x octets got cost).0
+  heard_go number x octets got cost = received_go number _ _
+
+  nothing_go : (number : ℕ) (b : List Beside) (v : World) → GoesOn w v → GoesOn w (record v { flights = w.flights; made = w.made; beside = b })
+  nothing_go number b v g = record { events = g.events; clock = g.clock; running = g.running; nodes = g.nodes; flights = same_flights w.flights; made = ([], sym (append-nil w.made)) }
+
+  acknowledged_go : (number : ℕ) (a : NodeStep (Result (Unit {0}) LocalRefusal)) (r : World × Trace) → GoesOn w r.0 → GoesOn w (acknowledged ciphers w number a r).0
+  acknowledged_go number a r g = either_goes (is_some a.node.memory) _ _ (told_goes ciphers w r.0 number a g) (nothing_go number _ _ (told_goes ciphers w r.0 number a g))
+
+  acknowledged_if_go : (number : ℕ) (x : Node) (reply : Option Reply) (r : World × Trace) → GoesOn w r.0 → GoesOn w (acknowledged_if ciphers w number x reply r).0
+  acknowledged_if_go number x None r g = g
+  acknowledged_if_go number x (Some reply) r g = acknowledged_go number _ r g
+
+  checked_go : (number : ℕ) (got : Accepted) (h : NodeStep Reception) (r : World × Trace) → GoesOn w r.0 → GoesOn w (checked ciphers w number got h r).0
+  checked_go number got h r g = acknowledged_if_go number h.node _ _ (beside_goes w _ _ g)
+
+  heard_by_go : (number : ℕ) (x : Node) (octets : List ℕ) (got : Accepted) (cost : ℕ) (c : Option NeighbourCommand) → GoesOn w (heard_by ciphers w number x octets got cost c).0
+  heard_by_go number x octets got cost None = either_goes w.checks_on _ _ (checked_go number got (hears ciphers x got cost (note_by w octets got.path) w.clock) (heard ciphers w number x octets got cost) (heard_go number x octets got cost)) (heard_go number x octets got cost)
+  heard_by_go number x octets got cost (Some c) = beside_goes w _ _ (told_goes ciphers w _ number _ (heard_go number x octets got cost))
+
+  further_go : (number : ℕ) (x : Node) (octets : List ℕ) (got : Accepted) (cost : ℕ) → GoesOn w (heard_further ciphers w number x octets got cost).0
+  further_go number x octets got cost = either_goes (is_dropped w number got) _ _ (received_go number _ _) (heard_by_go number x octets got cost (command_of got))
+
+  comes_go : (number : ℕ) (x : Node) (octets : List ℕ) (cost : ℕ) → GoesOn w (comes ciphers w number x octets cost).0
+  unfolding comes
+  comes_go number x octets cost = either_goes (is_discovery octets) _ _ (discovers_go number x octets cost x.memory) (accepted_go _)
+    where
+      accepted_go : (d : NodeStep (Result Accepted FrameRefusal)) → GoesOn w (accepted_further ciphers w number octets cost d).0
+      accepted_go d = by_answer d.answer refl
+        where
+          by_answer : (r : Result Accepted FrameRefusal) → d.answer ≡ r → GoesOn w (accepted_further ciphers w number octets cost d).0
+          by_answer (Ok got) e = rw e (further_go number d.node octets got cost)
+          by_answer (Err reason) e = rw e (told_goes ciphers w (ran w) number _ (ran_goes w))
+
+  delivers_shape : (flight number cost : ℕ) → StepShape w (delivers ciphers w flight number cost)
+  unfolding delivers
+  delivers_shape flight number cost = once _ (at_node number _ (λ x. at_flight flight _ (λ f e. Taken _ (comes_go number x f.octets cost))))
+
+  injects_shape : (number cost : ℕ) (octets : List ℕ) → StepShape w (injects ciphers w number cost octets)
+  unfolding injects
+  injects_shape number cost octets = once _ (at_node number _ (λ x. Taken _ (comes_go number x octets cost)))
+
+  after_shape : (bs : List Beside) (s : Step) → StepShape w s → StepShape w (after_ok (λ r. (record r.0 { beside = bs }, r.1)) s)
+  after_shape bs s (Fails fault) = Fails fault
+  after_shape bs s (Taken r g) = Taken _ (beside_goes w r.0 bs g)
+
+  ticks_shape : (seconds : ℕ) → StepShape w (ticks w seconds)
+  unfolding ticks
+  ticks_shape seconds = after_shape _ _ (tick_shape seconds)
+
+  restarts_go : (number : ℕ) (x : Node) (o : Result Beside BadStore) → GoesOn w (restarts_by ciphers w number x o).0
+  restarts_go number x (Ok b) = beside_goes w _ _ (acted_goes number _)
+  restarts_go number x (Err bad) = beside_goes w _ _ (acted_goes number _)
+
+  restarts_shape : (number : ℕ) → StepShape w (restarts_further ciphers w number)
+  unfolding restarts_further
+  restarts_shape number = once _ (at_node number _ (λ x. Taken _ (restarts_go number x (restarted x.store.records))))
+
+  line_shape : (event : Event) → StepShape w (line_step ciphers w event)
+  line_shape (events.Coordinator eui key) = coordinator_shape eui key
+  line_shape (events.Meter eui psk) = meter_shape eui psk
+  line_shape (events.Depot node) = depot_shape node
+  line_shape (events.Near a b cost) = near_shape a b cost
+  line_shape (events.Counter node value) = preset_shape node _
+  line_shape (events.Number node value) = preset_shape node _
+  line_shape (events.Allow node) = allow_shape node
+  line_shape (events.Rand node value) = rand_shape node value
+  line_shape (events.Join node agent) = join_shape node agent
+  line_shape (events.Leave node) = leave_shape node
+  line_shape (events.Send from to datagram) = send_shape from to datagram
+  line_shape (events.Deliver flight node cost) = delivers_shape flight node cost
+  line_shape (events.Inject node cost octets) = injects_shape node cost octets
+  line_shape (events.Lose flight) = lose_shape flight
+  line_shape (events.Break node next) = breaks_shape node next
+  line_shape (events.Tick seconds) = ticks_shape seconds
+  line_shape (events.Restart node) = restarts_shape node
+  line_shape (events.Cut node nth keeps_new) = cut_shape node nth keeps_new
+  line_shape (events.Rekey index key) = rekey_shape index key
+  line_shape (events.Challenge node) = challenge_shape node
+  line_shape (events.Activate node index) = activate_shape node index
+  line_shape (events.Kick node) = kick_shape node
+  line_shape (events.Show node) = show_shape node
+  line_shape events.Checks = checks_shape
+  line_shape (events.Bcast node datagram) = bcast_shape node datagram
+  line_shape (events.Scan node) = scan_shape node
+  line_shape (events.Choose node k) = choose_shape node k
+  line_shape (events.Path from to) = path_shape from to
 
   -- a step that is taken goes on
   abbrev Holds : Step → Type 0
@@ -306,3 +457,6 @@ module _ (ciphers : Ciphers) (w : World) where
 
 pub steps : StepsGoOn
 steps ciphers w v event d e = subst (Holds ciphers w) e (holds ciphers w _ (step_shape ciphers w event))
+
+pub line_steps : LineStepsGoOn
+line_steps ciphers w v event d e = subst (Holds ciphers w) e (holds ciphers w _ (line_shape ciphers w event))

@@ -27,6 +27,22 @@ use Rattle.node_rules.specs.declared.heard.MeterHeard.{MeterHeard}
 use Rattle.node_rules.specs.declared.heard.MeterHeard.TheVariants as meter
 use Rattle.node_rules.specs.declared.heard.CoordinatorHeard.{CoordinatorHeard}
 use Rattle.node_rules.specs.declared.heard.CoordinatorHeard.TheVariants as coordinator_heard
+use Rattle.reach_rules.specs.declared.heard.CommandHeard.{CommandHeard}
+use Rattle.reach_rules.specs.declared.heard.CommandHeard.TheVariants as further
+use Rattle.reach_rules.specs.declared.heard.DiscoveryHeard.{DiscoveryHeard}
+use Rattle.reach_rules.specs.declared.heard.DiscoveryHeard.TheVariants as discovered
+use Rattle.reach_rules.specs.declared.refusal.ReachDropped.{ReachDropped}
+use Rattle.reach_rules.specs.declared.refusal.ReachDropped.TheVariants as reach_drops
+use Rattle.reach_rules.specs.declared.refusal.DiscoveryDropped.{DiscoveryDropped}
+use Rattle.reach_rules.specs.declared.refusal.DiscoveryDropped.TheVariants as discovery_drops
+use Rattle.reach_rules.specs.declared.refusal.BroadcastRefusal.{BroadcastRefusal}
+use Rattle.reach_rules.specs.declared.refusal.BroadcastRefusal.TheVariants as broadcasts
+use Rattle.reach_rules.specs.declared.refusal.AskRefusal.{AskRefusal}
+use Rattle.reach_rules.specs.declared.refusal.AskRefusal.TheVariants as asks
+use Rattle.reach_rules.specs.declared.refusal.ScanRefusal.{ScanRefusal}
+use Rattle.reach_rules.specs.declared.refusal.ScanRefusal.TheVariants as scans
+use Rattle.reach_rules.specs.declared.refusal.ChooseRefusal.{ChooseRefusal}
+use Rattle.reach_rules.specs.declared.refusal.ChooseRefusal.TheVariants as choices
 
 -- # Refusals
 
@@ -121,6 +137,63 @@ leave_word (Err leaves.Store) = said.Store
 abbrev pub ordered_word : {A : Type 0} → Answer → Result A CoordinatorRefusal → Answer
 ordered_word word (Ok a) = word
 ordered_word word (Err reason) = order_word reason
+
+-- # Words of further reach
+
+-- the word of a command that was dropped, or a request that was not believed
+abbrev pub reach_drop_word : ReachDropped → Answer
+reach_drop_word (reach_drops.Known reason) = drop_word reason
+reach_drop_word reach_drops.Blacklisted = said.Blacklisted
+reach_drop_word reach_drops.NotAwaited = said.NotAwaited
+reach_drop_word reach_drops.Old = said.Old
+reach_drop_word reach_drops.OriginsFull = said.OriginsFull
+reach_drop_word reach_drops.Revisited = said.Revisited
+reach_drop_word reach_drops.PathLong = said.PathLong
+
+-- the word of a command that was heard
+abbrev pub command_word : Result CommandHeard ReachDropped → Answer
+command_word (Ok further.Acked) = said.Acked
+command_word (Ok (further.Broadcast origin number octets)) = said.Bup
+command_word (Ok further.Relayed) = said.Relayed
+command_word (Ok further.Answered) = said.Answered
+command_word (Ok (further.Path walk)) = said.Path
+command_word (Err reason) = reach_drop_word reason
+
+-- the word of a frame of discovery
+abbrev pub discovery_word : Result DiscoveryHeard DiscoveryDropped → Answer
+discovery_word (Ok discovered.Beacon) = said.Beacon
+discovery_word (Ok discovered.Beaconed) = said.Beaconed
+discovery_word (Err discovery_drops.Halted) = said.Halted
+discovery_word (Err discovery_drops.Malformed) = said.Malformed
+discovery_word (Err discovery_drops.NotForMe) = said.NotForMe
+discovery_word (Err discovery_drops.NotScanning) = said.NotScanning
+discovery_word (Err discovery_drops.NoRoute) = said.NoRoute
+
+-- the word of a broadcast
+abbrev pub broadcast_word : Result (Unit {0}) BroadcastRefusal → Answer
+broadcast_word (Ok u) = said.Sent
+broadcast_word (Err broadcasts.Halted) = said.Halted
+broadcast_word (Err broadcasts.NotJoined) = said.NotJoined
+broadcast_word (Err broadcasts.BadSize) = said.BadSize
+broadcast_word (Err broadcasts.NumberSpent) = said.NumberSpent
+broadcast_word (Err broadcasts.CounterSpent) = said.CounterSpent
+broadcast_word (Err broadcasts.Store) = said.Store
+
+-- the word of an ask
+abbrev pub ask_word : Result (Unit {0}) AskRefusal → Answer
+ask_word (Ok u) = said.Traced
+ask_word (Err asks.Halted) = said.Halted
+ask_word (Err asks.NotJoined) = said.NotJoined
+ask_word (Err asks.ToSelf) = said.ToSelf
+ask_word (Err asks.NoRoute) = said.NoRoute
+ask_word (Err asks.CounterSpent) = said.CounterSpent
+ask_word (Err asks.Store) = said.Store
+
+-- the word of a scan
+abbrev pub scan_word : Result (Unit {0}) ScanRefusal → Answer
+scan_word (Ok u) = said.Scanning
+scan_word (Err scans.Halted) = said.Halted
+scan_word (Err scans.AlreadyJoined) = said.AlreadyJoined
 
 -- # What a node made of a frame
 

@@ -3,7 +3,7 @@ use Rattle.std.specs.Prelude.{◌≡◌, ℕ, ◌^◌, ◌<◌, ◌≤◌, List,
 use Rattle.plc_base.specs.declared.address.Eui.{Eui}
 use Rattle.plc_base.specs.declared.key.Key.{Key}
 use Rattle.line_rules.specs.declared.event.Event.{Event}
-use Rattle.line_rules.specs.declared.event.Event.TheVariants.{Coordinator, Meter, Depot, Near, Counter, Number, Allow, Rand as GiveRand, Join, Leave, Send, Deliver, Inject, Lose, Break, Tick, Restart, Cut, Rekey, Challenge, Activate, Kick, Show}
+use Rattle.line_rules.specs.declared.event.Event.TheVariants.{Coordinator, Meter, Depot, Near, Counter, Number, Allow, Rand as GiveRand, Join, Leave, Send, Deliver, Inject, Lose, Break, Tick, Restart, Cut, Rekey, Challenge, Activate, Kick, Show, Checks, Bcast, Scan, Choose, Path}
 
 -- so many octets
 abbrev pub AreOctets : ℕ → List ℕ → Type 0
@@ -54,6 +54,11 @@ IsEvent (Challenge node) = IsNumber node
 IsEvent (Activate node index) = IsNumber node × (index ≤ 1)
 IsEvent (Kick node) = IsNumber node
 IsEvent (Show node) = IsNumber node
+IsEvent Checks = Unit {0}
+IsEvent (Bcast node datagram) = IsNumber node × IsLineOctets datagram
+IsEvent (Scan node) = IsNumber node
+IsEvent (Choose node k) = IsNumber node × (1 ≤ k) × (k ≤ 16)
+IsEvent (Path from to) = IsNumber from × IsNumber to
 
 -- every event of a list is one that a line can say
 abbrev pub AreEvents : List Event → Type 0

@@ -5,6 +5,7 @@ use Rattle.node_rules.specs.Ciphers.{Ciphers}
 use Rattle.line_rules.specs.declared.event.Event.{Event}
 use Rattle.line_rules.specs.Worlds.{World, Flight, Trace}
 use Rattle.line_rules.specs.Steps.{step}
+use Rattle.line_rules.specs.Further.{line_step}
 
 -- A flight as it was, lost or not; one that was lost stays so.
 pub record SameFlight (f g : Flight) : Type 0 where
@@ -28,6 +29,11 @@ pub record GoesOn (w v : World) : Type 0 where
   pub nodes : length w.nodes ≤ length v.nodes
   pub flights : KeepsFlights w.flights v.flights
   pub made : (more : List PairTag) × (v.made ≡ w.made ++ more)
+
+-- every event that is taken leads one event on, with further reach as without
+abbrev pub LineStepsGoOn : Type 0
+LineStepsGoOn =
+    (ciphers : Ciphers) (w v : World) (event : Event) (d : Trace) → line_step ciphers w event ≡ Ok (v, d) → GoesOn w v
 
 -- every event that is taken leads one event on
 abbrev pub StepsGoOn : Type 0

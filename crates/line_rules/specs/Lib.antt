@@ -2,10 +2,13 @@ pub mod Answers
 pub mod Events
 pub mod Worlds
 pub mod Steps
+pub mod Further
 pub mod Runs
 pub mod SafeRuns
 pub mod Nonces
 pub mod Agreement
 pub mod Forgery
 pub mod Traces
+pub mod FurtherRuns
+pub mod Logs
 pub mod Laws

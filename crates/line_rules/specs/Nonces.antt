@@ -1,5 +1,5 @@
 -- Flights: their counters and nonces, what they are, and whose address they have.
-use Rattle.std.specs.Prelude.{◌≡◌, ◌≢◌, ℕ, ◌<◌, true, false, is_some, List, [], ◌∷◌, length, drop, All, AllPairs, Option, Some, None, IfSome}
+use Rattle.std.specs.Prelude.{◌≡◌, ◌≢◌, ◌⊎◌, ℕ, ◌<◌, true, false, is_some, List, [], ◌∷◌, length, drop, All, AllPairs, Option, Some, None, IfSome}
 use Rattle.plc_base.specs.declared.key.Key.{Key}
 use Rattle.mac_frames.specs.declared.head.MacHead.{MacHead}
 use Rattle.mac_frames.specs.declared.head.MacHead.TheVariants as heads
@@ -7,6 +7,8 @@ use Rattle.mac_frames.specs.Grammar.{IsSealed, IsPlain, header, header_then}
 use Rattle.mac_frames.specs.Reading.{head_in}
 use Rattle.mesh_header.specs.Grammar.{spelling}
 use Rattle.joining_messages.specs.declared.message.JoinMessage.{JoinMessage}
+use Rattle.pan_discovery.specs.declared.message.Discovery.{Discovery}
+use Rattle.pan_discovery.specs.Messages.{SpellsDiscovery}
 use Rattle.node_rules.specs.Ciphers.{Ciphers, OpensWhatItSeals}
 use Rattle.node_rules.specs.Frames.{joining_unit}
 use Rattle.line_rules.specs.Worlds.{World, Flight}
@@ -69,10 +71,16 @@ pub record IsPlainFrame (octets : List ℕ) : Type 0 where
   pub spelled : octets ≡ header_then head (spelling (joining_unit message))
   pub nonce : nonce_in_head (head_in octets) ≡ None
 
--- A flight with a key is a sealed frame under this key, and one without a key is a plain frame, which carries no send.
+-- The octets are a beacon request or a beacon, and no sealed frame.
+pub record IsDiscoveryFrame (octets : List ℕ) : Type 0 where
+  pub frame : Discovery
+  pub spelled : SpellsDiscovery frame octets
+  pub nonce : nonce_in_head (head_in octets) ≡ None
+
+-- A flight with a key is a sealed frame under this key, and one without a key is a plain frame or one of discovery, which carry no send.
 pub record IsSpelled (ciphers : Ciphers) (f : Flight) : Type 0 where
   pub sealed : (key : Key) → f.key ≡ Some key → IsSealedUnder ciphers key f.octets
-  pub plain : f.key ≡ None → IsPlainFrame f.octets × (f.note ≡ 0)
+  pub plain : f.key ≡ None → (IsPlainFrame f.octets ⊎ IsDiscoveryFrame f.octets) × (f.note ≡ 0)
 
 -- so it is of all flights, after every event of a run
 abbrev pub AreSpelled : Ciphers → List Entry → Type 0

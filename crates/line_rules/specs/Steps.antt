@@ -41,7 +41,9 @@ use Rattle.node_rules.specs.Coordinators as coordinator_rules
 use Rattle.node_rules.specs.StoreReading.{memory_of, remembering, blank_station, first_grant}
 use Rattle.line_rules.specs.Answers.{Reception, Up, SentGrant, CompletedJoining, frame_word, sent_word, random_word, join_word, leave_word, ordered_word, meter_reception, coordinator_reception}
 use Rattle.node_rules.specs.Showing.{shown_of}
-use Rattle.line_rules.specs.Worlds.{Flight, World, node_at, flight_at, note_of, is_forged_frame, is_forged_tag, Issued, Pairing, Trace}
+use Rattle.line_rules.specs.Worlds.{Flight, World, node_at, flight_at, note_of, is_forged_frame, is_forged_tag, Issued, Pairing, Trace, nothing_further}
+pub use Rattle.line_flights.specs.Flights.{flight_by}
+use Rattle.reach_rules.specs.ReachingNodes.{nothing_beside}
 use Rattle.line_rules.specs.declared.happenings.Handed.{Handed}
 use Rattle.line_rules.specs.declared.happenings.Admission.{Admission}
 use Rattle.line_rules.specs.declared.happenings.Happenings.{Happenings}
@@ -59,10 +61,6 @@ set_up w = record w { events = w.events + 1 }
 -- an event of another kind than setup was taken: setup is over
 abbrev pub ran : World → World
 ran w = record w { events = w.events + 1; running = true }
-
--- a frame of a node as a flight
-abbrev pub flight_by : ℕ → OutFrame → Flight
-flight_by from f = record { from = from; octets = f.octets; key = f.key; note = f.note; lost = false }
 
 -- the frames of a node as flights, in order
 abbrev pub flights_of : {A : Type 0} → Ciphers → ℕ → NodeStep A → List Flight
@@ -84,6 +82,9 @@ happened w answer = record {
   answer = answer;
   forged = false;
   up = None;
+  bup = None;
+  agent = None;
+  path = None;
   grant = None;
   took = None;
   done = None;
@@ -94,7 +95,16 @@ happened w answer = record {
 
 -- what the report says, and nothing beside it for the history
 abbrev pub trace_of : Happenings → Trace
-trace_of h = record { happened = h; sent = None; issued = []; taken = None; done = None; made = []; opened = [] }
+trace_of h = record {
+  happened = h;
+  sent = None;
+  issued = [];
+  taken = None;
+  done = None;
+  made = [];
+  opened = [];
+  further = nothing_further;
+}
 
 -- what a node did is told, in the words of its answer
 abbrev pub spoken : World → NodeStep Answer → Trace
@@ -154,7 +164,10 @@ coordinator_node eui key =
 
 -- a node more
 abbrev pub made_node : World → Node → World × Trace
-made_node w x = (record (set_up w) { nodes = w.nodes ++ x ∷ [] }, trace_of (happened w said.Made))
+made_node w x = (
+  record (set_up w) { nodes = w.nodes ++ x ∷ []; beside = w.beside ++ nothing_beside ∷ [] },
+  trace_of (happened w said.Made),
+)
 
 -- whether a node has this EUI
 abbrev pub is_known : World → Eui → Bool
@@ -428,6 +441,7 @@ reception_trace w number forged d = record {
   done = done_by w d.answer.done;
   made = d.made;
   opened = d.opened;
+  further = nothing_further;
 }
 
 -- what a frame led to, in the world
@@ -583,7 +597,7 @@ kick ciphers w number =
 
 -- # All kinds
 
--- an event, by its kind
+-- an event, by its kind, of a line without further reach; the lines of further reach are said by `Further`
 abbrev pub step : Ciphers → World → Event → Step
 step ciphers w (events.Coordinator eui key) = coordinator w eui key
 step ciphers w (events.Meter eui psk) = meter w eui psk
@@ -608,3 +622,8 @@ step ciphers w (events.Challenge node) = challenge ciphers w node
 step ciphers w (events.Activate node index) = activate ciphers w node index
 step ciphers w (events.Kick node) = kick ciphers w node
 step ciphers w (events.Show node) = show w node
+step ciphers w events.Checks = Err faults.Setup
+step ciphers w (events.Bcast node datagram) = Err faults.Setup
+step ciphers w (events.Scan node) = Err faults.Setup
+step ciphers w (events.Choose node k) = Err faults.Setup
+step ciphers w (events.Path from to) = Err faults.Setup

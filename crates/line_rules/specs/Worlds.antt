@@ -1,29 +1,14 @@
 -- The world: a line of nodes, what flew on it, and what its next step needs.
-use Rattle.std.specs.Prelude.{ℕ, ◌-◌, Bool, false, not, ◌==◌, ◌&&◌, List, [], ◌∷◌, slice_get, Option, None, if◌then◌else◌}
-use Rattle.std.specs.List.{list_any}
-use Rattle.std.specs.Option.{option_map_or}
-use Rattle.std.specs.Str.{bytes_eq}
+use Rattle.std.specs.Prelude.{ℕ, ◌-◌, Bool, false, ◌==◌, List, [], slice_get, Option, None, if◌then◌else◌}
 use Rattle.plc_base.specs.declared.address.Eui.{Eui}
 use Rattle.plc_base.specs.declared.key.Key.{Key}
-use Rattle.plc_base.specs.declared.key.Rand.{Rand}
 use Rattle.plc_base.specs.declared.tags.PairTag.{PairTag}
-use Rattle.plc_base.specs.declared.tags.PairTag.TheVariants as tags
 use Rattle.eap_psk.specs.declared.server.Agreed.{Agreed}
 use Rattle.line_rules.specs.declared.happenings.Happenings.{Happenings}
-use Rattle.group_keys.specs.KeyBook.{same_key}
 use Rattle.node_rules.specs.Memory.{Node}
-use Rattle.node_rules.specs.Accepting.{same_eui}
-
--- A frame that was sent. It may come any number of times, until it is lost; its octets stay.
-pub record Flight : Type 0 where
-  -- the node that sent it
-  pub from : ℕ
-  pub octets : List ℕ
-  -- the group key that sealed it
-  pub key : Option Key
-  -- the number of the send that it carries, 0 where it carries none
-  pub note : ℕ
-  pub lost : Bool
+pub use Rattle.line_flights.specs.Flights.{Flight, has_octets, is_forged_frame, same_rand, same_tag, is_forged_tag}
+unfoldable pub use Rattle.line_flights.specs.Flights.{note_of}
+use Rattle.reach_rules.specs.ReachingNodes.{Beside}
 
 -- The world: the clock, the nodes, the flights, and what was counted.
 pub record World : Type 0 where
@@ -44,6 +29,10 @@ pub record World : Type 0 where
   pub ups : ℕ
   pub forged : ℕ
   pub done : ℕ
+  -- whether neighbours are checked, on all nodes
+  pub checks_on : Bool
+  -- what each node holds beside its memory, by its number
+  pub beside : List Beside
 
 -- the world before the first event
 abbrev pub start : World
@@ -59,6 +48,8 @@ start =
       ups = 0;
       forged = 0;
       done = 0;
+      checks_on = false;
+      beside = [];
     }
 
 -- the node of a number
@@ -68,42 +59,6 @@ node_at w number = slice_get w.nodes number
 -- the flight of a number
 abbrev pub flight_at : World → ℕ → Option Flight
 flight_at w number = if number == 0 then None else slice_get w.flights (number - 1)
-
--- # What is forged
-
--- whether a flight has these octets, sealed under this key
-abbrev pub has_octets : List ℕ → Key → Flight → Bool
-has_octets octets key f = bytes_eq f.octets octets && option_map_or (same_key key) f.key false
-
--- the note of the first flight with these octets under this key, and 0 where there is none; lost or not
-unfoldable pub note_of : List Flight → List ℕ → Key → ℕ
-note_of [] octets key = 0
-note_of (f ∷ rest) octets key = if has_octets octets key f then f.note else note_of rest octets key
-
--- whether a sealed frame that a node accepted under a key was sent by no node
-abbrev pub is_forged_frame : List Flight → List ℕ → Key → Bool
-is_forged_frame flights octets key = not (list_any (has_octets octets key) flights)
-
--- whether two random values are the same
-abbrev pub same_rand : Rand → Rand → Bool
-same_rand a b = bytes_eq a.0 b.0
-
--- whether two pair tags were computed over the same
-abbrev pub same_tag : PairTag → PairTag → Bool
-same_tag (tags.MacP a s) (tags.MacP b t) = same_eui a b && bytes_eq s t
-same_tag (tags.MacP a s) (tags.MacS b t) = false
-same_tag (tags.MacP a s) (tags.Channel b q n h t) = false
-same_tag (tags.MacS a s) (tags.MacP b t) = false
-same_tag (tags.MacS a s) (tags.MacS b t) = same_eui a b && bytes_eq s t
-same_tag (tags.MacS a s) (tags.Channel b q n h t) = false
-same_tag (tags.Channel a p m g s) (tags.MacP b t) = false
-same_tag (tags.Channel a p m g s) (tags.MacS b t) = false
-same_tag (tags.Channel a p m g s) (tags.Channel b q n h t) =
-    same_eui a b && (same_rand p q && ((m == n) && (bytes_eq g h && bytes_eq s t)))
-
--- whether a pair tag that a node found right was made by no node
-abbrev pub is_forged_tag : List PairTag → PairTag → Bool
-is_forged_tag made tag = not (list_any (same_tag tag) made)
 
 -- # What happens at an event
 
@@ -126,6 +81,41 @@ pub record Pairing : Type 0 where
   pub node : ℕ
   pub agreed : Agreed
 
+-- # What is told of further reach
+
+-- A broadcast that was sent: by which node, at which address, with which number.
+pub record Broadcasting : Type 0 where
+  pub node : ℕ
+  pub address : ℕ
+  pub number : ℕ
+  pub datagram : List ℕ
+
+-- A step of a path request: from the address of the node that sends the ask on, to that of its next hop, toward the target.
+pub record Stepping : Type 0 where
+  pub from : ℕ
+  pub to : ℕ
+  pub target : ℕ
+
+-- What a node did or heard that its checks or its scan depend on.
+pub data Noticed : Type 0 where
+  -- it sent a reply to a neighbour
+  Replied : (node neighbour number origin : ℕ) → Noticed
+  -- it heard an acknowledgement that was awaited
+  Acknowledged : (node neighbour number origin : ℕ) → Noticed
+  -- it began to scan
+  Scans : (node : ℕ) → Noticed
+  -- it took a beacon
+  Heard : (node from cost link : ℕ) → Noticed
+
+-- What the history has of an event of further reach.
+pub record Further : Type 0 where
+  pub broadcast : Option Broadcasting
+  pub stepping : Option Stepping
+  pub noticed : Option Noticed
+
+abbrev pub nothing_further : Further
+nothing_further = record { broadcast = None; stepping = None; noticed = None }
+
 -- What an event was, for who reads the history of a run: what the report says of it, and what it does not.
 pub record Trace : Type 0 where
   pub happened : Happenings
@@ -135,3 +125,4 @@ pub record Trace : Type 0 where
   pub done : Option Pairing
   pub made : List PairTag
   pub opened : List PairTag
+  pub further : Further

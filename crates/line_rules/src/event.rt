@@ -121,6 +121,27 @@ pub enum Event<'a> {
     Show {
         node: u32,
     },
+    /// Turns the checks of neighbours on, for every node.
+    Checks,
+    /// A node sends a datagram to all.
+    Bcast {
+        node: u32,
+        datagram: OctetRef<'a>,
+    },
+    /// A meter begins to scan for agents.
+    Scan {
+        node: u32,
+    },
+    /// A meter begins to join by the k-th agent that it heard, counted from 1.
+    Choose {
+        node: u32,
+        k: u8,
+    },
+    /// A node asks which way another one is reached.
+    Path {
+        from: u32,
+        to: u32,
+    },
 }
 
 /// How an event that was taken ended: the words of the report.
@@ -266,6 +287,38 @@ pub enum Answer {
     SeqSpent,
     /// The frame counters are spent.
     CounterSpent,
+    /// The check of a neighbour has ended: it has acknowledged a reply.
+    Acked,
+    /// A broadcast was handed up.
+    Bup,
+    /// A meter scans for agents.
+    Scanning,
+    /// A beacon request was answered.
+    Beacon,
+    /// A beacon was taken into the scan.
+    Beaconed,
+    /// The way to another node was asked for.
+    Traced,
+    /// The way to another node was told.
+    Path,
+    /// The request comes from a neighbour that did not acknowledge a reply.
+    Blacklisted,
+    /// No open check awaits the acknowledgement.
+    NotAwaited,
+    /// The broadcast is an own one, or came before.
+    Old,
+    /// No origin more can be held.
+    OriginsFull,
+    /// The numbers of the own broadcasts are spent.
+    NumberSpent,
+    /// The node does not scan.
+    NotScanning,
+    /// Fewer agents were heard.
+    NoBeacon,
+    /// The ask has been here before.
+    Revisited,
+    /// The walk of the ask is full.
+    PathLong,
 }
 
 /// Why an event was not taken. The world is then as it was.

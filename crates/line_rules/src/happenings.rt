@@ -1,6 +1,7 @@
 //! What happens at an event, as the report says it.
 use crate::Answer;
 use node_rules::ShownRef;
+use path_requests::Walk;
 use plc_base::{OctetRef, Short};
 
 /// A datagram that a node handed up.
@@ -23,6 +24,39 @@ pub struct Admission {
     pub address: Short,
 }
 
+/// A broadcast that a node handed up.
+#[derive(Drop)]
+pub struct BroadcastUp<'a> {
+    /// The node.
+    pub node: u16,
+    /// The address of the node that sent it first.
+    pub origin: Short,
+    /// The number that `origin` gave it.
+    pub number: u32,
+    /// The datagram: 1 to 360 octets.
+    pub octets: OctetRef<'a>,
+}
+
+/// An agent by which a meter begins to join, since its scan heard it.
+#[derive(Clone, Copy, Debug, PartialEq, Eq)]
+pub struct AgentLine {
+    /// The meter's node.
+    pub node: u16,
+    /// The agent's short address.
+    pub address: Short,
+    /// The cost to the coordinator by it.
+    pub total: u32,
+}
+
+/// The way to a node that was told to the node that had asked.
+#[derive(Debug, Drop)]
+pub struct PathLine {
+    /// The node that had asked.
+    pub node: u16,
+    /// The addresses of the way, from its own to that of the target: 2 to 16.
+    pub walk: Walk,
+}
+
 /// What the report says of an event that was taken.
 #[derive(Drop)]
 pub struct Happenings<'a> {
@@ -32,6 +66,12 @@ pub struct Happenings<'a> {
     pub forged: bool,
     /// The datagram that was handed up, if one was.
     pub up: Option<Handed<'a>>,
+    /// The broadcast that was handed up, if one was.
+    pub bup: Option<BroadcastUp<'a>>,
+    /// The agent by which a meter joins, if one was chosen.
+    pub agent: Option<AgentLine>,
+    /// The way that was told, if one was.
+    pub path: Option<PathLine>,
     /// The meter that was allowed, if one was.
     pub grant: Option<Admission>,
     /// The node of the meter that took its grant, if one did.

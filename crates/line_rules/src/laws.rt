@@ -1,9 +1,31 @@
 //! Laws of the step: each carried by a function that does nothing.
-ghost use Rattle.line_rules.specs.Laws.{StepsGoOn};
+ghost use Rattle.line_rules.specs.FurtherRuns.{NothingFurther};
+ghost use Rattle.line_rules.specs.Laws.{StepsGoOn, LineStepsGoOn};
+ghost use Rattle.line_rules.specs.Logs.{LineStepsKeepLogs, LogsKeptAtFirst};
 
 /// An event that is taken counts one event on, and takes back no flight and no tag that was made; no node goes, and the clock does not
 /// fall.
 #[tactic(auto)]
 pub fn steps_go_on()
     ensures { StepsGoOn }
+{}
+
+/// So does one where nodes have further reach.
+#[tactic(auto)]
+pub fn line_steps_go_on()
+    ensures { LineStepsGoOn }
+{}
+
+/// Before the first event nothing was checked or heard, and no broadcast or path was told of.
+#[tactic(auto)]
+pub fn it_starts_with_nothing_further()
+    ensures { NothingFurther }
+{}
+
+/// Whatever power is lost, the log of broadcasts beside each node is what its store gives, and where a node is halted some log is: before
+/// the first event, and after each that is taken, where no table of a node is longer than its slots, and a command that comes is octets.
+#[tactic(auto)]
+pub fn logs_are_kept()
+    ensures first { LogsKeptAtFirst }
+    ensures later { LineStepsKeepLogs }
 {}

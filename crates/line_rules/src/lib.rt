@@ -9,5 +9,5 @@ mod happenings;
 mod laws;
 
 pub use event::{Answer, Event, MAX_EVENTS, StepFault};
-pub use happenings::{Admission, Handed, Happenings};
-pub use laws::steps_go_on;
+pub use happenings::{Admission, AgentLine, BroadcastUp, Handed, Happenings, PathLine};
+pub use laws::{it_starts_with_nothing_further, line_steps_go_on, logs_are_kept, steps_go_on};

@@ -30,7 +30,7 @@ with_key : (g : Granted) (key : Option Key) (first : ℕ) (units : List Outgoing
 with_key g None first units = omega arith
 with_key g (Some key) first units = let same = length-letters g key first units in omega arith
 
-sealed_few : (r : ring.Ring) (first : ℕ) (units : List Outgoing) → length (sealed_by r first units) ≤ length units
+pub sealed_few : (r : ring.Ring) (first : ℕ) (units : List Outgoing) → length (sealed_by r first units) ≤ length units
 sealed_few None first units = omega arith
 sealed_few (Some g) first units = with_key g (sealing_key g) first units
 

@@ -31,13 +31,13 @@ use Rattle.node_rules.specs.MemoryDrafts.{Unread, unread}
 use Rattle.node_rules.specs.OctetLaws.{WayFits, UnreadFits, UnreadsAreOctets}
 
 -- the octets that a unit brings, and from one node where it is a command
-abbrev UnitBrings : MeshUnit → Type 0
+abbrev pub UnitBrings : MeshUnit → Type 0
 UnitBrings (units.Whole mesh octets) = AreOctets octets
 UnitBrings (units.Part mesh piece) = AreOctets piece.octets
 UnitBrings (units.Carried mesh body) = AreOctets body × (mesh.origin < 0xFFFE)
 UnitBrings (units.Local code body) = AreOctets body
 
-unit_brings : (payload : List ℕ) (unit : MeshUnit) → AreOctets payload → unit_in payload ≡ Some unit → UnitBrings unit
+pub unit_brings : (payload : List ℕ) (unit : MeshUnit) → AreOctets payload → unit_in payload ≡ Some unit → UnitBrings unit
 unit_brings payload unit are e = by_unit unit (read_octets unit payload are e) (unit_spelled unit payload are e).0
   where
     by_unit : (unit : MeshUnit) → HasOctets unit → IsUnit unit → UnitBrings unit

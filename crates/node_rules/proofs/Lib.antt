@@ -24,3 +24,5 @@ pub mod StationPuts
 pub mod RingPuts
 pub mod HeardOctets
 pub mod NetworkOpens
+pub mod LogPuts
+pub mod ReplyFrames

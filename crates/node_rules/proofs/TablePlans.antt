@@ -79,7 +79,7 @@ module _ (R : Membership → Type 0) (b : book.Book) (l : StationMemory) where
   ring_puts r d h p = puts_by {H = Unit {0}} R b l alone calls.ringing_ends l (Puts R b l) (λ d f. f) _ (Ended (with_ring r d) tt (ringed_puts R b l r d h p))
 
 module _ (b : book.Book) (l : StationMemory) where
-  activate_puts : (index : ℕ) → AreOf AnyMembership b l (calls.activate l index).puts
+  pub activate_puts : (index : ℕ) → AreOf AnyMembership b l (calls.activate l index).puts
   unfolding choose resting
   activate_puts index = by_test (calls.has_key l index)
     where
@@ -108,7 +108,7 @@ stations l b short = record {
 
 -- # What a meter and the coordinator do
 
-random_puts : (m : Memory) (value : Rand) → AreOf AnyMembership m.book m.station (give_random m value).puts
+pub random_puts : (m : Memory) (value : Rand) → AreOf AnyMembership m.book m.station (give_random m value).puts
 random_puts m value =
     plan_puts {H = Unit {0}} AnyMembership m.book m.station in_memory given_ends m _ (choose_shape in_memory given_ends m (Does AnyMembership m.book m.station) _ _ _ (Rests _) (Ended (with_memory_by _ (empty_draft m)) tt (quiet_does AnyMembership m.book m.station _ (remembers AnyMembership m.book m.station _ _ (begins AnyMembership m.book m.station m)))))
 

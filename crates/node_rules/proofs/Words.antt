@@ -131,11 +131,11 @@ module _ (l : StationMemory) where
   unfolding empty_draft
   begun_fits last m = record { count = omega arith; turns = omega arith }
 
-  begun_fresh : (last : ℕ) → Fresh l last (empty_draft l)
+  pub begun_fresh : (last : ℕ) → Fresh l last (empty_draft l)
   unfolding empty_draft
   begun_fresh last = record { units = refl; plain = refl; waiting = refl; turns = omega arith }
 
-  ranked_fresh : (dest : ℕ) (rank : Rank) (by now : ℕ) (d : Draft StationMemory) → Fresh l 0 d → Fresh l 1 (with_rank dest rank by now d)
+  pub ranked_fresh : (dest : ℕ) (rank : Rank) (by now : ℕ) (d : Draft StationMemory) → Fresh l 0 d → Fresh l 1 (with_rank dest rank by now d)
   unfolding with_rank
   ranked_fresh dest rank by now d f = record {
     units = f.units;
@@ -153,7 +153,7 @@ module _ (l : StationMemory) where
     turns = InTurn-append 0 2 3 d.puts _ (later_turn 0 1 2 d.puts (omega arith) f.turns) (number_turn d.memory.own_number);
   }
 
-  leave_fits : (last own dest hop : ℕ) (d : Draft StationMemory) → Fresh l last d → Fits l 0 last (leave own dest hop d)
+  pub leave_fits : (last own dest hop : ℕ) (d : Draft StationMemory) → Fresh l last d → Fits l 0 last (leave own dest hop d)
   unfolding leave
   leave_fits last own dest hop d f =
       let left = leaving_units own dest hop l.waiting in

@@ -1,13 +1,14 @@
 -- What holds of the rules whatever a node holds and whatever comes.
-use Rattle.std.specs.Option.{option_map}
+use Rattle.std.specs.Option.{option_map, option_and_then}
 use Rattle.fragment_buffers.specs.Taking.{blocks_held}
-use Rattle.std.specs.Prelude.{IfSome, ◌<◌, ◌^◌, ◌≡◌, ◌⊎◌, ℕ, ◌-◌, ◌≤◌, ◌==◌, All, List, [], ◌∷◌, ◌++◌, length, Option, Some, None, Result, Ok, Err, if◌then◌else◌}
+use Rattle.std.specs.Prelude.{IfSome, ◌<◌, ◌^◌, ◌≡◌, ◌⊎◌, ℕ, ◌-◌, ◌≤◌, ◌==◌, Bool, All, List, [], ◌∷◌, ◌++◌, length, Option, Some, None, Result, Ok, Err, if◌then◌else◌}
 use Rattle.std.specs.FinMap.{empty, insert}
 use Rattle.plc_base.specs.declared.keeper.Cut.{Cut}
 use Rattle.plc_base.specs.Keeper.{Records, Write}
 use Rattle.plc_base.specs.declared.address.Eui.{Eui}
 use Rattle.plc_base.specs.declared.key.Key.{Key}
 use Rattle.node_rules.specs.declared.heard.Accepted.{Accepted}
+use Rattle.node_rules.specs.declared.heard.Path.TheVariants as paths
 use Rattle.node_rules.specs.declared.refusal.Dropped.TheVariants as drops
 use Rattle.node_rules.specs.declared.refusal.FrameRefusal.TheVariants as frames
 use Rattle.node_rules.specs.declared.heard.SentHow.{SentHow}
@@ -18,7 +19,10 @@ use Rattle.node_rules.specs.declared.refusal.LeaveRefusal.TheVariants as leaves
 use Rattle.node_rules.specs.declared.refusal.CoordinatorRefusal.TheVariants as orders
 use Rattle.node_rules.specs.Frames.{Arrived}
 use Rattle.node_rules.specs.Accepting.{accept}
+use Rattle.mesh_header.specs.Reading.{unit_in}
+use Rattle.loadng_messages.specs.declared.message.Message.TheVariants.{Rrep}
 use Rattle.node_rules.specs.Hearing.{hear}
+use Rattle.node_rules.specs.Replies.{route_message}
 use Rattle.node_rules.specs.Calls as calls
 use Rattle.node_rules.specs.Meters as meters
 use Rattle.node_rules.specs.Coordinators as coordinator_rules
@@ -230,6 +234,29 @@ pub record IsBounded {M A : Type 0} (l : StationMemory) (p : Plan M A) : Type 0 
 -- what a station, a meter and the coordinator make of a frame
 abbrev pub HearingIsBounded : Type 0
 HearingIsBounded = (l : StationMemory) (got : Accepted) (cost note now : ℕ) → IsBounded l (hear l got cost note now)
+
+-- A frame that carries a route reply makes a station send at most what waits and one frame more, so that an acknowledgement has room after
+-- them.
+abbrev pub RepliesAreFew : Type 0
+RepliesAreFew =
+    (l : StationMemory) (got : Accepted) (cost note now number c origin to : ℕ) → WaitingFits l
+    → option_and_then route_message (unit_in got.payload) ≡ Some (Rrep number c origin to)
+    → length (hear l got cost note now).frames ≤ 22
+
+-- the same of a sealed one that a meter hears, and the coordinator
+abbrev pub AMetersRepliesAreFew : Type 0
+AMetersRepliesAreFew =
+    (x : meters.Identity) (m : Memory) (got : Accepted) (cost note now from : ℕ) (all : Bool) (key : Key) (number c origin to : ℕ)
+    → WaitingFits m.station → got.path ≡ paths.Sealed from all key
+    → option_and_then route_message (unit_in got.payload) ≡ Some (Rrep number c origin to)
+    → length (meters.hear_meter x m got cost note now).frames ≤ 22
+
+abbrev pub ACoordinatorsRepliesAreFew : Type 0
+ACoordinatorsRepliesAreFew =
+    (own : coordinator_rules.CoordinatorIdentity) (m : Memory) (got : Accepted) (cost note now from : ℕ) (all : Bool) (key : Key)
+    (number c origin to : ℕ) → WaitingFits m.station → got.path ≡ paths.Sealed from all key
+    → option_and_then route_message (unit_in got.payload) ≡ Some (Rrep number c origin to)
+    → length (coordinator_rules.hear_coordinator own m got cost note now).frames ≤ 22
 
 -- the same of a frame that a meter hears
 abbrev pub AMetersHearingIsBounded : Type 0

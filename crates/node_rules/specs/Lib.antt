@@ -25,3 +25,4 @@ pub mod Home
 pub mod Replies
 pub mod StationSlots
 pub mod OctetLaws
+pub mod LogSlots

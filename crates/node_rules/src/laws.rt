@@ -15,7 +15,7 @@ ghost use Rattle.plc_base.specs.declared.out_frame.Out.{Out};
 ghost use Rattle.node_rules.specs.Carrying.{Carries, IsCarriedOut};
 ghost use Rattle.node_rules.specs.Plans.{Plan, resting, within};
 ghost use Rattle.node_rules.specs.States.{State};
-ghost use Rattle.node_rules.specs.Laws.{WritesFailCleanly, NoCutNoFailure, HaltedHasNoAddress, RinglessHasNoAddress, HaltedDoesNothing, AFrameRefusedChangesNothing, ADropChangesNothing, AMetersDropChangesNothing, ACoordinatorsDropChangesNothing, ASendRefusedChangesNothing, AJoinRefusedChangesNothing, AnOrderRefusedChangesNothing, TheRoomTellsTheRefusal, HearingIsBounded, AMetersHearingIsBounded, ACoordinatorsHearingIsBounded, ASendIsBounded, AJoinIsBounded, AnOrderIsBounded, AcceptingOnlyMarks, AnEmptyStoreIsBlank};
+ghost use Rattle.node_rules.specs.Laws.{WritesFailCleanly, NoCutNoFailure, HaltedHasNoAddress, RinglessHasNoAddress, HaltedDoesNothing, AFrameRefusedChangesNothing, ADropChangesNothing, AMetersDropChangesNothing, ACoordinatorsDropChangesNothing, ASendRefusedChangesNothing, AJoinRefusedChangesNothing, AnOrderRefusedChangesNothing, TheRoomTellsTheRefusal, HearingIsBounded, RepliesAreFew, AMetersRepliesAreFew, ACoordinatorsRepliesAreFew, AMetersHearingIsBounded, ACoordinatorsHearingIsBounded, ASendIsBounded, AJoinIsBounded, AnOrderIsBounded, AcceptingOnlyMarks, AnEmptyStoreIsBlank};
 
 /// Where the write of a plan fails, the writes in front of it are stored and those after it are not; the failed one is stored as the
 /// loss of power says. The node answers the word of a failed write, and nothing is sent, made or kept in memory. A plan whose writes are
@@ -109,6 +109,15 @@ pub fn the_room_tells_the_refusal()
 #[tactic(auto)]
 pub fn hearing_is_bounded()
     ensures { HearingIsBounded }
+{}
+
+/// A station that hears a frame with a route reply sends at most 22 frames, where at most 8 bodies of 80 blocks wait: so one more can go
+/// out after them. So does a meter, and the coordinator.
+#[tactic(auto)]
+pub fn replies_are_few()
+    ensures stations { RepliesAreFew }
+    ensures meters { AMetersRepliesAreFew }
+    ensures coordinators { ACoordinatorsRepliesAreFew }
 {}
 
 /// The same of a meter that hears a frame, and it stores in order: floors, a rank or the ring, the own number, the counter.

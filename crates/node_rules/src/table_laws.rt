@@ -1,6 +1,7 @@
 //! Laws of the tables of a store, whatever becomes of a plan's writes. Each is the contract of a function that does nothing.
 ghost use Rattle.node_rules.specs.Tables.{StationsWriteInPlace, MetersWriteInPlace, CoordinatorsWriteInPlace, WritesKeepTables, CarryingOutKeepsTables};
 ghost use Rattle.node_rules.specs.Home.{CoordinatorsWriteHome, WritesKeepHome, CarryingOutKeepsHome, CoordinatorsWriteNoRing, WritesKeepRing};
+ghost use Rattle.node_rules.specs.LogSlots.{StationsLeaveLog, MetersLeaveLog, CoordinatorsLeaveLog, CarryingOutLeavesLog};
 ghost use Rattle.node_rules.specs.StationSlots.{StationsWriteTheirOwn, WritesKeepMembership};
 
 /// Each write of a plan to the marks, the ranks or the book replaces an entry that is held, or adds one right after them: of all
@@ -48,4 +49,14 @@ pub fn stations_write_their_own()
 pub fn coordinators_write_no_ring()
     ensures coordinators { CoordinatorsWriteNoRing }
     ensures wrote { WritesKeepRing }
+{}
+
+/// No plan of a station, of a meter or of the coordinator writes a slot of the log of broadcasts, where the marks and the ranks have at most as
+/// many entries as slots; and whichever of its writes fails, what stands there is as it was.
+#[tactic(auto)]
+pub fn plans_leave_the_log<M, A>()
+    ensures stations { StationsLeaveLog }
+    ensures meters { MetersLeaveLog }
+    ensures coordinators { CoordinatorsLeaveLog }
+    ensures carried { CarryingOutLeavesLog M A }
 {}

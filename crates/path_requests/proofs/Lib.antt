@@ -1,3 +1,3 @@
 mod Walking
-mod Readings
+pub mod Readings
 mod Steps

@@ -9,3 +9,4 @@ pub mod WayScripts
 pub mod KeyScripts
 pub mod StoreScripts
 pub mod CallScripts
+pub mod FurtherScripts

@@ -5,6 +5,7 @@
 
 mod call_scripts;
 mod frame_scripts;
+mod further_scripts;
 mod hop_scripts;
 mod joining_scripts;
 mod key_scripts;
@@ -21,6 +22,9 @@ pub use call_scripts::{
 pub use frame_scripts::{
     a_forged_frame_is_named, a_lost_frame_is_not_forged, frames_are_spelled,
     frames_have_their_nodes, malicious_frames_are_refused, units_have_their_paths,
+};
+pub use further_scripts::{
+    broadcasts_come_once, meters_choose_agents, paths_are_told, replies_are_acknowledged,
 };
 pub use hop_scripts::{
     a_broken_route_stays_broken, a_lost_flight_comes_no_more, a_repeat_is_refused,

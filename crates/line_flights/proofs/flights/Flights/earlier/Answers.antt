@@ -1,7 +1,7 @@
 -- What is kept beside the octets of a flight tells by which key it was sealed.
 use Rattle.std.proofs.Common.{◌≡◌, ◌-◌, ◌<◌, true, Some, sym, ap, ◌∙◌, arith, length}
 use Rattle.std.specs.Prelude.{slice_get}
-use Rattle.line_rules.specs.Worlds.{Flight}
+use Rattle.line_flights.specs.Flights.{Flight}
 use Rattle.line_flights.specs.Flown.{Flown, is_under}
 use Rattle.line_flights.proofs.Origins.{told_by}
 use Rattle.line_flights.proofs.FlightLists.{count_of, item_at, in_flights, beside}

@@ -1,5 +1,5 @@
 use Rattle.std.proofs.Common.{◌≡◌, ◌+◌, ◌*◌, ◌-◌, ◌≤◌, ◌++◌, length, map, take}
-use Rattle.line_rules.specs.Steps.{flight_by}
+use Rattle.line_flights.specs.Flights.{flight_by}
 use Rattle.line_flights.proofs.flights.Flights.send_off.Given as goal
 
 -- the frames so far fly

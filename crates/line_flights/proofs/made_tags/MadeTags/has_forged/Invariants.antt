@@ -1,6 +1,6 @@
 use Rattle.std.proofs.Common.{◌≡◌, false, take}
 use Rattle.std.specs.List.{list_any}
-use Rattle.line_rules.specs.Worlds.{is_forged_tag}
+use Rattle.line_flights.specs.Flights.{is_forged_tag}
 use Rattle.line_flights.proofs.made_tags.MadeTags.has_forged.Given as goal
 
 -- no tag so far is forged

@@ -2,7 +2,7 @@
 use Rattle.std.proofs.Common.{rules, ◌≡◌, ◌<◌, List, ℕ, ap, subst, ◌∙◌}
 use Rattle.std.specs.Prelude.{slice_index}
 use Rattle.octet_log.specs.Logs.{IsLast}
-use Rattle.line_rules.specs.Worlds.{is_forged_tag}
+use Rattle.line_flights.specs.Flights.{is_forged_tag}
 use Rattle.line_flights.specs.Flown.{Made}
 use Rattle.plc_base.specs.Tags.{tag_octets}
 use Rattle.line_flights.proofs.TagSpellings.{forged_by_last}

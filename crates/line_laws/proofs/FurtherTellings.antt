@@ -1,0 +1,618 @@
+-- How an event of a line with further reach is made: of what nodes without it do, and of moves after that.
+use Rattle.std.proofs.Common.{⊎_elim, zero-le, inl, inr, ◌≡◌, ◌≢◌, ℕ, ◌+◌, ◌≤◌, ◌<◌, Bool, true, false, List, [], ◌∷◌, ◌++◌, length, get_or, take, Option, Some, None, Result, Ok, Err, refl, sym, ap, ◌∙◌, subst, arith}
+use Rattle.std.specs.Prelude.{if◌then◌else◌, All, IfSome, IsSome, is_some, ◌==◌, ◌||◌, nat_lt, slice_get, slice_set, map}
+use Rattle.std.specs.List.{list_any}
+use Rattle.std.specs.Option.{option_map, option_map_or}
+use Rattle.std.proofs.lemmas.Bool.{ltb-false}
+use Rattle.std.proofs.lemmas.List.{append_assoc, length-append}
+use Rattle.std.proofs.lemmas.List.Elements.{All-append, All-cons, All-nil}
+use Rattle.plc_base.specs.declared.tags.PairTag.{PairTag}
+use Rattle.plc_base.proofs.SlotTables.{slice_get-set}
+use Rattle.plc_base.proofs.MarkEntries.{keep_write-within, room_has}
+use Rattle.plc_base.proofs.Faults.{then_none}
+use Rattle.plc_base.specs.declared.keeper.BadStore.{BadStore}
+use Rattle.plc_base.specs.declared.key.Key.{Key}
+use Rattle.plc_base.specs.Keeper.{Records, Write}
+use Rattle.plc_base.specs.LeadingPuts.{Reads}
+use Rattle.plc_base.specs.Writes.{puts_of}
+use Rattle.broadcast_log.specs.declared.broadcast.Broadcast.{Broadcast}
+use Rattle.broadcast_log.specs.declared.fault.LogFault.{LogFault}
+use Rattle.broadcast_log.specs.declared.fault.LogFault.TheVariants as log_faults
+use Rattle.broadcast_log.specs.Laws.{IsLogIn}
+use Rattle.broadcast_log.specs.Log.{Log, log_at_rest, opened}
+use Rattle.broadcast_log.specs.OriginMarks.{keep_write, room_for}
+use Rattle.broadcast_log.proofs.Reopening.{reopens}
+use Rattle.mesh_header.specs.declared.unit.Unit.{Unit as MeshUnit}
+use Rattle.mesh_header.specs.declared.unit.Unit.TheVariants as units
+use Rattle.mesh_header.specs.Reading.{unit_in}
+use Rattle.loadng_messages.specs.declared.message.Message.{Message}
+use Rattle.loadng_messages.specs.declared.message.Message.TheVariants.{Rreq, Rrep, Rerr}
+use Rattle.neighbour_checks.specs.Acks.{ack_spelling}
+use Rattle.node_rules.specs.declared.heard.Accepted.{Accepted}
+use Rattle.node_rules.specs.declared.heard.Path.{Path}
+use Rattle.node_rules.specs.declared.heard.Path.TheVariants as paths
+use Rattle.node_rules.specs.declared.heard.Heard.TheVariants as heard_words
+use Rattle.node_rules.specs.declared.heard.Reply.{Reply}
+use Rattle.node_rules.specs.declared.refusal.Dropped.TheVariants as drops
+use Rattle.node_rules.specs.declared.refusal.FrameRefusal.{FrameRefusal}
+use Rattle.node_rules.specs.declared.refusal.FrameRefusal.TheVariants as frames
+use Rattle.node_rules.specs.declared.refusal.LocalRefusal.{LocalRefusal}
+use Rattle.node_rules.specs.declared.refusal.LocalRefusal.TheVariants as locals
+use Rattle.node_rules.specs.Accepting.{accept}
+use Rattle.node_rules.specs.Ciphers.{Ciphers}
+use Rattle.node_rules.specs.Coordinators as coordinator_rules
+use Rattle.node_rules.specs.Meters as meters
+use Rattle.node_rules.specs.Drafts.{alone, choose as choose_plan, counters_left, empty_draft, goes, refused, sealed, sealing}
+use Rattle.node_rules.specs.Frames.{arrived}
+use Rattle.node_rules.specs.Hearing.{Hearing, hear, hear_command, hear_over_mesh, hear_sealed, drop_it, hear_unit_in}
+use Rattle.node_rules.specs.Memory.{StationMemory, Memory, Node, Role, Coordinator, Meter, address_of, node_address}
+use Rattle.node_rules.specs.MemoryDrafts.{in_memory, unread, with_station}
+use Rattle.node_rules.specs.Neighbours.{local_draft, local_ends, send_local}
+use Rattle.node_rules.specs.NodeSteps.{NodeStep, acts, answering, left_by, of_station, stays}
+use Rattle.node_rules.specs.Plans.{Plan, carry_out, resting, within}
+use Rattle.node_rules.specs.Replies.{reply_among}
+use Rattle.node_rules.specs.Tables.{HasShortTables}
+use Rattle.node_rules.proofs.ReplyFrames.{coordinators_replies_few, meters_replies_few}
+use Rattle.reach_rules.specs.declared.refusal.ReachDropped.{ReachDropped}
+use Rattle.reach_rules.specs.declared.refusal.ReachDropped.TheVariants as reach_drops
+use Rattle.reach_rules.specs.declared.refusal.BroadcastRefusal.TheVariants as broadcasts
+use Rattle.reach_rules.specs.declared.refusal.AskRefusal.TheVariants as asks
+use Rattle.reach_rules.specs.declared.refusal.ChooseRefusal.TheVariants as choices
+use Rattle.reach_rules.specs.declared.refusal.ChooseRefusal.{ChooseRefusal}
+use Rattle.pan_discovery.specs.Agents.{kth_of}
+use Rattle.reach_rules.specs.Beacons.{ChosenAgent, Discovering, begin_scan, choose_agent, choosing_ends, hear_discovery, is_discovery, joins_by}
+use Rattle.reach_rules.specs.Broadcasts.{broadcast, broadcast_fault, mark_fault}
+use Rattle.reach_rules.specs.CheckedReplies.{acknowledges, checks_after, message_of}
+use Rattle.reach_rules.specs.PathAsking.{ask_path}
+use Rattle.reach_rules.specs.ReachingNodes.{Beside, nothing_beside, restarted, restarted_by, tick_beside}
+use Rattle.reach_rules.specs.Receiving.{NeighbourCommand, command_of, command_on, command_with, hear_command as hear_neighbours}
+use Rattle.line_rules.specs.declared.event.Answer.{Answer}
+use Rattle.line_rules.specs.declared.event.Answer.TheVariants as said
+use Rattle.line_rules.specs.declared.event.Event.{Event}
+use Rattle.line_rules.specs.declared.event.Event.TheVariants as events
+use Rattle.line_rules.specs.declared.event.StepFault.{StepFault}
+use Rattle.line_rules.specs.declared.event.StepFault.TheVariants as faults
+use Rattle.line_rules.specs.Answers.{Reception, coordinator_reception, frame_word, meter_reception, only}
+use Rattle.line_rules.specs.Events.{IsEvent, IsLineOctets}
+use Rattle.line_rules.specs.Further.{line_step, checks, bcast, broadcasts_by, path, asks_by, scan, scans_by, choose, choice_word, chooses_by, discovers_by, discovery_flights, commanded, checked, acknowledged_if, acknowledged, acknowledging, adds_frames, sends_nothing, unbelieved, heard_by, heard_further, is_dropped, accepted_further, comes, delivers, injects, ticks, after_ok, due, with_check, restarts_by, restarts_further, beside_at, reaches, with_beside, of_memory}
+use Rattle.line_rules.specs.Logs.{AreLogged, HaveShortTables, LogIn, LogsKept}
+use Rattle.line_rules.specs.Steps.{Step, set_up, ran, told, acted, ticked, flights_of, happened, trace_of, has_begun, takes_setup, once_begun, in_setup, on_node, on_meter, psk_of, identity, on_flight, hears, heard, received, forged_by, note_by, restarts, tick, step}
+use Rattle.line_rules.specs.Worlds.{World, Flight, Trace, node_at, flight_at, is_forged_tag}
+use Rattle.line_rules.proofs.LogSteps.{logged_at}
+use Rattle.line_laws.specs.FurtherLines.{LineHolds, LineStepsHold, LogFits, LogsFit, StepHolds, TablesAreShort}
+use Rattle.line_laws.specs.Later.{IsOfLog}
+use Rattle.line_laws.specs.Keyed.{Each}
+use Rattle.line_laws.specs.Lines.{FlightFits, IsBelow, NodeOk, Rising, WorldOk, frontier}
+use Rattle.line_laws.specs.Live.{marks_of}
+use Rattle.line_laws.specs.Owed.{AreOctets, KeepsRanges}
+use Rattle.line_laws.specs.Sizes.{IsMemorySized}
+use Rattle.line_laws.specs.Stores.{IsKept}
+use Rattle.line_laws.proofs.Answered.{acts_answered}
+use Rattle.line_laws.proofs.CoordinatorCalls.{accept_failed, accept_ok, accepted_routes}
+use Rattle.line_laws.proofs.Frontiers.{numbered_le, numbered_lower, same_low}
+use Rattle.line_laws.proofs.FurtherForms.{AnyUnits, IsFurther, Goes, Rests, further_ok}
+use Rattle.line_laws.proofs.FurtherLines.{calls_keep, commands_keep, discovery_keeps}
+use Rattle.line_laws.proofs.MarkOrder.{raised_same, raised_trans}
+use Rattle.line_laws.proofs.NodeCalls.{RoutesFit, join_ok}
+use Rattle.line_laws.proofs.Nodes.{DidOk, PlanOk, acts_ok, node_kept, ring_readable, sealed_few}
+use Rattle.node_rules.proofs.Writing.{clean}
+use Rattle.node_rules.specs.Laws.{IsCutOff, IsWhole}
+use Rattle.line_laws.proofs.Quiet.{acts_quiet, accept_quiet}
+use Rattle.line_laws.proofs.StoreMarks.{accept_is}
+use Rattle.line_laws.proofs.Worlds.{at_place, counts_ok, told_ok, within as place_within}
+use Rattle.pan_discovery.specs.declared.message.Discovery.{Discovery}
+use Rattle.pan_discovery.specs.declared.message.Discovery.TheVariants as requests
+use Rattle.node_rules.specs.Drafts.{Outgoing}
+use Rattle.line_rules.specs.Further.{has_discovered, scanning}
+use Rattle.line_rules.specs.Answers.{discovery_word, scan_word}
+use Rattle.line_rules.specs.Further.{beacon_taken}
+use Rattle.pan_discovery.specs.Reading.{discovery_in}
+use Rattle.std.proofs.lemmas.Option.{same_Some}
+use Rattle.pan_discovery.specs.History.{Scanned, begun}
+use Rattle.reach_rules.specs.Beacons.{stays as stays_scan}
+use Rattle.reach_rules.specs.declared.refusal.ScanRefusal.{ScanRefusal}
+use Rattle.reach_rules.specs.declared.refusal.ScanRefusal.TheVariants as scan_faults
+use Rattle.line_rules.specs.Forgery.{Comes, OfFlight, OfScript, accepting}
+use Rattle.line_rules.specs.Worlds.{Noticed, nothing_further}
+use Rattle.std.proofs.lemmas.List.{append-nil}
+use Rattle.std.proofs.lemmas.Bool.{eqb-false}
+use Rattle.line_laws.specs.Later.{flown as flown_world}
+use Rattle.line_laws.proofs.Tellings as tellings
+use Rattle.line_laws.proofs.Tellings.{IsStep, Ticks, Restarts, Hears, TurnsDown, step_is}
+use Rattle.line_laws.proofs.Tellings.{Fails as OldFails}
+use Rattle.line_laws.proofs.FlightFolds.{came_octets}
+use Rattle.line_laws.proofs.StepsOk.{StepGood, Taken, restarts_ok, tick_good, true_false}
+use Rattle.line_laws.proofs.StepsOk.{ran_ok as steps_ran_ok}
+use Rattle.line_laws.proofs.FurtherLines.{flown_ok}
+use Rattle.line_laws.proofs.MarkSteps.{Follows, FollowsIn, follows, marks_rise, of_did, same_follows, told_follows, told_nodes}
+use Rattle.line_laws.specs.FurtherLines.{LineStepsRise, RisesIn}
+use Rattle.line_laws.proofs.FurtherSteps.{acts_down, choice_ok, did_on, heard_ok, hears_down, rests_ok, logs_fit, restarts_read}
+use Rattle.line_laws.proofs.FurtherForms.{ask_is, broadcast_is, command_is}
+use Rattle.line_laws.proofs.FurtherSteps.{ack_is}
+use Rattle.line_laws.proofs.FlightFolds.{AllOf, every_flight, told_all, lost_spelled}
+use Rattle.line_laws.proofs.HeadsSaid.{spelled_well}
+use Rattle.line_laws.proofs.LaterMoves.{discovery_nonce}
+use Rattle.line_laws.specs.FurtherLines.{BeaconsAreSpelled, FlightsSpelled, LineStepsSpell}
+use Rattle.pan_discovery.specs.Messages.{IsDiscovery}
+use Rattle.node_rules.specs.Frames.{Sent, spelled}
+use Rattle.line_rules.specs.Further.{discovery_flight}
+use Rattle.line_rules.specs.Nonces.{IsSpelled}
+use Rattle.line_rules.specs.Steps.{flight_by}
+
+-- # Moves
+
+-- What follows on what nodes without further reach do: a node stores records of its log and seals one command, a frame of discovery flies, or
+-- something else stands beside the memories. U is what is known of what is sealed, and D
+-- of what flies so.
+pub data Moves (U : List Outgoing → Type 0) (D : Discovery → Type 0) (ciphers : Ciphers) : World → World → Type 1 where
+  Stays : (w : World) → Moves U D ciphers w w
+  Carries : (w : World) (number : ℕ) (x : Node) (A : Type 0) (halted : A) (does : Memory → Plan Memory A) → node_at w number ≡ Some x → ((m : Memory) → x.memory ≡ Some m → IsFurther U m (does m))
+      → Moves U D ciphers w (told ciphers w number (acts x halted does))
+  Flies : (w : World) (number : ℕ) (x : Node) (frame : Discovery) → node_at w number ≡ Some x → D frame → Moves U D ciphers w (flown_world number frame w)
+  Besides : (w : World) (on : Bool) (bs : List Beside) → Moves U D ciphers w (record w { checks_on = on; beside = bs })
+  Turns : (w v u : World) → Moves U D ciphers w v → Moves U D ciphers v u → Moves U D ciphers w u
+
+-- Nothing of it is forged, handed up, sent, issued or joined, and no pair tag is made or checked.
+pub record IsSilent (t : Trace) : Type 0 where
+  pub forged : t.happened.forged ≡ false
+  pub up : t.happened.up ≡ None
+  pub sent : t.sent ≡ None
+  pub issued : t.issued ≡ []
+  pub taken : t.taken ≡ None
+  pub done : t.done ≡ None
+  pub made : t.made ≡ []
+  pub opened : t.opened ≡ []
+
+-- The one event is told as the other, but for its answer, its flights and what is told of further reach.
+pub record Tells (s t : Trace) : Type 0 where
+  pub forged : t.happened.forged ≡ s.happened.forged
+  pub up : t.happened.up ≡ s.happened.up
+  pub sent : t.sent ≡ s.sent
+  pub issued : t.issued ≡ s.issued
+  pub taken : t.taken ≡ s.taken
+  pub done : t.done ≡ s.done
+  pub made : t.made ≡ s.made
+  pub opened : t.opened ≡ s.opened
+
+-- # Events
+
+pub data IsLineStep (U : List Outgoing → Type 0) (D : Discovery → Type 0) (ciphers : Ciphers) (w : World) : Event → Step → Type 1 where
+  -- as without further reach
+  Known : (event : Event) (s : Step) → IsStep ciphers w event s → IsLineStep U D ciphers w event s
+  -- neighbours are checked from now on
+  Opens : takes_setup w ≡ true → IsLineStep U D ciphers w events.Checks (Ok (record (set_up w) { checks_on = true }, trace_of (happened w said.Set)))
+  -- moves alone
+  Anew : (event : Event) (v : World) (t : Trace) → Moves U D ciphers (ran w) v → IsSilent t → IsLineStep U D ciphers w event (Ok (v, t))
+  -- as without further reach, and then moves
+  After : (event : Event) (r : World × Trace) (v : World) (t : Trace) → IsStep ciphers w event (Ok r) → WorldOk r.0 → r.0.running ≡ true → Moves U D ciphers r.0 v → Tells r.1 t → IsLineStep U D ciphers w event (Ok (v, t))
+  -- the same, and it is not sent after all
+  Unsends : (event : Event) (r : World × Trace) (v : World) (t : Trace) → IsStep ciphers w event (Ok r) → WorldOk r.0 → r.0.running ≡ true → Moves U D ciphers r.0 v → Tells r.1 t → IsLineStep U D ciphers w event (Ok (sends_nothing w (v, t)))
+  -- a request of a listed neighbour is dropped once it is accepted
+  Unbelieves : (event : Event) (number : ℕ) (x : Node) (octets : List ℕ) (got : Accepted) → node_at w number ≡ Some x → IsEvent event → Comes w event number octets → (accepting ciphers x octets).answer ≡ Ok got
+      → IsLineStep U D ciphers w event (Ok (unbelieved ciphers w number (accepting ciphers x octets).node octets got))
+  -- a meter joins by an agent that it heard
+  Chooses : (number k : ℕ) (x : Node) (psk : Key) → number ≢ 0 → node_at w number ≡ Some x → psk_of x ≡ Some psk → IsLineStep U D ciphers w (events.Choose number k) (Ok (chooses_by ciphers w number x k (Some psk)))
+
+-- What is known of what the nodes of a world seal by further rules.
+pub record Speaks (U : List Outgoing → Type 0) (D : Discovery → Type 0) (ciphers : Ciphers) (w : World) : Type 0 where
+  pub broadcasts : (number : ℕ) (x : Node) (m : Memory) (datagram : List ℕ) → IsLineOctets datagram → node_at w number ≡ Some x → x.memory ≡ Some m → IsFurther U m (with_beside (beside_at w number) (λ y. broadcast in_memory y datagram) m)
+  pub asks : (number : ℕ) (x : Node) (m : Memory) (target : ℕ) → node_at w number ≡ Some x → x.memory ≡ Some m → IsFurther U m (with_beside (beside_at w number) (λ y. ask_path in_memory y target) m)
+  -- of discovery
+  pub scans : D (requests.Request 0)
+  pub beacons : (number : ℕ) (x : Node) (m : Memory) (octets : List ℕ) (link : ℕ) (frame : Discovery) → node_at w number ≡ Some x → x.memory ≡ Some m → (hear_discovery x.role m.station (beside_at w number).scan octets link).sent ≡ Some frame → D frame
+  -- of a command that it accepted, and of the acknowledgement of a reply
+  pub commands : (event : Event) (number : ℕ) (x : Node) (octets : List ℕ) (got : Accepted) (cost : ℕ) (c : NeighbourCommand) (m : Memory) → IsEvent event → Comes w event number octets → node_at w number ≡ Some x → (accepting ciphers x octets).answer ≡ Ok got → command_of got ≡ Some c
+      → (hears ciphers (accepting ciphers x octets).node got cost (note_by w octets got.path) w.clock).node.memory ≡ Some m → IsFurther U m (with_beside (beside_at w number) (λ y. hear_neighbours in_memory y c) m)
+  pub acknowledges : (event : Event) (number : ℕ) (x : Node) (octets : List ℕ) (got : Accepted) (cost : ℕ) (reply : Reply) (m : Memory) → IsEvent event → Comes w event number octets → node_at w number ≡ Some x → (accepting ciphers x octets).answer ≡ Ok got
+      → (hears ciphers (accepting ciphers x octets).node got cost (note_by w octets got.path) w.clock).node.memory ≡ Some m → IsFurther U m (acknowledges in_memory reply.to reply.number reply.origin m)
+
+-- what a node does by such plans makes and checks no pair tag
+module _ (U : List Outgoing → Type 0) {A : Type 0} (x : Node) (halted : A) (does : Memory → Plan Memory A) where
+  plan_untold : (m : Memory) (p : Plan Memory A) → IsFurther U m p → (p.made ≡ []) × (p.opened ≡ [])
+  unfolding resting
+  plan_untold m p (Rests answer failed) = (refl, refl)
+  plan_untold m p (Goes answer failed ps us logs says few left) = (refl, refl)
+
+  untold : ((m : Memory) → x.memory ≡ Some m → IsFurther U m (does m)) → ((acts x halted does).made ≡ []) × ((acts x halted does).opened ≡ [])
+  unfolding acts
+  untold is = by_memory x.memory refl
+    where
+      by_outcome : (m : Memory) → IsFurther U m (does m) → ((carry_out x.store.records x.store.cut (does m)).made ≡ []) × ((carry_out x.store.records x.store.cut (does m)).opened ≡ [])
+      by_outcome m f = let n = plan_untold m (does m) f in ⊎_elim (λ (w : IsWhole x.store.records x.store.cut (does m) (carry_out x.store.records x.store.cut (does m))). (w.made ∙ n.0, w.opened ∙ n.1))
+          (λ (c : IsCutOff x.store.records x.store.cut (does m) (carry_out x.store.records x.store.cut (does m))). (c.made, c.opened ∙ n.1)) (clean x.store.records x.store.cut (does m))
+
+      by_memory : (o : Option Memory) → x.memory ≡ o → ((option_map_or (λ m. left_by x (carry_out x.store.records x.store.cut (does m))) o (stays x halted)).made ≡ []) × ((option_map_or (λ m. left_by x (carry_out x.store.records x.store.cut (does m))) o (stays x halted)).opened ≡ [])
+      by_memory None e = (refl, refl)
+      by_memory (Some m) e = by_outcome m (is m e)
+
+told_same : (s t : Trace) → t.happened.forged ≡ s.happened.forged → t.happened.up ≡ s.happened.up → t.sent ≡ s.sent → t.issued ≡ s.issued → t.taken ≡ s.taken → t.done ≡ s.done → t.made ≡ s.made → t.opened ≡ s.opened → Tells s t
+told_same s t a b c d e f g h = record { forged = a; up = b; sent = c; issued = d; taken = e; done = f; made = g; opened = h }
+
+module _ (U : List Outgoing → Type 0) (D : Discovery → Type 0) (ciphers : Ciphers) (fits : KeepsRanges ciphers) (w : World) (ok : WorldOk w) (flown_are : All FlightFits w.flights) (logs : LogsKept w) (speaks : Speaks U D ciphers w) where
+  abbrev Is : Event → Step → Type 1
+  Is event s = IsLineStep U D ciphers w event s
+
+  failed : (event : Event) (fault : StepFault) → Is event (Err fault)
+  failed event fault = Known event (Err fault) (OldFails event fault)
+
+  branch : (event : Event) (b : Bool) (p q : Step) → (b ≡ true → Is event p) → (b ≡ false → Is event q) → Is event (if b then p else q)
+  branch event true p q s t = s refl
+  branch event false p q s t = t refl
+
+  by_option : {X : Type 0} (event : Event) (f : X → Step) (x : Option X) (p : Step) → ((y : X) → x ≡ Some y → Is event (f y)) → Is event p → Is event (option_map_or f x p)
+  by_option event f None p s t = t
+  by_option event f (Some y) p s t = s y refl
+
+  once : (event : Event) (s : Step) → Is event s → Is event (once_begun w s)
+  once event s h = branch event (has_begun w) s (Err faults.Setup) (λ _. h) (λ _. failed event faults.Setup)
+
+  setup : (event : Event) (s : Step) → (takes_setup w ≡ true → Is event s) → Is event (in_setup w s)
+  setup event s h = branch event (takes_setup w) s (Err faults.Setup) h (λ _. failed event faults.Setup)
+
+  at_node : (event : Event) (number : ℕ) (f : Node → Step) → ((x : Node) → node_at w number ≡ Some x → Is event (f x)) → Is event (on_node w number f)
+  at_node event number f h = by_option event f (node_at w number) (Err faults.Node) h (failed event faults.Node)
+
+  at_meter : (event : Event) (number : ℕ) (f : Node → Step) → (number ≢ 0 → (x : Node) → node_at w number ≡ Some x → Is event (f x)) → Is event (on_meter w number f)
+  at_meter event number f h = branch event (number == 0) (Err faults.Node) (on_node w number f) (λ _. failed event faults.Node) (λ e. at_node event number f (h (eqb-false _ _ e)))
+
+  at_flight : (event : Event) (number : ℕ) (f : Flight → Step) → ((x : Flight) → flight_at w number ≡ Some x → Is event (f x)) → Is event (on_flight w number f)
+  at_flight event number f h = by_option event (λ x. if x.lost then Err faults.Flight else f x) (flight_at w number) (Err faults.Flight)
+      (λ x e. branch event x.lost (Err faults.Flight) (f x) (λ _. failed event faults.Flight) (λ _. h x e)) (failed event faults.Flight)
+
+  -- nothing is done
+  rests : (event : Event) (t : Trace) → IsSilent t → Is event (Ok (ran w, t))
+  rests event t s = Anew event (ran w) t (Stays (ran w)) s
+
+  silent : (answer : Answer) → IsSilent (trace_of (happened w answer))
+  silent answer = record { forged = refl; up = refl; sent = refl; issued = refl; taken = refl; done = refl; made = refl; opened = refl }
+
+  checks_step : Is events.Checks (checks w)
+  unfolding checks
+  checks_step = setup _ _ (λ begun. branch _ w.checks_on _ _ (λ _. failed _ faults.Setup) (λ _. Opens begun))
+
+  bcast_step : (number : ℕ) (datagram : List ℕ) → IsLineOctets datagram → Is (events.Bcast number datagram) (bcast ciphers w number datagram)
+  unfolding bcast
+  bcast_step number datagram are = once _ _ (at_node _ number _ (λ x there.
+      let is = λ (m : Memory) (e : x.memory ≡ Some m). speaks.broadcasts number x m datagram are there e in
+      let n = untold U x (Err broadcasts.Halted) (with_beside (beside_at w number) (λ y. broadcast in_memory y datagram)) is in
+      let v : World = told ciphers (ran w) number (reaches x (beside_at w number) (Err broadcasts.Halted) (λ y. broadcast in_memory y datagram)) in
+      Anew _ (broadcasts_by ciphers w number x datagram).0 (broadcasts_by ciphers w number x datagram).1
+      (Turns (ran w) v _ (Carries (ran w) number x _ (Err broadcasts.Halted) (with_beside (beside_at w number) (λ y. broadcast in_memory y datagram)) there is) (Besides v v.checks_on (broadcasts_by ciphers w number x datagram).0.beside))
+      (record { forged = refl; up = refl; sent = refl; issued = refl; taken = refl; done = refl; made = n.0; opened = n.1 })))
+
+  asks_step : (from to : ℕ) (x : Node) → node_at w from ≡ Some x → (target : Option ℕ) → Is (events.Path from to) (Ok (asks_by ciphers w from x target))
+  asks_step from to x there None = rests _ _ (silent said.NoAddress)
+  asks_step from to x there (Some target) =
+      let is = λ (m : Memory) (e : x.memory ≡ Some m). speaks.asks from x m target there e in
+      let n = untold U x (Err asks.Halted) (with_beside (beside_at w from) (λ y. ask_path in_memory y target)) is in
+      let v : World = told ciphers (ran w) from (reaches x (beside_at w from) (Err asks.Halted) (λ y. ask_path in_memory y target)) in
+      Anew _ (asks_by ciphers w from x (Some target)).0 (asks_by ciphers w from x (Some target)).1
+      (Turns (ran w) v _ (Carries (ran w) from x _ (Err asks.Halted) (with_beside (beside_at w from) (λ y. ask_path in_memory y target)) there is) (Besides v v.checks_on (asks_by ciphers w from x (Some target)).0.beside))
+      (record { forged = refl; up = refl; sent = refl; issued = refl; taken = refl; done = refl; made = n.0; opened = n.1 })
+
+  path_step : (from to : ℕ) → Is (events.Path from to) (path ciphers w from to)
+  unfolding path
+  path_step from to = once _ _ (at_node _ from _ (λ x there. at_node _ to _ (λ y other. asks_step from to x there (node_address y))))
+
+  discovered_step : {A : Type 0} (event : Event) (number : ℕ) (x : Node) → node_at w number ≡ Some x → (word : A → Answer) (noticed : A → Option Noticed) (d : Discovering A) → ((frame : Discovery) → d.sent ≡ Some frame → D frame) → Is event (Ok (has_discovered w number word noticed d))
+  discovered_step event number x there word noticed d known = by_sent d.sent known (has_discovered w number word noticed d).0.beside
+      (record (trace_of (record (happened w (word d.answer)) { flights = length (discovery_flights number d.sent) })) { further = record nothing_further { noticed = noticed d.answer } })
+      (record { forged = refl; up = refl; sent = refl; issued = refl; taken = refl; done = refl; made = refl; opened = refl })
+    where
+      by_sent : (o : Option Discovery) → ((frame : Discovery) → o ≡ Some frame → D frame) → (bs : List Beside) (t : Trace) → IsSilent t → Is event (Ok (record (ran w) { flights = w.flights ++ discovery_flights number o; beside = bs }, t))
+      by_sent None known bs t s = subst (λ fs. Is event (Ok (record (ran w) { flights = fs; beside = bs }, t))) (sym (append-nil w.flights)) (Anew event (record (ran w) { beside = bs }) t (Besides (ran w) w.checks_on bs) s)
+      by_sent (Some frame) known bs t s = Anew event (record (ran w) { flights = w.flights ++ discovery_flights number (Some frame); beside = bs }) t (Turns (ran w) (flown_world number frame (ran w)) _ (Flies (ran w) number x frame there (known frame refl)) (Besides (flown_world number frame (ran w)) w.checks_on bs)) s
+
+  request_known : (m : Memory) (frame : Discovery) (scan : Scanned) → (begin_scan m scan).sent ≡ Some frame → D frame
+  request_known m frame scan e = by_joined (meters.is_joined m) scan e
+    where
+      by_joined : (b : Bool) (scan : Scanned) → (if b then stays_scan {A = Result (Unit {0}) ScanRefusal} scan (Err scan_faults.AlreadyJoined) else record { answer = Ok (tt {0}); scan = begun; sent = Some (requests.Request 0) }).sent ≡ Some frame → D frame
+      by_joined true scan is = absurd (cc (is))
+      by_joined false scan is = subst D (same_Some _ _ is) speaks.scans
+
+  scans_step : (number : ℕ) (x : Node) → node_at w number ≡ Some x → (o : Option Memory) → Is (events.Scan number) (Ok (scans_by w number o))
+  scans_step number x there None = rests _ _ (silent said.Halted)
+  scans_step number x there (Some m) = discovered_step _ number x there scan_word (scanning number) (begin_scan m (beside_at w number).scan) (λ frame e. request_known m frame (beside_at w number).scan e)
+
+  scan_step : (number : ℕ) → Is (events.Scan number) (scan w number)
+  unfolding scan
+  scan_step number = once _ _ (at_meter _ number _ (λ ne x there. scans_step number x there x.memory))
+
+  chooses_step : (number k : ℕ) (x : Node) → number ≢ 0 → node_at w number ≡ Some x → (psk : Option Key) → psk_of x ≡ psk → Is (events.Choose number k) (Ok (chooses_by ciphers w number x k psk))
+  chooses_step number k x ne there None e = rests _ _ (silent said.NoBeacon)
+  chooses_step number k x ne there (Some psk) e = Chooses number k x psk ne there e
+
+  choose_step : (number k : ℕ) → Is (events.Choose number k) (choose ciphers w number k)
+  unfolding choose
+  choose_step number k = once _ _ (at_meter _ number _ (λ ne x there. chooses_step number k x ne there (psk_of x) refl))
+
+  ticks_step : (seconds : ℕ) → Is (events.Tick seconds) (ticks w seconds)
+  unfolding ticks tick
+  ticks_step seconds = by_start (has_begun w) (tick_good ciphers fits w ok flown_are seconds)
+    where
+      taken : (r : World × Trace) → StepGood w (Ok r) → WorldOk r.0
+      taken r (Taken q good few told) = good
+
+      by_start : (b : Bool) → StepGood w (if b then Ok (record (ran w) { clock = w.clock + seconds; nodes = map (ticked (w.clock + seconds)) w.nodes }, trace_of (happened w said.Ticked)) else Err faults.Setup) → Is (events.Tick seconds) (after_ok (λ r. (record r.0 { beside = map (tick_beside (w.clock + seconds)) w.beside }, r.1)) (if b then Ok (record (ran w) { clock = w.clock + seconds; nodes = map (ticked (w.clock + seconds)) w.nodes }, trace_of (happened w said.Ticked)) else Err faults.Setup))
+      by_start false g = failed _ faults.Setup
+      by_start true g =
+          let r : World × Trace = (record (ran w) { clock = w.clock + seconds; nodes = map (ticked (w.clock + seconds)) w.nodes }, trace_of (happened w said.Ticked)) in
+          After _ r (record r.0 { beside = map (tick_beside (w.clock + seconds)) w.beside }) r.1 (Ticks seconds) (taken r g) refl (Besides r.0 w.checks_on (map (tick_beside (w.clock + seconds)) w.beside)) (told_same r.1 r.1 refl refl refl refl refl refl refl refl)
+
+  restarts_step : (number : ℕ) (x : Node) → node_at w number ≡ Some x → (o : Result Beside BadStore) → restarted x.store.records ≡ o → Is (events.Restart number) (Ok (restarts_by ciphers w number x o))
+  unfolding told
+  restarts_step number x there (Err bad) e = absurd (restarts_read ciphers w logs number x there bad e)
+  restarts_step number x there (Ok b) e =
+      let r : World × Trace = acted ciphers w number (restarts x) in
+      After _ r (restarts_by ciphers w number x (Ok b)).0 r.1 (Restarts number x there) (told_ok ciphers fits (ran w) number x (restarts x) (steps_ran_ok ciphers fits w ok flown_are) there (restarts_ok x (at_place NodeOk w.nodes number x there ok.nodes)) (λ e. absurd (true_false e))) refl (Besides r.0 r.0.checks_on (restarts_by ciphers w number x (Ok b)).0.beside) (told_same r.1 r.1 refl refl refl refl refl refl refl refl)
+
+  restart_step : (number : ℕ) → Is (events.Restart number) (restarts_further ciphers w number)
+  unfolding restarts_further
+  restart_step number = once _ _ (at_node _ number _ (λ x there. restarts_step number x there (restarted x.store.records) refl))
+
+  -- # Octets that come
+
+  module _ (event : Event) (number : ℕ) (x : Node) (octets : List ℕ) (cost : ℕ) (got : Accepted) (there : node_at w number ≡ Some x) (says : IsEvent event) (comes_so : Comes w event number octets) (low : cost ≤ 255) (is : (accepting ciphers x octets).answer ≡ Ok got) (good : WorldOk (heard ciphers w number (accepting ciphers x octets).node octets got cost).0) where
+    abbrev y : Node
+    y = (accepting ciphers x octets).node
+
+    abbrev d : NodeStep Reception
+    d = hears ciphers y got cost (note_by w octets got.path) w.clock
+
+    abbrev r : World × Trace
+    r = heard ciphers w number y octets got cost
+
+    before : IsStep ciphers w event (Ok r)
+    before = Hears event number x octets cost got there says comes_so low is
+
+    now_there : node_at r.0 number ≡ Some d.node
+    unfolding told
+    now_there = slice_get-set w.nodes number d.node (place_within w.nodes number x there)
+
+    goes_on : r.0.running ≡ true
+    unfolding told
+    goes_on = refl
+
+    commanded_step : (c : NeighbourCommand) → command_of got ≡ Some c → Is event (Ok (commanded ciphers number d.node c r))
+    unfolding told
+    commanded_step c e =
+        let v : World = told ciphers r.0 number (reaches d.node (beside_at r.0 number) (Err (reach_drops.Known drops.Store)) (λ z. hear_neighbours in_memory z c)) in
+        After event r (commanded ciphers number d.node c r).0 (commanded ciphers number d.node c r).1 before good goes_on
+        (Turns r.0 v _ (Carries r.0 number d.node _ (Err (reach_drops.Known drops.Store)) (with_beside (beside_at r.0 number) (λ z. hear_neighbours in_memory z c)) now_there (λ m here. speaks.commands event number x octets got cost c m says comes_so there is e here))
+        (Besides v v.checks_on (commanded ciphers number d.node c r).0.beside))
+        (told_same r.1 (commanded ciphers number d.node c r).1 refl refl refl refl refl refl refl refl)
+
+    abbrev with_it : World × Trace
+    with_it = with_check w number (reply_among d.frames) r
+
+    with_moves : Moves U D ciphers r.0 with_it.0
+    with_moves = Besides r.0 r.0.checks_on with_it.0.beside
+
+    acknowledged_step : (reply : Reply) → Is event (Ok (acknowledged ciphers w number (acknowledging d.node reply) with_it))
+    acknowledged_step reply = by_memory (is_some a.node.memory)
+      where
+        a : NodeStep (Result (Unit {0}) LocalRefusal)
+        a = acknowledging d.node reply
+
+        v : World
+        v = told ciphers with_it.0 number a
+
+        moves : Moves U D ciphers r.0 v
+        moves = Turns r.0 with_it.0 v with_moves (Carries with_it.0 number d.node _ (Err locals.Store) (λ m. acknowledges in_memory reply.to reply.number reply.origin m) now_there (λ m here. speaks.acknowledges event number x octets got cost reply m says comes_so there is here))
+
+        by_memory : (t : Bool) → Is event (Ok (if t then adds_frames v with_it.1 a else sends_nothing w (v, with_it.1)))
+        by_memory true = After event r v (adds_frames v with_it.1 a).1 before good goes_on moves (told_same r.1 (adds_frames v with_it.1 a).1 refl refl refl refl refl refl refl refl)
+        by_memory false = Unsends event r v with_it.1 before good goes_on moves (told_same r.1 with_it.1 refl refl refl refl refl refl refl refl)
+
+    checked_step : Is event (Ok (checked ciphers w number got d r))
+    checked_step = by_due (due got.path (message_of got) d.answer.answer)
+      where
+        by_due : (o : Option Reply) → Is event (Ok (acknowledged_if ciphers w number d.node o with_it))
+        by_due None = After event r with_it.0 with_it.1 before good goes_on with_moves (told_same r.1 with_it.1 refl refl refl refl refl refl refl refl)
+        by_due (Some reply) = acknowledged_step reply
+
+    heard_by_step : (o : Option NeighbourCommand) → command_of got ≡ o → Is event (Ok (heard_by ciphers w number y octets got cost o))
+    heard_by_step None e = by_checks w.checks_on
+      where
+        by_checks : (b : Bool) → Is event (Ok (if b then checked ciphers w number got d r else r))
+        by_checks true = checked_step
+        by_checks false = Known event (Ok r) before
+    heard_by_step (Some c) e = commanded_step c e
+
+    further_step : Is event (Ok (heard_further ciphers w number y octets got cost))
+    further_step = by_dropped (is_dropped w number got)
+      where
+        by_dropped : (b : Bool) → Is event (Ok (if b then unbelieved ciphers w number y octets got else heard_by ciphers w number y octets got cost (command_of got)))
+        by_dropped true = Unbelieves event number x octets got there says comes_so is
+        by_dropped false = heard_by_step (command_of got) refl
+
+  discovers_step : (event : Event) (number : ℕ) (x : Node) → node_at w number ≡ Some x → (octets : List ℕ) (link : ℕ) (o : Option Memory) → x.memory ≡ o → Is event (Ok (discovers_by w number x octets link o))
+  discovers_step event number x there octets link None here = rests _ _ (silent said.Halted)
+  discovers_step event number x there octets link (Some m) here = discovered_step event number x there discovery_word (beacon_taken number (discovery_in octets) link) (hear_discovery x.role m.station (beside_at w number).scan octets link) (λ frame e. speaks.beacons number x m octets link frame there here e)
+
+  comes_step : (event : Event) (number : ℕ) (x : Node) (octets : List ℕ) (cost : ℕ) → node_at w number ≡ Some x → IsEvent event → Comes w event number octets → cost ≤ 255 → Is event (Ok (comes ciphers w number x octets cost))
+  unfolding comes acts
+  comes_step event number x octets cost there says comes_so low = by_kind (is_discovery octets)
+    where
+      heard_world : (got : Accepted) → (accepting ciphers x octets).answer ≡ Ok got → WorldOk (heard ciphers w number (accepting ciphers x octets).node octets got cost).0
+      heard_world got e =
+          let are : AreOctets octets = came_octets ciphers fits w ok flown_are event number octets says comes_so in
+          let plan : Memory → Plan Memory (Result Accepted FrameRefusal) = λ m. of_station m (accept m.station x.eui (arrived ciphers octets)) in
+          let did = acts_ok x (Err frames.Halted) plan (at_place NodeOk w.nodes number x there ok.nodes) (λ m here kept sized. accept_ok ciphers fits octets are x.role m x.eui sized) in
+          let a = acts_answered x frames.Halted frames.Store plan (λ m. accept_failed ciphers fits octets are m.station _ (accept_is m.station x.eui (arrived ciphers octets))) got e in
+          let routes = accepted_routes ciphers fits octets are a.memory.station (ring_readable x a.memory (at_place NodeOk w.nodes number x there ok.nodes) a.there) _ got (accept_is a.memory.station x.eui (arrived ciphers octets)) a.is in
+          heard_ok ciphers fits w ok flown_are logs number x (accepting ciphers x octets).node there (accepting ciphers x octets) refl did (λ m here. acts_down x (Err frames.Halted) plan m here) octets got cost routes
+
+      by_answer : (o : Result Accepted FrameRefusal) → (accepting ciphers x octets).answer ≡ o → Is event (Ok (accepted_further ciphers w number octets cost (accepting ciphers x octets)))
+      by_answer (Err reason) e = rw e (Known event _ (TurnsDown event number x octets reason (accepting ciphers x octets) there says comes_so refl e))
+      by_answer (Ok got) e = rw e (further_step event number x octets cost got there says comes_so low e (heard_world got e))
+
+      by_kind : (b : Bool) → Is event (Ok (if b then discovers_by w number x octets cost x.memory else accepted_further ciphers w number octets cost (accepting ciphers x octets)))
+      by_kind true = discovers_step event number x there octets cost x.memory refl
+      by_kind false = by_answer (accepting ciphers x octets).answer refl
+
+  delivers_step : (flight number cost : ℕ) → IsEvent (events.Deliver flight number cost) → Is (events.Deliver flight number cost) (delivers ciphers w flight number cost)
+  unfolding delivers
+  delivers_step flight number cost says = once _ _ (at_node _ number _ (λ x hx. at_flight _ flight _ (λ f e. comes_step _ number x f.octets cost hx says (OfFlight flight number cost f e) says.2.1)))
+
+  injects_step : (number cost : ℕ) (octets : List ℕ) → IsEvent (events.Inject number cost octets) → Is (events.Inject number cost octets) (injects ciphers w number cost octets)
+  unfolding injects
+  injects_step number cost octets says = once _ _ (at_node _ number _ (λ x hx. comes_step _ number x octets cost hx says (OfScript number cost octets) says.1.1))
+
+  -- every event of a line with further reach is one of them
+  pub line_step_is : (event : Event) → IsEvent event → IsLineStep U D ciphers w event (line_step ciphers w event)
+  line_step_is (events.Coordinator eui key) e = Known (events.Coordinator eui key) _ (step_is ciphers w (events.Coordinator eui key) e)
+  line_step_is (events.Meter eui psk) e = Known (events.Meter eui psk) _ (step_is ciphers w (events.Meter eui psk) e)
+  line_step_is (events.Depot node) e = Known (events.Depot node) _ (step_is ciphers w (events.Depot node) e)
+  line_step_is (events.Near a b cost) e = Known (events.Near a b cost) _ (step_is ciphers w (events.Near a b cost) e)
+  line_step_is (events.Counter node value) e = Known (events.Counter node value) _ (step_is ciphers w (events.Counter node value) e)
+  line_step_is (events.Number node value) e = Known (events.Number node value) _ (step_is ciphers w (events.Number node value) e)
+  line_step_is (events.Allow node) e = Known (events.Allow node) _ (step_is ciphers w (events.Allow node) e)
+  line_step_is (events.Rand node value) e = Known (events.Rand node value) _ (step_is ciphers w (events.Rand node value) e)
+  line_step_is (events.Join node agent) e = Known (events.Join node agent) _ (step_is ciphers w (events.Join node agent) e)
+  line_step_is (events.Leave node) e = Known (events.Leave node) _ (step_is ciphers w (events.Leave node) e)
+  line_step_is (events.Send from to datagram) e = Known (events.Send from to datagram) _ (step_is ciphers w (events.Send from to datagram) e)
+  line_step_is (events.Lose flight) e = Known (events.Lose flight) _ (step_is ciphers w (events.Lose flight) e)
+  line_step_is (events.Break node next) e = Known (events.Break node next) _ (step_is ciphers w (events.Break node next) e)
+  line_step_is (events.Cut node nth keeps_new) e = Known (events.Cut node nth keeps_new) _ (step_is ciphers w (events.Cut node nth keeps_new) e)
+  line_step_is (events.Rekey index key) e = Known (events.Rekey index key) _ (step_is ciphers w (events.Rekey index key) e)
+  line_step_is (events.Challenge node) e = Known (events.Challenge node) _ (step_is ciphers w (events.Challenge node) e)
+  line_step_is (events.Activate node index) e = Known (events.Activate node index) _ (step_is ciphers w (events.Activate node index) e)
+  line_step_is (events.Kick node) e = Known (events.Kick node) _ (step_is ciphers w (events.Kick node) e)
+  line_step_is (events.Show node) e = Known (events.Show node) _ (step_is ciphers w (events.Show node) e)
+  line_step_is (events.Deliver flight node cost) e = delivers_step flight node cost e
+  line_step_is (events.Inject node cost octets) e = injects_step node cost octets e
+  line_step_is (events.Tick seconds) e = ticks_step seconds
+  line_step_is (events.Restart node) e = restart_step node
+  line_step_is events.Checks e = checks_step
+  line_step_is (events.Bcast node datagram) e = bcast_step node datagram e.1
+  line_step_is (events.Scan node) e = scan_step node
+  line_step_is (events.Choose node k) e = choose_step node k
+  line_step_is (events.Path from to) e = path_step from to
+
+-- # What is known of any units
+
+-- the log of a node that has heard something fits its slots
+pub fits_at : (ciphers : Ciphers) (w : World) → LogsKept w → (number : ℕ) (x : Node) (octets : List ℕ) (got : Accepted) (cost : ℕ) (m : Memory) → node_at w number ≡ Some x → (hears ciphers (accepting ciphers x octets).node got cost (note_by w octets got.path) w.clock).node.memory ≡ Some m → LogFits (beside_at w number)
+fits_at ciphers w logs number x octets got cost m there here = by_memory x.memory (from_y (accepting ciphers x octets).node.memory refl (hears_down ciphers (accepting ciphers x octets).node got cost (note_by w octets got.path) w.clock m (accepting ciphers x octets).node.role here)) (logged_at w.beside w.nodes number x logs there)
+  where
+    from_y : (o : Option Memory) → (accepting ciphers x octets).node.memory ≡ o → IsSome o → IsSome x.memory
+    from_y None e s = absurd (cc (s))
+    from_y (Some n) e s = acts_down x (Err frames.Halted) (λ k. of_station k (accept k.station x.eui (arrived ciphers octets))) n e
+
+    by_memory : (o : Option Memory) → IsSome o → LogIn (beside_at w number).log x.store.records o → LogFits (beside_at w number)
+    by_memory None s h = absurd (cc (s))
+    by_memory (Some n) s h = logs_fit (beside_at w number) x.store.records h
+
+any_speaks : (D : Discovery → Type 0) (ciphers : Ciphers) (w : World) → LogsKept w → D (requests.Request 0)
+    → ((number : ℕ) (x : Node) (m : Memory) (octets : List ℕ) (link : ℕ) (frame : Discovery) → node_at w number ≡ Some x → x.memory ≡ Some m → (hear_discovery x.role m.station (beside_at w number).scan octets link).sent ≡ Some frame → D frame)
+    → Speaks AnyUnits D ciphers w
+any_speaks D ciphers w logs request beacons = record {
+  broadcasts = λ number x m datagram are there here. broadcast_is AnyUnits (beside_at w number) datagram m (λ own e none. tt);
+  asks = λ number x m target there here. ask_is AnyUnits (beside_at w number) target m (λ own hop e route. tt);
+  scans = request;
+  beacons = beacons;
+  commands = λ event number x octets got cost c m says comes there is e here. command_is AnyUnits tt (beside_at w number) (fits_at ciphers w logs number x octets got cost m there here) m c (λ own message to next here e o. tt) (λ own d here e none. tt);
+  acknowledges = λ event number x octets got cost reply m says comes there is here. ack_is m reply;
+}
+
+-- # What holds of each flight
+
+module _ (U : List Outgoing → Type 0) (D : Discovery → Type 0) (ciphers : Ciphers) (P : Flight → Type 0) (sent : (number : ℕ) (frame : Sent) → P (flight_by number (spelled ciphers frame))) (lost : (f : Flight) → P f → P (record f { lost = true }))
+    (found : (number : ℕ) (frame : Discovery) → D frame → P (discovery_flight number frame)) where
+  moved_all : (w v : World) → Moves U D ciphers w v → All P w.flights → All P v.flights
+  moved_all w v (Stays u) all = all
+  moved_all w v (Carries u number x A halted does there is) all = told_all ciphers P sent lost u number (acts x halted does) all
+  moved_all w v (Flies u number x frame there known) all = All-append P w.flights (discovery_flight number frame ∷ []) all (All-cons P (discovery_flight number frame) [] (found number frame known) (All-nil P))
+  moved_all w v (Besides u on bs) all = all
+  moved_all w v (Turns u between after first rest) all = moved_all between v rest (moved_all w between first all)
+
+  pub every_line_flight : (w : World) (event : Event) (s : Step) → IsLineStep U D ciphers w event s → All P w.flights → AllOf ciphers P sent lost s
+  every_line_flight w event s (Known e t is) all = every_flight ciphers P sent lost w event s is all
+  every_line_flight w event s (Opens begun) all = all
+  every_line_flight w event s (Anew e v t moves silent) all = moved_all (ran w) v moves all
+  every_line_flight w event s (After e r v t is good runs moves tells) all = moved_all r.0 v moves (every_flight ciphers P sent lost w event (Ok r) is all)
+  every_line_flight w event s (Unsends e r v t is good runs moves tells) all = all
+  every_line_flight w event s (Unbelieves e number x octets got there says comes is) all = told_all ciphers P sent lost (ran w) number (stays (accepting ciphers x octets).node (only said.Blacklisted)) all
+  every_line_flight w event s (Chooses number k x psk ne there e) all = told_all ciphers P sent lost (ran w) number (reaches x (beside_at w number) (Err choices.Halted) (λ y. choose_agent (identity ciphers x psk) y k w.clock)) all
+
+found_spelled : (ciphers : Ciphers) (number : ℕ) (frame : Discovery) → IsDiscovery frame → IsSpelled ciphers (discovery_flight number frame)
+found_spelled ciphers number frame is = record {
+  sealed = λ k e. absurd (cc (e));
+  plain = λ e. (inr (record { frame = frame; spelled = (is, refl); nonce = discovery_nonce frame }), refl);
+}
+
+flights_spelled : (ciphers : Ciphers) (s : Step) → AllOf ciphers (IsSpelled ciphers) (spelled_well ciphers) (lost_spelled ciphers) s → FlightsSpelled ciphers s
+flights_spelled ciphers (Ok r) h = h
+flights_spelled ciphers (Err fault) h = tt
+
+pub line_steps_spell : LineStepsSpell
+line_steps_spell ciphers fits w ok flown logs beacons all event says =
+    flights_spelled ciphers (line_step ciphers w event) (every_line_flight AnyUnits IsDiscovery ciphers (IsSpelled ciphers) (spelled_well ciphers) (lost_spelled ciphers) (found_spelled ciphers) w event (line_step ciphers w event)
+    (line_step_is AnyUnits IsDiscovery ciphers fits w ok flown logs (any_speaks IsDiscovery ciphers w logs (omega arith) beacons) event says) all)
+
+-- # What holds through moves
+
+module _ (U : List Outgoing → Type 0) (D : Discovery → Type 0) (ciphers : Ciphers) (fits : KeepsRanges ciphers) where
+  -- what a node does by a further plan
+  carried_did : {A : Type 0} (v : World) → WorldOk v → (number : ℕ) (x : Node) (halted : A) (does : Memory → Plan Memory A) → node_at v number ≡ Some x → ((m : Memory) → x.memory ≡ Some m → IsFurther U m (does m)) → DidOk x (acts x halted does)
+  carried_did v ok number x halted does there is = acts_ok x halted does (at_place NodeOk v.nodes number x there ok.nodes) (λ m here kept sized. further_ok U x.role m sized (does m) (is m here))
+
+  -- the line, which goes on running
+  pub moved_ok : (v u : World) → Moves U D ciphers v u → WorldOk v → v.running ≡ true → WorldOk u × (u.running ≡ true)
+  unfolding told
+  moved_ok v u (Stays z) ok runs = (ok, runs)
+  moved_ok v u (Carries z number x A halted does there is) ok runs = (told_ok ciphers fits v number x (acts x halted does) ok there (carried_did v ok number x halted does there is) (λ e. absurd (true_false (sym runs ∙ e))), runs)
+  moved_ok v u (Flies z number x frame there known) ok runs = (counts_ok (record (ran v) { flights = v.flights ++ discovery_flight number frame ∷ []; beside = v.beside }) (flown_world number frame v) (flown_ok v ok number x there frame v.beside) refl refl (λ e. absurd (true_false (sym runs ∙ e))), runs)
+  moved_ok v u (Besides z on bs) ok runs = (counts_ok v (record v { checks_on = on; beside = bs }) ok refl refl (λ e. e), runs)
+  moved_ok v u (Turns z between y first rest) ok runs = let m = moved_ok v between first ok runs in moved_ok between u rest m.0 m.1
+
+  -- no mark falls
+  moved_follows : (w v u : World) → Follows w v → Moves U D ciphers v u → WorldOk v → v.running ≡ true → Follows w u
+  moved_follows w v u f (Stays z) ok runs = f
+  moved_follows w v u f (Carries z number x A halted does there is) ok runs = told_follows w v (told ciphers v number (acts x halted does)) number x (acts x halted does) f there (told_nodes ciphers v number (acts x halted does)) (of_did x (acts x halted does) (carried_did v ok number x halted does there is))
+  moved_follows w v u f (Flies z number x frame there known) ok runs = record { at = λ n y here. let l = f.at n y here in record { node = l.node; there = l.there; role = l.role; eui = l.eui; raised = l.raised } }
+  moved_follows w v u f (Besides z on bs) ok runs = record { at = λ n y here. let l = f.at n y here in record { node = l.node; there = l.there; role = l.role; eui = l.eui; raised = l.raised } }
+  moved_follows w v u f (Turns z between y first rest) ok runs = let m = moved_ok v between first ok runs in moved_follows w between u (moved_follows w v between f first ok runs) rest m.0 m.1
+
+  module _ (w : World) (ok : WorldOk w) (flown_are : All FlightFits w.flights) where
+    ran_good : WorldOk (ran w)
+    ran_good = steps_ran_ok ciphers fits w ok flown_are
+
+    -- a node that accepted octets and did nothing more
+    accepted_did : (event : Event) (number : ℕ) (x : Node) (octets : List ℕ) → node_at w number ≡ Some x → IsEvent event → Comes w event number octets → DidOk x (accepting ciphers x octets)
+    accepted_did event number x octets there says comes_so =
+        let are : AreOctets octets = came_octets ciphers fits w ok flown_are event number octets says comes_so in
+        acts_ok x (Err frames.Halted) (λ m. of_station m (accept m.station x.eui (arrived ciphers octets))) (at_place NodeOk w.nodes number x there ok.nodes) (λ m here kept sized. accept_ok ciphers fits octets are x.role m x.eui sized)
+
+    pub line_follows : (event : Event) (s : Step) → IsLineStep U D ciphers w event s → FollowsIn ciphers fits w ok flown_are s
+    line_follows event s (Known e t is) = follows ciphers fits w ok flown_are event s is
+    line_follows event s (Opens begun) = same_follows w _ refl
+    line_follows event s (Anew e v t moves silent) = moved_follows w (ran w) v (same_follows w (ran w) refl) moves ran_good refl
+    line_follows event s (After e r v t is good runs moves tells) = moved_follows w r.0 v (follows ciphers fits w ok flown_are event (Ok r) is) moves good runs
+    line_follows event s (Unsends e r v t is good runs moves tells) =
+        let f = moved_follows w r.0 v (follows ciphers fits w ok flown_are event (Ok r) is) moves good runs in
+        record { at = λ n y here. let l = f.at n y here in record { node = l.node; there = l.there; role = l.role; eui = l.eui; raised = l.raised } }
+    line_follows event s (Unbelieves e number x octets got there says comes is) =
+        let y : Node = (accepting ciphers x octets).node in
+        let first = accepted_did event number x octets there says comes in
+        let did : DidOk x (stays y (only said.Blacklisted)) = did_on x (accepting ciphers x octets) (stays y (only said.Blacklisted)) first (rests_ok y (only said.Blacklisted) first.node) in
+        told_follows w (ran w) _ number x (stays y (only said.Blacklisted)) (same_follows w (ran w) refl) there (told_nodes ciphers (ran w) number (stays y (only said.Blacklisted))) (of_did x (stays y (only said.Blacklisted)) did)
+    line_follows event s (Chooses number k x psk ne there e) =
+        let d : NodeStep (Result ChosenAgent ChooseRefusal) = reaches x (beside_at w number) (Err choices.Halted) (λ y. choose_agent (identity ciphers x psk) y k w.clock) in
+        let did : DidOk x d = acts_ok x (Err choices.Halted) (with_beside (beside_at w number) (λ y. choose_agent (identity ciphers x psk) y k w.clock)) (at_place NodeOk w.nodes number x there ok.nodes)
+        (λ m here kept sized. choice_ok x.role m sized ciphers fits (identity ciphers x psk) refl (beside_at w number) k w.clock) in
+        told_follows w (ran w) _ number x d (same_follows w (ran w) refl) there (told_nodes ciphers (ran w) number d) (of_did x d did)
+
+rises_in : (ciphers : Ciphers) (fits : KeepsRanges ciphers) (w : World) (ok : WorldOk w) (flown_are : All FlightFits w.flights) (s : Step) → FollowsIn ciphers fits w ok flown_are s → RisesIn w s
+rises_in ciphers fits w ok flown_are (Ok r) f = marks_rise w r.0 f
+rises_in ciphers fits w ok flown_are (Err fault) f = tt
+
+AnyDiscovery : Discovery → Type 0
+AnyDiscovery frame = Unit {0}
+
+pub line_steps_rise : LineStepsRise
+unfolding AnyDiscovery
+line_steps_rise ciphers fits w ok flown_are logs event says =
+    rises_in ciphers fits w ok flown_are (line_step ciphers w event) (line_follows AnyUnits AnyDiscovery ciphers fits w ok flown_are event (line_step ciphers w event)
+    (line_step_is AnyUnits AnyDiscovery ciphers fits w ok flown_are logs (any_speaks AnyDiscovery ciphers w logs tt (λ number x m octets link frame there here e. tt)) event says))
