@@ -1,6 +1,7 @@
-pub mod TableRules
+pub mod LookUps
+pub mod Rounds
+pub mod Same
 pub mod StandardFacts
-pub mod Words
 pub mod Texts
 pub mod CcmTags
 pub mod Streams

@@ -6,5 +6,7 @@ pub mod KeyStream
 pub mod Eax
 pub mod Ccm
 pub mod Laws
-pub mod Columns
+pub mod LookUps
+pub mod Rounds
+pub mod Schedule
 pub mod Resumed

@@ -1,14 +1,15 @@
 //! CCM of RFC 3610 with L = 2 and tags of 4 or 8 octets, which is CCM* of IEEE 802.15.4-2006, annex B, where it encrypts
 //! and authenticates.
-ghost use Rattle.std.specs.Prelude.{◌≡◌, ◌↔◌, ℕ, ◌+◌, ◌-◌, ◌*◌, ◌/◌, ◌==◌, if◌then◌else◌, ◌<◌, ◌≤◌, ◌⊎◌, ◌++◌, length, take, OnOk, OnErr, IsOk};
+ghost use Rattle.std.specs.Prelude.{◌≡◌, ◌↔◌, ℕ, ◌+◌, ◌-◌, ◌*◌, ◌/◌, ◌==◌, if◌then◌else◌, ◌<◌, ◌≤◌, ◌⊎◌, ◌++◌, length, take, IsTrue, OnOk, OnErr, IsOk};
 ghost use Rattle.aes_modes.specs.Cipher.{xor_bytes};
 ghost use Rattle.aes_modes.specs.Chains.{chained_all};
 ghost use Rattle.aes_modes.specs.KeyStream.{masked};
 ghost use Rattle.aes_modes.specs.Ccm.{ccm_first_block, ccm_header_blocks, ccm_counter_block, ccm_stream_block, ccm_mac, ccm_text, ccm_tag};
 
 use crate::BadTag;
-use crate::blocks::{mask_block, xor_blocks};
+use crate::blocks::{mask_block, padded_block, xor_blocks};
 use crate::cipher::Aes;
+use crate::compare::is_same;
 use crate::mac::absorb;
 
 /// The counter block A_i (RFC 3610, section 2.3).
@@ -134,6 +135,17 @@ pub fn ccm_seal(aes: &Aes, nonce: &[u8; 13], header: &[u8], text: &mut [u8], tag
     mask(aes, nonce, text);
 }
 
+/// Whether `tag` is the front of `whole`, told as [`is_same`] tells it.
+#[inline(always)]
+fn is_tag(whole: &[u8; 16], tag: &[u8]) -> bool
+    requires { length tag.now ≤ 16 }
+    ensures { IsTrue result ↔ (tag.now ≡ take (length tag.now) whole.now) }
+{
+    let front = padded_block(&whole[..tag.len()], 0);
+    let given = padded_block(tag, 0);
+    is_same(&front, &given)
+}
+
 /// Decrypts `text` in place.
 ///
 /// The lengths are those of [`ccm_seal`]. [`BadTag`] comes exactly where `tag` is not the tag of the nonce, the header and
@@ -155,7 +167,7 @@ pub fn ccm_open(
 {
     mask(aes, nonce, text);
     let whole = whole_tag(aes, nonce, header, text, tag.len());
-    if &whole[..tag.len()] != tag {
+    if !is_tag(&whole, tag) {
         mask(aes, nonce, text);
         return Err(BadTag);
     }

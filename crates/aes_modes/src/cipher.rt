@@ -1,20 +1,21 @@
-//! The cipher of FIPS 197 with 128-bit keys. A state and a round key are four words, a column each, high octet first.
-ghost use Rattle.std.specs.Prelude.{◌≡◌, ℕ, ◌+◌, ◌<◌, ◌≤◌, List, [], ◌∷◌, ◌++◌, bit_xor, slice_index, slice_index_or};
-ghost use Rattle.std.specs.Int.{w32, byte_at, to_be_bytes};
-ghost use Rattle.aes_modes.specs.Field.{s_box};
-ghost use Rattle.aes_modes.specs.Cipher.{mixed_column, xor_bytes, round, last_round, round_constant, next_round_key, encrypted};
-ghost use Rattle.aes_modes.specs.Columns.{bytes_of, first_key, IsSchedule};
+//! The cipher of FIPS 197 with 128-bit keys, a state and a round key in a register each.
+ghost use Rattle.std.specs.Prelude.{◌≡◌, ℕ, ◌+◌, ◌<◌, List, map};
+ghost use Rattle.aes_modes.specs.Cipher.{xor_bytes, round, last_round, next_round_key, encrypted};
+ghost use Rattle.aes_modes.specs.LookUps.{unturned, unhidden};
+ghost use Rattle.aes_modes.specs.Schedule.{first_key, IsSchedule};
+ghost use Rattle.aes_modes.specs.Rounds.{mixed};
 
-use crate::tables::{constant, row0, row1, row2, row3, sub_byte};
+use crate::look_ups::{add, hide, look, once_and_twice, sub_turned, turn};
 use plc_base::Key;
 use std::marker::Model;
+use std::simd::Simd;
 
 /// AES-128 under one key, with its round keys (FIPS 197, section 5).
 ///
-/// A contract sees the 16 octets of the key. It takes 176 octets, and making one costs less than encrypting a block.
+/// A contract sees the 16 octets of the key. It takes 176 octets, and making one costs about what encrypting a block does.
 #[derive(Drop)]
 pub struct Aes {
-    keys: [[u32; 4]; 11],
+    keys: [[u8; 16]; 11],
 }
 
 impl Model for Aes {
@@ -22,7 +23,7 @@ impl Model for Aes {
 
     ghost view = { λ a. first_key a.keys };
 
-    ghost invariant = { λ a. IsSchedule (first_key a.keys) a.keys 10 };
+    ghost invariant = { λ a. IsSchedule (first_key a.keys) a.keys };
 }
 
 impl Aes {
@@ -30,12 +31,30 @@ impl Aes {
     pub fn new(key: &Key) -> Aes
         ensures { result ≡ key.now.0 }
     {
-        let first = load(&key.0);
-        let mut keys = [first; 11];
-        'expand: for i in 0..10 {
-            let next = next_key(keys[i], constant(i));
-            keys[i + 1] = next;
-        }
+        let k0 = Simd::from_array(key.0);
+        let (k1, _) = step(k0, 0x01);
+        let (k2, h1) = step(k1, 0x02);
+        let (k3, h2) = step(k2, 0x04);
+        let (k4, h3) = step(k3, 0x08);
+        let (k5, h4) = step(k4, 0x10);
+        let (k6, h5) = step(k5, 0x20);
+        let (k7, h6) = step(k6, 0x40);
+        let (k8, h7) = step(k7, 0x80);
+        let (k9, h8) = step(k8, 0x1b);
+        let (k10, h9) = step(k9, 0x36);
+        let keys = [
+            key.0,
+            h1.to_array(),
+            h2.to_array(),
+            h3.to_array(),
+            h4.to_array(),
+            h5.to_array(),
+            h6.to_array(),
+            h7.to_array(),
+            h8.to_array(),
+            h9.to_array(),
+            k10.to_array(),
+        ];
         Aes { keys }
     }
 
@@ -44,146 +63,103 @@ impl Aes {
         ensures { result ≡ encrypted self.now block.now }
     {
         let k = &self.keys;
-        let s = add_round_key(load(block), &k[0]);
-        let s = round(s, &k[1]);
-        let s = round(s, &k[2]);
-        let s = round(s, &k[3]);
-        let s = round(s, &k[4]);
-        let s = round(s, &k[5]);
-        let s = round(s, &k[6]);
-        let s = round(s, &k[7]);
-        let s = round(s, &k[8]);
-        let s = round(s, &k[9]);
-        store(last_round(s, &k[10]))
+        let s = add_round_key(Simd::from_array(*block), Simd::from_array(k[0]));
+        let s = turn(s);
+        let s = round(s, Simd::from_array(k[1]));
+        let s = round(s, Simd::from_array(k[2]));
+        let s = round(s, Simd::from_array(k[3]));
+        let s = round(s, Simd::from_array(k[4]));
+        let s = round(s, Simd::from_array(k[5]));
+        let s = round(s, Simd::from_array(k[6]));
+        let s = round(s, Simd::from_array(k[7]));
+        let s = round(s, Simd::from_array(k[8]));
+        let s = round(s, Simd::from_array(k[9]));
+        let s = last_round(s, Simd::from_array(k[10]));
+        s.to_array()
     }
-}
-
-/// The columns of a block.
-#[inline(always)]
-fn load(b: &[u8; 16]) -> [u32; 4]
-    ensures { bytes_of result ≡ b.now }
-{
-    [
-        u32::from_be_bytes([b[0], b[1], b[2], b[3]]),
-        u32::from_be_bytes([b[4], b[5], b[6], b[7]]),
-        u32::from_be_bytes([b[8], b[9], b[10], b[11]]),
-        u32::from_be_bytes([b[12], b[13], b[14], b[15]]),
-    ]
-}
-
-/// The block of four columns.
-#[inline(always)]
-fn store(s: [u32; 4]) -> [u8; 16]
-    ensures { result ≡ bytes_of s }
-{
-    let [a0, a1, a2, a3] = s[0].to_be_bytes();
-    let [b0, b1, b2, b3] = s[1].to_be_bytes();
-    let [c0, c1, c2, c3] = s[2].to_be_bytes();
-    let [d0, d1, d2, d3] = s[3].to_be_bytes();
-    [
-        a0, a1, a2, a3, b0, b1, b2, b3, c0, c1, c2, c3, d0, d1, d2, d3,
-    ]
 }
 
 /// AddRoundKey (section 5.1.4).
 #[inline(always)]
-fn add_round_key(s: [u32; 4], k: &[u32; 4]) -> [u32; 4]
-    ensures { bytes_of result ≡ xor_bytes (bytes_of s) (bytes_of k.now) }
+fn add_round_key(s: Simd<u8, 16>, k: Simd<u8, 16>) -> Simd<u8, 16>
+    ensures { result ≡ xor_bytes s k }
 {
-    [s[0] ^ k[0], s[1] ^ k[1], s[2] ^ k[2], s[3] ^ k[3]]
+    add(s, k)
 }
 
-/// SubBytes of four octets.
+/// ShiftRows and MixColumns (sections 5.1.2 and 5.1.3) of a state, from its octets and twice those.
 #[inline(always)]
-fn sub_word(a: u8, b: u8, c: u8, d: u8) -> u32
-    ensures { to_be_bytes w32 result ≡ s_box a ∷ s_box b ∷ s_box c ∷ s_box d ∷ [] }
+fn mix(once: Simd<u8, 16>, twice: Simd<u8, 16>) -> Simd<u8, 16>
+    ensures { result ≡ mixed once twice }
 {
-    u32::from_be_bytes([sub_byte(a), sub_byte(b), sub_byte(c), sub_byte(d)])
+    let thrice = add(twice, once);
+    let own = look(twice, Simd::from_array(OWN));
+    let next = look(thrice, Simd::from_array(NEXT));
+    let third = look(once, Simd::from_array(THIRD));
+    let last = look(once, Simd::from_array(LAST));
+    let front = add(own, next);
+    let back = add(third, last);
+    add(front, back)
 }
 
-/// A column of a round, from the columns that ShiftRows takes its four octets from, and the word of the round key.
+/// A round (section 5.1) of a turned state, with a hidden round key.
 #[inline(always)]
-fn column(a: u32, b: u32, c: u32, d: u32, k: u32) -> u32
-    ensures { to_be_bytes w32 result ≡ xor_bytes
-        (mixed_column (s_box (byte_at 3 a)) (s_box (byte_at 2 b)) (s_box (byte_at 1 c)) (s_box (byte_at 0 d)))
-        (to_be_bytes w32 k) }
+fn round(s: Simd<u8, 16>, k: Simd<u8, 16>) -> Simd<u8, 16>
+    ensures { map unturned result ≡ round (map unhidden k) (map unturned s) }
 {
-    let [a0, _, _, _] = a.to_be_bytes();
-    let [_, b1, _, _] = b.to_be_bytes();
-    let [_, _, c2, _] = c.to_be_bytes();
-    let [_, _, _, d3] = d.to_be_bytes();
-    // Where the tables are read in this order the compiler keeps most words in registers.
-    let second = row1(b1);
-    let last = row3(d3);
-    let third = row2(c2);
-    let first = row0(a0);
-    first ^ second ^ third ^ last ^ k
+    let (once, twice) = once_and_twice(s);
+    add(mix(once, twice), k)
 }
 
-/// The same in the last round, which has no MixColumns.
+/// The last round (section 5.1) of a turned state.
 #[inline(always)]
-fn last_column(a: u32, b: u32, c: u32, d: u32, k: u32) -> u32
-    ensures { to_be_bytes w32 result ≡ xor_bytes
-        (s_box (byte_at 3 a) ∷ s_box (byte_at 2 b) ∷ s_box (byte_at 1 c) ∷ s_box (byte_at 0 d) ∷ [])
-        (to_be_bytes w32 k) }
+fn last_round(s: Simd<u8, 16>, k: Simd<u8, 16>) -> Simd<u8, 16>
+    ensures { result ≡ last_round k (map unturned s) }
 {
-    let [a0, _, _, _] = a.to_be_bytes();
-    let [_, b1, _, _] = b.to_be_bytes();
-    let [_, _, c2, _] = c.to_be_bytes();
-    let [_, _, _, d3] = d.to_be_bytes();
-    sub_word(a0, b1, c2, d3) ^ k
+    let once = sub_turned(s);
+    add_round_key(look(once, Simd::from_array(OWN)), k)
 }
 
-/// A round (section 5.1).
+/// The round key after `k`, from the constant of its round (section 5.2), and `k` hidden.
 #[inline(always)]
-fn round(s: [u32; 4], k: &[u32; 4]) -> [u32; 4]
-    ensures { bytes_of result ≡ round (bytes_of k.now) (bytes_of s) }
+fn step(k: Simd<u8, 16>, constant: u8) -> (Simd<u8, 16>, Simd<u8, 16>)
+    ensures next { result.0 ≡ next_round_key constant k }
+    ensures hidden { map unhidden result.1 ≡ k }
 {
-    let [a, b, c, d] = s;
-    [
-        column(a, b, c, d, k[0]),
-        column(b, c, d, a, k[1]),
-        column(c, d, a, b, k[2]),
-        column(d, a, b, c, k[3]),
-    ]
+    let turned = turn(k);
+    let boxes = sub_turned(turned);
+    let word = look(boxes, Simd::from_array(TURN));
+    let rcon = Simd::from_array([
+        constant, 0, 0, 0, constant, 0, 0, 0, constant, 0, 0, 0, constant, 0, 0, 0,
+    ]);
+    let temp = add(word, rcon);
+    let one = look(k, Simd::from_array(BY_ONE));
+    let two = look(k, Simd::from_array(BY_TWO));
+    let three = look(k, Simd::from_array(BY_THREE));
+    (add(k, add(one, add(two, add(three, temp)))), hide(turned))
 }
 
-/// The last round (section 5.1).
-#[inline(always)]
-fn last_round(s: [u32; 4], k: &[u32; 4]) -> [u32; 4]
-    ensures { bytes_of result ≡ last_round (bytes_of k.now) (bytes_of s) }
-{
-    let [a, b, c, d] = s;
-    [
-        last_column(a, b, c, d, k[0]),
-        last_column(b, c, d, a, k[1]),
-        last_column(c, d, a, b, k[2]),
-        last_column(d, a, b, c, k[3]),
-    ]
-}
+// Where ShiftRows and MixColumns take the octets of a column from: its own, and those of the rows after each.
+const OWN: [u8; 16] = [0, 5, 10, 15, 4, 9, 14, 3, 8, 13, 2, 7, 12, 1, 6, 11];
 
-/// The last word of a round key on its way into the next: RotWord, SubWord and Rcon (section 5.2).
-fn turned_word(x: u32, constant: u8) -> u32
-    ensures { to_be_bytes w32 result
-        ≡ bit_xor (s_box (byte_at 2 x)) constant ∷ s_box (byte_at 1 x) ∷ s_box (byte_at 0 x) ∷ s_box (byte_at 3 x)
-        ∷ [] }
-{
-    let [a, b, c, d] = x.to_be_bytes();
-    u32::from_be_bytes([
-        sub_byte(b) ^ constant,
-        sub_byte(c),
-        sub_byte(d),
-        sub_byte(a),
-    ])
-}
+const NEXT: [u8; 16] = [5, 10, 15, 0, 9, 14, 3, 4, 13, 2, 7, 8, 1, 6, 11, 12];
 
-/// The round key after `k` (section 5.2).
-fn next_key(k: [u32; 4], constant: u8) -> [u32; 4]
-    ensures { bytes_of result ≡ next_round_key constant (bytes_of k) }
-{
-    let a = k[0] ^ turned_word(k[3], constant);
-    let b = k[1] ^ a;
-    let c = k[2] ^ b;
-    let d = k[3] ^ c;
-    [a, b, c, d]
-}
+const THIRD: [u8; 16] = [10, 15, 0, 5, 14, 3, 4, 9, 2, 7, 8, 13, 6, 11, 12, 1];
+
+const LAST: [u8; 16] = [15, 0, 5, 10, 3, 4, 9, 14, 7, 8, 13, 2, 11, 12, 1, 6];
+
+// RotWord of the last word, for each word.
+const TURN: [u8; 16] = [
+    13, 14, 15, 12, 13, 14, 15, 12, 13, 14, 15, 12, 13, 14, 15, 12,
+];
+
+// The words before, with zeros where there are none.
+const BY_ONE: [u8; 16] = [128, 128, 128, 128, 0, 1, 2, 3, 4, 5, 6, 7, 8, 9, 10, 11];
+
+const BY_TWO: [u8; 16] = [
+    128, 128, 128, 128, 128, 128, 128, 128, 0, 1, 2, 3, 4, 5, 6, 7,
+];
+
+const BY_THREE: [u8; 16] = [
+    128, 128, 128, 128, 128, 128, 128, 128, 128, 128, 128, 128, 0, 1, 2, 3,
+];

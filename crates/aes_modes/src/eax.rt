@@ -8,6 +8,7 @@ ghost use Rattle.aes_modes.specs.Eax.{numbered_mac, eax_stream_block, eax_text, 
 use crate::BadTag;
 use crate::blocks::{mask_block, xor_blocks};
 use crate::cipher::Aes;
+use crate::compare::is_same;
 use crate::mac::{first_subkey, mac_from};
 
 /// OMAC^t: the CMAC of a block with `number`, and `text`. `subkey` is K1.
@@ -78,7 +79,7 @@ pub fn eax_open(
     let start = numbered_mac(aes, subkey, 0, nonce);
     let head = numbered_mac(aes, subkey, 1, header);
     let body = numbered_mac(aes, subkey, 2, text);
-    if xor_blocks(&xor_blocks(&start, &head), &body) != *tag {
+    if !is_same(&xor_blocks(&xor_blocks(&start, &head), &body), tag) {
         return Err(BadTag);
     }
     mask(aes, u128::from_be_bytes(start), text);

@@ -1,7 +1,10 @@
-use Rattle.std.proofs.Common.{◌++◌}
-use Rattle.aes_modes.specs.Cipher.{last_round}
+use Rattle.std.proofs.Common.{ap, ◌∙◌}
+use Rattle.aes_modes.specs.Cipher.{xor_bytes, shift_rows, last_round}
+use Rattle.aes_modes.proofs.Rounds.{shifted}
 use Rattle.aes_modes.proofs.cipher.last_round.Goals as goal
 
 pub returns : goal.returns
 unfolding last_round
-returns c = λ i. c.last_column.ensures i ++ c.last_column-2.ensures i ++ c.last_column-3.ensures i ++ c.last_column-4.ensures i
+returns c =
+    c.add_round_key.ensures
+    ∙ (λ i. xor_bytes ((c.look.ensures ∙ shifted c.sub_turned-once.result ∙ ap shift_rows c.sub_turned-once.ensures) i) c.args.k)

@@ -1,0 +1,14 @@
+//! Whether two blocks are the same, told without a branch on where they differ.
+ghost use Rattle.std.specs.Prelude.{◌≡◌, ◌↔◌, IsTrue};
+
+use std::simd::prelude::*;
+
+/// Whether the blocks are the same. All octets are read and compared, wherever they differ first.
+#[inline(always)]
+pub(crate) fn is_same(a: &[u8; 16], b: &[u8; 16]) -> bool
+    ensures { IsTrue result ↔ (a.now ≡ b.now) }
+{
+    let x: Simd<u8, 16> = Simd::from_array(*a);
+    let y: Simd<u8, 16> = Simd::from_array(*b);
+    x.simd_ne(y).to_bitmask() == 0
+}
