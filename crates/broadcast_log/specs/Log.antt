@@ -1,5 +1,5 @@
 -- What a node keeps of broadcasts: the number of its next one and the marks of their origins; and what the calls do to it.
-use Rattle.std.specs.Prelude.{◌≡◌, ◌⊎◌, ℕ, Bool, true, false, if◌then◌else◌, map, Option, None, Result, Ok, Err, refl}
+use Rattle.std.specs.Prelude.{◌≡◌, ◌⊎◌, ℕ, Bool, true, false, if◌then◌else◌, [], map, Option, None, Result, Ok, Err, refl}
 use Rattle.std.specs.Coded.{Coded, code_by, coded×}
 use Rattle.std.specs.FinMap.{get}
 use Rattle.plc_base.specs.Keeper.{Records, Write}
@@ -16,6 +16,10 @@ use Rattle.broadcast_log.specs.OriginMarks.{Marks, marks, at_rest, AreMarksKept,
 pub record Log : Type 0 where
   pub numbering : Numbering
   pub marks : Marks
+
+-- the log of an empty store
+abbrev pub empty_log : Log
+empty_log = record { numbering = counting_at 0; marks = [] }
 
 -- a log is kept as the pair of its fields
 abbrev pub log_code : Coded Log

@@ -6,7 +6,7 @@ ghost use Rattle.plc_base.specs.SlotTables.{IsTable, IsGapless};
 ghost use Rattle.plc_base.specs.Numberings.{AllBelow};
 ghost use Rattle.plc_base.specs.AdmittedNumbers.{Admitted, AllEarlier};
 ghost use Rattle.broadcast_log.specs.OriginMarks.{marks, IsCovered, mark_of, room_for};
-ghost use Rattle.broadcast_log.specs.Log.{Log, IsKept, IsBad, Reopens, opened, next_result, next_write, next_after, numbered_log, admit_result, admit_write, admit_after, admitted_log, is_stored};
+ghost use Rattle.broadcast_log.specs.Log.{Log, empty_log, IsKept, IsBad, Reopens, opened, next_result, next_write, next_after, numbered_log, admit_result, admit_write, admit_after, admitted_log, is_stored};
 ghost use Rattle.broadcast_log.specs.Runs.{Runs};
 
 use crate::LogFault;
@@ -38,6 +38,16 @@ impl Model for BroadcastLog {
 }
 
 impl BroadcastLog {
+    /// The log of an empty store: the first number is 0, and no origin is held.
+    pub fn new() -> BroadcastLog
+        ensures { result ≡ empty_log }
+    {
+        BroadcastLog {
+            numbering: Numbering::new(),
+            marks: MarkTable::new(),
+        }
+    }
+
     /// The log that the keeper's records give: the next number is the stored limit, 0 where none is stored, and the origins
     /// are those from slot 0300 on, up to the first empty slot, each mark the stored one.
     ///
@@ -151,5 +161,14 @@ impl BroadcastLog {
                 .map_err(|_| LogFault::Store),
             Err(fault) => Err(fault),
         }
+    }
+}
+
+impl Default for BroadcastLog {
+    /// The log of an empty store.
+    fn default() -> BroadcastLog
+        ensures { result ≡ empty_log }
+    {
+        BroadcastLog::new()
     }
 }

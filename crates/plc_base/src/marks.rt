@@ -1,5 +1,5 @@
 //! A table of marks by address: the number that was last admitted of each.
-ghost use Rattle.std.specs.Prelude.{◌≡◌, ◌≤◌, true, is_ok, IfOk, IfErr, OnOk, OnErr};
+ghost use Rattle.std.specs.Prelude.{◌≡◌, ◌≤◌, [], true, is_ok, IfOk, IfErr, OnOk, OnErr};
 ghost use Rattle.plc_base.specs.Keeper.{Stores, OutsideStays, IsOldOrNew};
 ghost use Rattle.plc_base.specs.SlotTables.{IsTable, IsGapless, IsReading, IsBad, Reopens, last_of, opened};
 ghost use Rattle.plc_base.specs.Marks.{layout, slots_of, IsKept, IsCovered, mark_ahead, mark_of, has_room, room_for, keep_write, kept_after};
@@ -90,6 +90,16 @@ impl<const FIRST: u32, const SLOTS: usize> Model for MarkTable<FIRST, SLOTS> {
 }
 
 impl<const FIRST: u32, const SLOTS: usize> MarkTable<FIRST, SLOTS> {
+    /// No address is held. It may be called where `open` may be.
+    pub fn new() -> MarkTable<FIRST, SLOTS>
+        requires { SLOTS ≡ slots_of FIRST SLOTS }
+        ensures { result ≡ [] }
+    {
+        MarkTable {
+            table: SlotTable::new(),
+        }
+    }
+
     /// The marks that the records from the first slot on give, up to the first empty slot. Each mark is the stored one.
     ///
     /// It may be called where `SLOTS` slots for marks follow one another from `FIRST` on: those of the peers are 0100 to 013F

@@ -31,6 +31,13 @@ impl<const SLOT: u32, const STRIDE: u32> Model for Numbering<SLOT, STRIDE> {
 }
 
 impl<const SLOT: u32, const STRIDE: u32> Numbering<SLOT, STRIDE> {
+    /// The numbering before its first number, which is 0: no limit is stored.
+    pub fn new() -> Numbering<SLOT, STRIDE>
+        ensures { result ≡ counting_at 0 }
+    {
+        Numbering { limit: 0, next: 0 }
+    }
+
     /// The numbering that the record at the slot gives: the next number is the stored limit, 0 where none is stored.
     ///
     /// BadStore exactly where the record has another length than 4 octets.

@@ -66,6 +66,17 @@ impl<E: SlotEntry, const N: usize> Model for SlotTable<E, N> {
 }
 
 impl<E: SlotEntry, const N: usize> SlotTable<E, N> {
+    /// No entry.
+    pub fn new() -> SlotTable<E, N>
+        requires { N ≡ E.layout.slots }
+        ensures { result ≡ [] }
+    {
+        SlotTable {
+            entries: ArrayVec::new(),
+            order: SlotOrder::new(),
+        }
+    }
+
     /// The table that the keeper's records give, from the first slot to the first empty one.
     ///
     /// BadStore comes exactly where one of these records has no reading or is a second one of a key.
@@ -79,10 +90,7 @@ impl<E: SlotEntry, const N: usize> SlotTable<E, N> {
         // A table that was stored is opened again, each entry at rest.
         ensures reopened { Reopens E.layout (K.store keeper.now).records result }
     {
-        let mut table = SlotTable {
-            entries: ArrayVec::new(),
-            order: SlotOrder::new(),
-        };
+        let mut table = SlotTable::new();
         match table.read_all(keeper) {
             Ok(()) => Ok(table),
             Err(bad) => Err(bad),
