@@ -12,10 +12,12 @@ use Rattle.line_rules.specs.Events.{AreOctets, IsEui, IsLineOctets, IsNumber, Is
 use Rattle.line_script.specs.declared.kind.EventKind.{EventKind}
 use Rattle.line_script.specs.declared.kind.EventKind.TheVariants as kinds
 use Rattle.line_rules.specs.declared.event.Event.{Event}
+use Rattle.line_rules.specs.declared.event.Event.TheVariants.{Checks}
+use Rattle.std.specs.Str.{bytes_eq}
 use Rattle.line_script.specs.declared.reading.Reading.TheVariants.{Quiet}
-use Rattle.line_script.specs.Kinds.{kind_named}
+use Rattle.line_script.specs.Kinds.{kind_word, kind_named}
 use Rattle.line_script.specs.Words.{◌>>=◌, Field, field, digit_more, number_from, number, number_within, cost, eui, sixteen_octets, hex_octets, keeps_new}
-use Rattle.line_script.specs.Readings.{coordinator_of, meter_of, depot_of, near_of, counter_of, number_of, allow_of, rand_of, join_of, leave_of, send_of, deliver_of, inject_of, lose_of, break_of, tick_of, restart_of, cut_of, rekey_of, challenge_of, activate_of, kick_of, show_of, event_by, event_of, reads, reading}
+use Rattle.line_script.specs.Readings.{coordinator_of, meter_of, depot_of, near_of, counter_of, number_of, allow_of, rand_of, join_of, leave_of, send_of, deliver_of, inject_of, lose_of, break_of, tick_of, restart_of, cut_of, rekey_of, challenge_of, activate_of, kick_of, show_of, bcast_of, scan_of, choose_of, path_of, event_by, event_alone, event_with, event_of, reads, reading}
 use Rattle.line_script.specs.Lines.{IsInRange}
 
 if_then : {A B : Type 0} (P : A → Type 0) (Q : B → Type 0) (o : Option A) (f : A → Option B) → IfSome o P → ((a : A) → P a → IfSome (f a) Q) → IfSome (o >>= f) Q
@@ -225,6 +227,31 @@ show_fits : (octets : List ℕ) → IfSome (show_of octets) IsEvent
 unfolding show_of
 show_fits octets = if_then IsNumber IsEvent (number octets) _ (number_is octets) (λ node is_node. is_node)
 
+bcast_fits : (octets : List ℕ) → IfSome (bcast_of octets) IsEvent
+unfolding bcast_of
+bcast_fits octets =
+    if_then Whatever IsEvent (field octets) _ (whatever (field octets))
+    (λ first u0. if_then IsNumber IsEvent (number first.word) _ (number_is first.word)
+    (λ node is_node. if_then IsLineOctets IsEvent (hex_octets first.rest) _ (hex_is first.rest) (λ datagram is_datagram. (is_node, is_datagram))))
+
+scan_fits : (octets : List ℕ) → IfSome (scan_of octets) IsEvent
+unfolding scan_of
+scan_fits octets = if_then IsNumber IsEvent (number octets) _ (number_is octets) (λ node is_node. is_node)
+
+choose_fits : (octets : List ℕ) → IfSome (choose_of octets) IsEvent
+unfolding choose_of
+choose_fits octets =
+    if_then Whatever IsEvent (field octets) _ (whatever (field octets))
+    (λ first u0. if_then IsNumber IsEvent (number first.word) _ (number_is first.word)
+    (λ node is_node. if_then (IsWithin 1 16) IsEvent (number_within 1 16 first.rest) _ (within_is 1 16 first.rest) (λ k is_k. (is_node, is_k.0, is_k.1))))
+
+path_fits : (octets : List ℕ) → IfSome (path_of octets) IsEvent
+unfolding path_of
+path_fits octets =
+    if_then Whatever IsEvent (field octets) _ (whatever (field octets))
+    (λ first u0. if_then IsNumber IsEvent (number first.word) _ (number_is first.word)
+    (λ from is_from. if_then IsNumber IsEvent (number first.rest) _ (number_is first.rest) (λ to is_to. (is_from, is_to))))
+
 -- # Lines
 
 kind_fits : (kind : EventKind) (rest : List ℕ) → IfSome (event_by kind rest) IsEvent
@@ -252,12 +279,27 @@ kind_fits kinds.Challenge rest = challenge_fits rest
 kind_fits kinds.Activate rest = activate_fits rest
 kind_fits kinds.Kick rest = kick_fits rest
 kind_fits kinds.Show rest = show_fits rest
+kind_fits kinds.Checks rest = tt
+kind_fits kinds.Bcast rest = bcast_fits rest
+kind_fits kinds.Scan rest = scan_fits rest
+kind_fits kinds.Choose rest = choose_fits rest
+kind_fits kinds.Path rest = path_fits rest
+
+alone_by : (b : Bool) → IfSome (if b then Some Checks else None) IsEvent
+alone_by true = tt
+alone_by false = tt
+
+alone_fits : (line : List ℕ) → IfSome (event_alone line) IsEvent
+unfolding event_alone
+alone_fits line = alone_by (bytes_eq line (kind_word kinds.Checks))
+
+with_fits : (line : List ℕ) (o : Option Field) → IfSome (event_with line o) IsEvent
+with_fits line None = alone_fits line
+with_fits line (Some first) = if_then Kinded IsEvent (kind_named first.word) _ (kinded (kind_named first.word)) (λ kind k. kind_fits kind first.rest)
 
 event_fits : (line : List ℕ) → IfSome (event_of line) IsEvent
 unfolding event_of
-event_fits line =
-    if_then Whatever IsEvent (field line) _ (whatever (field line))
-    (λ first u. if_then Kinded IsEvent (kind_named first.word) _ (kinded (kind_named first.word)) (λ kind k. kind_fits kind first.rest))
+event_fits line = with_fits line (field line)
 
 reads_fit : (o : Option Event) → IfSome o IsEvent → IsInRange (reads o)
 reads_fit (Some event) is = is

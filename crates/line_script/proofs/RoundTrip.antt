@@ -7,14 +7,14 @@ use Rattle.plc_base.specs.declared.address.Eui.{Eui}
 use Rattle.plc_base.specs.declared.key.Key.{Key}
 use Rattle.plc_base.specs.declared.key.Rand.{Rand}
 use Rattle.line_rules.specs.declared.event.Event.{Event}
-use Rattle.line_rules.specs.declared.event.Event.TheVariants.{Coordinator, Meter, Depot, Near, Counter, Number, Allow, Rand as GiveRand, Join, Leave, Send, Deliver, Inject, Lose, Break, Tick, Restart, Cut, Rekey, Challenge, Activate, Kick, Show}
+use Rattle.line_rules.specs.declared.event.Event.TheVariants.{Coordinator, Meter, Depot, Near, Counter, Number, Allow, Rand as GiveRand, Join, Leave, Send, Deliver, Inject, Lose, Break, Tick, Restart, Cut, Rekey, Challenge, Activate, Kick, Show, Checks, Bcast, Scan, Choose, Path}
 use Rattle.line_rules.specs.Events.{IsEvent, AreOctets, IsEui, IsLineOctets}
 use Rattle.line_script.specs.declared.kind.EventKind.{EventKind}
 use Rattle.line_script.specs.declared.kind.EventKind.TheVariants as kinds
 use Rattle.line_script.specs.declared.reading.Reading.TheVariants.{Reads}
 use Rattle.line_script.specs.Kinds.{kind_word, kind_named}
-use Rattle.line_script.specs.Words.{number_within, cost, eui, sixteen_octets, hex_octets, keeps_new}
-use Rattle.line_script.specs.Readings.{coordinator_of, meter_of, depot_of, near_of, counter_of, number_of, allow_of, rand_of, join_of, leave_of, send_of, deliver_of, inject_of, lose_of, break_of, tick_of, restart_of, cut_of, rekey_of, challenge_of, activate_of, kick_of, show_of, event_by, event_of, reads, reading}
+use Rattle.line_script.specs.Words.{field, number_within, cost, eui, sixteen_octets, hex_octets, keeps_new}
+use Rattle.line_script.specs.Readings.{coordinator_of, meter_of, depot_of, near_of, counter_of, number_of, allow_of, rand_of, join_of, leave_of, send_of, deliver_of, inject_of, lose_of, break_of, tick_of, restart_of, cut_of, rekey_of, challenge_of, activate_of, kick_of, show_of, bcast_of, scan_of, choose_of, path_of, event_by, event_alone, event_of, reads, reading}
 use Rattle.line_script.specs.Lines.{spaced, kept_word}
 use Rattle.line_script.specs.Laws.{LinesAreReadBack}
 use Rattle.line_script.proofs.WordsRead.{IsWord, field_read, number_read, decimal_word, hex_word, octets_read, digits_long}
@@ -78,6 +78,11 @@ kind_is_word kinds.Challenge = (refl, (refl, (refl, (refl, (refl, (refl, (refl, 
 kind_is_word kinds.Activate = (refl, (refl, (refl, (refl, (refl, (refl, (refl, (refl, tt))))))))
 kind_is_word kinds.Kick = (refl, (refl, (refl, (refl, tt))))
 kind_is_word kinds.Show = (refl, (refl, (refl, (refl, tt))))
+kind_is_word kinds.Checks = (refl, (refl, (refl, (refl, (refl, (refl, tt))))))
+kind_is_word kinds.Bcast = (refl, (refl, (refl, (refl, (refl, tt)))))
+kind_is_word kinds.Scan = (refl, (refl, (refl, (refl, tt))))
+kind_is_word kinds.Choose = (refl, (refl, (refl, (refl, (refl, (refl, tt))))))
+kind_is_word kinds.Path = (refl, (refl, (refl, (refl, tt))))
 
 named_by_word : (kind : EventKind) → kind_named (kind_word kind) ≡ Some kind
 unfolding kind_named
@@ -104,6 +109,11 @@ named_by_word kinds.Challenge = refl
 named_by_word kinds.Activate = refl
 named_by_word kinds.Kick = refl
 named_by_word kinds.Show = refl
+named_by_word kinds.Checks = refl
+named_by_word kinds.Bcast = refl
+named_by_word kinds.Scan = refl
+named_by_word kinds.Choose = refl
+named_by_word kinds.Path = refl
 
 event_read : (kind : EventKind) (rest : List ℕ) → event_of (spaced (kind_word kind) rest) ≡ event_by kind rest
 unfolding event_of
@@ -134,6 +144,11 @@ kind_read kinds.Challenge rest = ap reads (event_read kinds.Challenge rest)
 kind_read kinds.Activate rest = ap reads (event_read kinds.Activate rest)
 kind_read kinds.Kick rest = ap reads (event_read kinds.Kick rest)
 kind_read kinds.Show rest = ap reads (event_read kinds.Show rest)
+kind_read kinds.Checks rest = ap reads (event_read kinds.Checks rest)
+kind_read kinds.Bcast rest = ap reads (event_read kinds.Bcast rest)
+kind_read kinds.Scan rest = ap reads (event_read kinds.Scan rest)
+kind_read kinds.Choose rest = ap reads (event_read kinds.Choose rest)
+kind_read kinds.Path rest = ap reads (event_read kinds.Path rest)
 
 -- # Lines
 
@@ -263,6 +278,27 @@ unfolding show_of
 show_line_read node is =
     rw (number_read node is) refl
 
+bcast_line_read : (node : ℕ) (datagram : List ℕ) → IsEvent (Bcast node datagram) → bcast_of (spaced (decimal node) (encode_lower datagram)) ≡ Some (Bcast node datagram)
+unfolding bcast_of
+bcast_line_read node datagram is =
+    rw (field_read (decimal node) (encode_lower datagram) (decimal_word node is.0), number_read node is.0, hex_read datagram is.1) refl
+
+scan_line_read : (node : ℕ) → IsEvent (Scan node) → scan_of (decimal node) ≡ Some (Scan node)
+unfolding scan_of
+scan_line_read node is =
+    rw (number_read node is) refl
+
+choose_line_read : (node : ℕ) (k : ℕ) → IsEvent (Choose node k) → choose_of (spaced (decimal node) (decimal k)) ≡ Some (Choose node k)
+unfolding choose_of
+choose_line_read node k is =
+    let above_k : 1 ≤ k = is.1 in let below_k : k ≤ 16 = is.2 in
+    rw (field_read (decimal node) (decimal k) (decimal_word node is.0), number_read node is.0, within_read 1 16 k (omega arith) above_k below_k) refl
+
+path_line_read : (from : ℕ) (to : ℕ) → IsEvent (Path from to) → path_of (spaced (decimal from) (decimal to)) ≡ Some (Path from to)
+unfolding path_of
+path_line_read from to is =
+    rw (field_read (decimal from) (decimal to) (decimal_word from is.0), number_read from is.0, number_read to is.1) refl
+
 by_kind_coordinator : (who : Eui) (key : Key) → IsEvent (Coordinator who key) → event_by kinds.Coordinator (spaced (encode_lower who.0) (encode_lower key.0)) ≡ Some (Coordinator who key)
 unfolding event_by
 by_kind_coordinator who key is = coordinator_line_read who key is
@@ -355,6 +391,27 @@ by_kind_show : (node : ℕ) → IsEvent (Show node) → event_by kinds.Show (dec
 unfolding event_by
 by_kind_show node is = show_line_read node is
 
+by_kind_bcast : (node : ℕ) (datagram : List ℕ) → IsEvent (Bcast node datagram) → event_by kinds.Bcast (spaced (decimal node) (encode_lower datagram)) ≡ Some (Bcast node datagram)
+unfolding event_by
+by_kind_bcast node datagram is = bcast_line_read node datagram is
+
+by_kind_scan : (node : ℕ) → IsEvent (Scan node) → event_by kinds.Scan (decimal node) ≡ Some (Scan node)
+unfolding event_by
+by_kind_scan node is = scan_line_read node is
+
+by_kind_choose : (node : ℕ) (k : ℕ) → IsEvent (Choose node k) → event_by kinds.Choose (spaced (decimal node) (decimal k)) ≡ Some (Choose node k)
+unfolding event_by
+by_kind_choose node k is = choose_line_read node k is
+
+by_kind_path : (from : ℕ) (to : ℕ) → IsEvent (Path from to) → event_by kinds.Path (spaced (decimal from) (decimal to)) ≡ Some (Path from to)
+unfolding event_by
+by_kind_path from to is = path_line_read from to is
+
+-- the one line of one word
+alone_read : reading (kind_word kinds.Checks) ≡ Reads Checks
+unfolding reading event_of field event_alone
+alone_read = refl
+
 -- the line of each event that a line can say is read as that event
 pub read_back : LinesAreReadBack
 read_back (Coordinator who key) is = line_read kinds.Coordinator _ _ (by_kind_coordinator who key is)
@@ -380,3 +437,8 @@ read_back (Challenge node) is = line_read kinds.Challenge _ _ (by_kind_challenge
 read_back (Activate node index) is = line_read kinds.Activate _ _ (by_kind_activate node index is)
 read_back (Kick node) is = line_read kinds.Kick _ _ (by_kind_kick node is)
 read_back (Show node) is = line_read kinds.Show _ _ (by_kind_show node is)
+read_back Checks is = alone_read
+read_back (Bcast node datagram) is = line_read kinds.Bcast _ _ (by_kind_bcast node datagram is)
+read_back (Scan node) is = line_read kinds.Scan _ _ (by_kind_scan node is)
+read_back (Choose node k) is = line_read kinds.Choose _ _ (by_kind_choose node k is)
+read_back (Path from to) is = line_read kinds.Path _ _ (by_kind_path from to is)

@@ -1,7 +1,7 @@
 -- The words of answers.
 use Rattle.std.specs.Prelude.{ℕ, List, codes}
 use Rattle.line_rules.specs.declared.event.Answer.{Answer}
-use Rattle.line_rules.specs.declared.event.Answer.TheVariants.{Made, Joined, Set, Allowed, Given, Asked, Left, Sent, Waiting, Lost, Broken, Ticked, Restarted, Drawn, Challenged, Activated, Ordered, Kicked, Shown, Up, Held, Relayed, Answered, Learned, Reported, Carried, Replied, Took, Noted, Declined, Keyed, Done, NoAddress, Halted, NotJoined, BadSize, ToSelf, WaitingFull, MetersFull, RandomsFull, AlreadyJoined, IndexActive, NotIssued, BadStore, Malformed, NotForMe, NoKey, BadTag, Replayed, PeersFull, Store, BadUnit, NoRoute, HopsSpent, NotBetter, CostSpent, RoutesFull, NotAllowed, NoSession, SessionsFull, NoRandom, Form, OtherSession, BadMac, BadChannel, NoSuccess, NotHeld, BufferFull, SeqSpent, CounterSpent}
+use Rattle.line_rules.specs.declared.event.Answer.TheVariants.{Made, Joined, Set, Allowed, Given, Asked, Left, Sent, Waiting, Lost, Broken, Ticked, Restarted, Drawn, Challenged, Activated, Ordered, Kicked, Shown, Up, Held, Relayed, Answered, Learned, Reported, Carried, Replied, Took, Noted, Declined, Keyed, Done, NoAddress, Halted, NotJoined, BadSize, ToSelf, WaitingFull, MetersFull, RandomsFull, AlreadyJoined, IndexActive, NotIssued, BadStore, Malformed, NotForMe, NoKey, BadTag, Replayed, PeersFull, Store, BadUnit, NoRoute, HopsSpent, NotBetter, CostSpent, RoutesFull, NotAllowed, NoSession, SessionsFull, NoRandom, Form, OtherSession, BadMac, BadChannel, NoSuccess, NotHeld, BufferFull, SeqSpent, CounterSpent, Acked, Bup, Scanning, Beacon, Beaconed, Traced, Path, Blacklisted, NotAwaited, Old, OriginsFull, NumberSpent, NotScanning, NoBeacon, Revisited, PathLong}
 
 -- the word of an answer
 abbrev pub answer_word : Answer → List ℕ
@@ -75,6 +75,22 @@ answer_word NotHeld = codes "NotHeld"
 answer_word BufferFull = codes "BufferFull"
 answer_word SeqSpent = codes "SeqSpent"
 answer_word CounterSpent = codes "CounterSpent"
+answer_word Acked = codes "Acked"
+answer_word Bup = codes "Bup"
+answer_word Scanning = codes "Scanning"
+answer_word Beacon = codes "Beacon"
+answer_word Beaconed = codes "Beaconed"
+answer_word Traced = codes "Traced"
+answer_word Path = codes "Path"
+answer_word Blacklisted = codes "Blacklisted"
+answer_word NotAwaited = codes "NotAwaited"
+answer_word Old = codes "Old"
+answer_word OriginsFull = codes "OriginsFull"
+answer_word NumberSpent = codes "NumberSpent"
+answer_word NotScanning = codes "NotScanning"
+answer_word NoBeacon = codes "NoBeacon"
+answer_word Revisited = codes "Revisited"
+answer_word PathLong = codes "PathLong"
 
 -- ok, or no for a refusal
 abbrev pub verdict_word : Answer → List ℕ
@@ -110,4 +126,11 @@ verdict_word Noted = codes "ok"
 verdict_word Declined = codes "ok"
 verdict_word Keyed = codes "ok"
 verdict_word Done = codes "ok"
+verdict_word Acked = codes "ok"
+verdict_word Bup = codes "ok"
+verdict_word Scanning = codes "ok"
+verdict_word Beacon = codes "ok"
+verdict_word Beaconed = codes "ok"
+verdict_word Traced = codes "ok"
+verdict_word Path = codes "ok"
 verdict_word _ = codes "no"

@@ -2,7 +2,7 @@
 use Rattle.std.specs.Prelude.{ℕ, List, [], ◌∷◌, codes, Option, None, Some, if◌then◌else◌}
 use Rattle.std.specs.Str.{bytes_eq}
 use Rattle.line_script.specs.declared.kind.EventKind.{EventKind}
-use Rattle.line_script.specs.declared.kind.EventKind.TheVariants.{Coordinator, Meter, Depot, Near, Counter, Number, Allow, Rand, Join, Leave, Send, Deliver, Inject, Lose, Break, Tick, Restart, Cut, Rekey, Challenge, Activate, Kick, Show}
+use Rattle.line_script.specs.declared.kind.EventKind.TheVariants.{Coordinator, Meter, Depot, Near, Counter, Number, Allow, Rand, Join, Leave, Send, Deliver, Inject, Lose, Break, Tick, Restart, Cut, Rekey, Challenge, Activate, Kick, Show, Checks, Bcast, Scan, Choose, Path}
 use Rattle.line_script.specs.declared.kind.TheConstants.{KINDS}
 
 -- the first word of a kind's lines
@@ -30,6 +30,11 @@ kind_word Challenge = codes "challenge"
 kind_word Activate = codes "activate"
 kind_word Kick = codes "kick"
 kind_word Show = codes "show"
+kind_word Checks = codes "checks"
+kind_word Bcast = codes "bcast"
+kind_word Scan = codes "scan"
+kind_word Choose = codes "choose"
+kind_word Path = codes "path"
 
 -- the first of some kinds that has this word
 abbrev pub kind_among : List ℕ → List EventKind → Option EventKind

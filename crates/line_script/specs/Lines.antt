@@ -3,7 +3,7 @@ use Rattle.std.specs.Prelude.{ℕ, Bool, true, false, List, ◌++◌, codes}
 use Rattle.std.specs.Fmt.{decimal}
 use Rattle.hex.specs.Hex.{encode_lower}
 use Rattle.line_rules.specs.declared.event.Event.{Event}
-use Rattle.line_rules.specs.declared.event.Event.TheVariants.{Coordinator, Meter, Depot, Near, Counter, Number, Allow, Rand as GiveRand, Join, Leave, Send, Deliver, Inject, Lose, Break, Tick, Restart, Cut, Rekey, Challenge, Activate, Kick, Show}
+use Rattle.line_rules.specs.declared.event.Event.TheVariants.{Coordinator, Meter, Depot, Near, Counter, Number, Allow, Rand as GiveRand, Join, Leave, Send, Deliver, Inject, Lose, Break, Tick, Restart, Cut, Rekey, Challenge, Activate, Kick, Show, Checks, Bcast, Scan, Choose, Path}
 use Rattle.line_rules.specs.Events.{IsEvent}
 use Rattle.line_script.specs.declared.kind.EventKind.TheVariants as kinds
 use Rattle.line_script.specs.declared.reading.Reading.{Reading}
@@ -48,6 +48,11 @@ line_of (Challenge node) = spaced (kind_word kinds.Challenge) (decimal node)
 line_of (Activate node index) = spaced (kind_word kinds.Activate) (spaced (decimal node) (decimal index))
 line_of (Kick node) = spaced (kind_word kinds.Kick) (decimal node)
 line_of (Show node) = spaced (kind_word kinds.Show) (decimal node)
+line_of Checks = kind_word kinds.Checks
+line_of (Bcast node datagram) = spaced (kind_word kinds.Bcast) (spaced (decimal node) (encode_lower datagram))
+line_of (Scan node) = spaced (kind_word kinds.Scan) (decimal node)
+line_of (Choose node k) = spaced (kind_word kinds.Choose) (spaced (decimal node) (decimal k))
+line_of (Path from to) = spaced (kind_word kinds.Path) (spaced (decimal from) (decimal to))
 
 -- what is read is an event that a line can say
 abbrev pub IsInRange : Reading → Type 0

@@ -1,13 +1,14 @@
 -- What a line of a script says.
+use Rattle.std.specs.Str.{bytes_eq}
 use Rattle.std.specs.Prelude.{ℕ, ◌==◌, List, [], ◌∷◌, if◌then◌else◌, Option, None, Some}
 use Rattle.line_rules.specs.declared.event.Event.{Event}
-use Rattle.line_rules.specs.declared.event.Event.TheVariants.{Coordinator, Meter, Depot, Near, Counter, Number, Allow, Rand as GiveRand, Join, Leave, Send, Deliver, Inject, Lose, Break, Tick, Restart, Cut, Rekey, Challenge, Activate, Kick, Show}
+use Rattle.line_rules.specs.declared.event.Event.TheVariants.{Coordinator, Meter, Depot, Near, Counter, Number, Allow, Rand as GiveRand, Join, Leave, Send, Deliver, Inject, Lose, Break, Tick, Restart, Cut, Rekey, Challenge, Activate, Kick, Show, Checks, Bcast, Scan, Choose, Path}
 use Rattle.line_script.specs.declared.kind.EventKind.{EventKind}
 use Rattle.line_script.specs.declared.kind.EventKind.TheVariants as kinds
 use Rattle.line_script.specs.declared.reading.Reading.{Reading}
 use Rattle.line_script.specs.declared.reading.Reading.TheVariants.{Quiet, NoForm, Reads}
-use Rattle.line_script.specs.Kinds.{kind_named}
-use Rattle.line_script.specs.Words.{◌>>=◌, field, number, number_within, cost, eui, sixteen_octets, hex_octets, keeps_new}
+use Rattle.line_script.specs.Kinds.{kind_word, kind_named}
+use Rattle.line_script.specs.Words.{◌>>=◌, Field, field, number, number_within, cost, eui, sixteen_octets, hex_octets, keeps_new}
 
 -- # The words after the first, by kind
 
@@ -187,6 +188,36 @@ show_of octets = do
   node ← number octets
   Some (Show node)
 
+-- <n> <hex>
+unfoldable pub bcast_of : List ℕ → Option Event
+bcast_of octets = do
+  first ← field octets
+  node ← number first.word
+  datagram ← hex_octets first.rest
+  Some (Bcast node datagram)
+
+-- <n>
+unfoldable pub scan_of : List ℕ → Option Event
+scan_of octets = do
+  node ← number octets
+  Some (Scan node)
+
+-- <n> <k>
+unfoldable pub choose_of : List ℕ → Option Event
+choose_of octets = do
+  first ← field octets
+  node ← number first.word
+  k ← number_within 1 16 first.rest
+  Some (Choose node k)
+
+-- <a> <b>
+unfoldable pub path_of : List ℕ → Option Event
+path_of octets = do
+  first ← field octets
+  from ← number first.word
+  to ← number first.rest
+  Some (Path from to)
+
 -- # Lines
 
 -- the event of a kind, by the words after the first
@@ -214,12 +245,23 @@ event_by kinds.Challenge rest = challenge_of rest
 event_by kinds.Activate rest = activate_of rest
 event_by kinds.Kick rest = kick_of rest
 event_by kinds.Show rest = show_of rest
+event_by kinds.Checks rest = None
+event_by kinds.Bcast rest = bcast_of rest
+event_by kinds.Scan rest = scan_of rest
+event_by kinds.Choose rest = choose_of rest
+event_by kinds.Path rest = path_of rest
+
+-- the event of a line of one word
+unfoldable pub event_alone : List ℕ → Option Event
+event_alone octets = if bytes_eq octets (kind_word kinds.Checks) then Some Checks else None
+
+-- the event of a line, by its first word and the words after it, if there are any
+abbrev pub event_with : List ℕ → Option Field → Option Event
+event_with octets None = event_alone octets
+event_with octets (Some first) = kind_named first.word >>= λ kind. event_by kind first.rest
 
 unfoldable pub event_of : List ℕ → Option Event
-event_of octets = do
-  first ← field octets
-  kind ← kind_named first.word
-  event_by kind first.rest
+event_of octets = event_with octets (field octets)
 
 abbrev pub reads : Option Event → Reading
 reads (Some event) = Reads event

@@ -1,5 +1,5 @@
 -- The texts of a report.
-use Rattle.std.specs.Prelude.{ℕ, Bool, List, [], ◌++◌, codes, Option, None, Some, if◌then◌else◌}
+use Rattle.std.specs.Prelude.{ℕ, Bool, List, [], ◌∷◌, ◌++◌, codes, Option, None, Some, if◌then◌else◌}
 use Rattle.std.specs.Fmt.{decimal}
 use Rattle.hex.specs.Hex.{encode_lower}
 use Rattle.node_rules.specs.declared.shown.Shown.{Shown}
@@ -7,6 +7,9 @@ use Rattle.line_rules.specs.declared.event.Event.{Event}
 use Rattle.line_rules.specs.declared.event.Event.TheVariants.{Show}
 use Rattle.line_rules.specs.declared.event.Answer.{Answer}
 use Rattle.line_rules.specs.declared.happenings.Handed.{Handed}
+use Rattle.line_rules.specs.declared.happenings.BroadcastUp.{BroadcastUp}
+use Rattle.line_rules.specs.declared.happenings.AgentLine.{AgentLine}
+use Rattle.line_rules.specs.declared.happenings.PathLine.{PathLine}
 use Rattle.line_rules.specs.declared.happenings.Admission.{Admission}
 use Rattle.line_rules.specs.declared.happenings.Happenings.{Happenings}
 use Rattle.line_script.specs.declared.report.Reason.{Reason}
@@ -32,6 +35,35 @@ up_text None = []
 up_text (Some up) =
     codes "up " ++ (decimal up.node
     ++ (codes " " ++ (decimal up.note ++ (codes " " ++ (encode_lower up.octets ++ codes "\n")))))
+
+-- bup <node> <origin> <number> <hex>
+unfoldable pub bup_text : Option BroadcastUp → List ℕ
+bup_text None = []
+bup_text (Some up) =
+    codes "bup " ++ (decimal up.node
+    ++ (codes " " ++ (short_word up.origin
+    ++ (codes " " ++ (decimal up.number ++ (codes " " ++ (encode_lower up.octets ++ codes "\n")))))))
+
+-- agent <n> <address> <total>
+unfoldable pub agent_text : Option AgentLine → List ℕ
+agent_text None = []
+agent_text (Some agent) =
+    codes "agent " ++ (decimal agent.node
+    ++ (codes " " ++ (short_word agent.address ++ (codes " " ++ (decimal agent.total ++ codes "\n")))))
+
+-- the addresses of a way, each after a space
+abbrev pub walk_text : List ℕ → List ℕ
+walk_text [] = []
+walk_text (address ∷ walk) = codes " " ++ (short_word address ++ walk_text walk)
+
+-- path <node> <address> ..
+unfoldable pub path_text : Option PathLine → List ℕ
+path_text None = []
+path_text (Some path) = codes "path " ++ (decimal path.node ++ (walk_text path.walk ++ codes "\n"))
+
+-- the broadcast that was handed up, the agent that was chosen, the way that was told
+unfoldable pub further_text : Happenings → List ℕ
+further_text happened = bup_text happened.bup ++ (agent_text happened.agent ++ path_text happened.path)
 
 -- grant <n> <address>
 unfoldable pub grant_text : Option Admission → List ℕ
@@ -64,7 +96,8 @@ details_text event happened =
 unfoldable pub happened_text : ℕ → Event → Happenings → List ℕ
 happened_text number event happened =
     answer_text number happened.answer
-    ++ (forged_text number happened.forged ++ (up_text happened.up ++ details_text event happened))
+    ++ (forged_text number happened.forged
+    ++ (up_text happened.up ++ (further_text happened ++ details_text event happened)))
 
 -- fly <flight> <node> <hex>
 unfoldable pub fly_text : ℕ → ℕ → List ℕ → List ℕ

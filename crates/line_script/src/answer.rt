@@ -79,6 +79,22 @@ pub fn answer_word(answer: Answer) -> &'static str
         Answer::BufferFull => "BufferFull",
         Answer::SeqSpent => "SeqSpent",
         Answer::CounterSpent => "CounterSpent",
+        Answer::Acked => "Acked",
+        Answer::Bup => "Bup",
+        Answer::Scanning => "Scanning",
+        Answer::Beacon => "Beacon",
+        Answer::Beaconed => "Beaconed",
+        Answer::Traced => "Traced",
+        Answer::Path => "Path",
+        Answer::Blacklisted => "Blacklisted",
+        Answer::NotAwaited => "NotAwaited",
+        Answer::Old => "Old",
+        Answer::OriginsFull => "OriginsFull",
+        Answer::NumberSpent => "NumberSpent",
+        Answer::NotScanning => "NotScanning",
+        Answer::NoBeacon => "NoBeacon",
+        Answer::Revisited => "Revisited",
+        Answer::PathLong => "PathLong",
     }
 }
 
@@ -119,6 +135,13 @@ pub fn spaced_verdict(answer: Answer) -> &'static str
         Answer::Declined => " ok ",
         Answer::Keyed => " ok ",
         Answer::Done => " ok ",
+        Answer::Acked => " ok ",
+        Answer::Bup => " ok ",
+        Answer::Scanning => " ok ",
+        Answer::Beacon => " ok ",
+        Answer::Beaconed => " ok ",
+        Answer::Traced => " ok ",
+        Answer::Path => " ok ",
         _ => " no ",
     }
 }

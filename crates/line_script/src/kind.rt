@@ -52,10 +52,20 @@ pub enum EventKind {
     Kick,
     /// Shows a node.
     Show,
+    /// Turns the checks of neighbours on.
+    Checks,
+    /// Sends a datagram to all.
+    Bcast,
+    /// Makes a meter scan for agents.
+    Scan,
+    /// Begins a joining by an agent that was heard.
+    Choose,
+    /// Asks for the way to a node.
+    Path,
 }
 
 // The kinds, the most frequent ones first.
-const KINDS: [EventKind; 23] = [
+const KINDS: [EventKind; 28] = [
     EventKind::Send,
     EventKind::Deliver,
     EventKind::Tick,
@@ -79,6 +89,11 @@ const KINDS: [EventKind; 23] = [
     EventKind::Activate,
     EventKind::Kick,
     EventKind::Show,
+    EventKind::Checks,
+    EventKind::Bcast,
+    EventKind::Scan,
+    EventKind::Choose,
+    EventKind::Path,
 ];
 
 impl EventKind {
@@ -110,6 +125,11 @@ impl EventKind {
             EventKind::Activate => "activate",
             EventKind::Kick => "kick",
             EventKind::Show => "show",
+            EventKind::Checks => "checks",
+            EventKind::Bcast => "bcast",
+            EventKind::Scan => "scan",
+            EventKind::Choose => "choose",
+            EventKind::Path => "path",
         }
     }
 
@@ -123,7 +143,7 @@ impl EventKind {
 }
 
 // Whether two words are the same. They have so few octets that `==` of slices would take several times as long.
-fn is_same(word: &[u8], other: &[u8]) -> bool
+pub(crate) fn is_same(word: &[u8], other: &[u8]) -> bool
     ensures { result ≡ bytes_eq word.now other.now }
 {
     if word.len() != other.len() {

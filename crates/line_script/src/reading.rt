@@ -1,9 +1,9 @@
 //! What a line of a script says.
 ghost use Rattle.std.specs.Prelude.{◌≡◌, length};
-ghost use Rattle.line_script.specs.Readings.{coordinator_of, meter_of, depot_of, near_of, counter_of, number_of, allow_of, rand_of, join_of, leave_of, send_of, deliver_of, inject_of, lose_of, break_of, tick_of, restart_of, cut_of, rekey_of, challenge_of, activate_of, kick_of, show_of, event_by, event_of, reading};
+ghost use Rattle.line_script.specs.Readings.{coordinator_of, meter_of, depot_of, near_of, counter_of, number_of, allow_of, rand_of, join_of, leave_of, send_of, deliver_of, inject_of, lose_of, break_of, tick_of, restart_of, cut_of, rekey_of, challenge_of, activate_of, kick_of, show_of, bcast_of, scan_of, choose_of, path_of, event_by, event_alone, event_of, reading};
 ghost use Rattle.line_script.specs.Lines.{IsInRange};
 
-use crate::kind::EventKind;
+use crate::kind::{EventKind, is_same};
 use crate::word::{
     LINE_OCTETS, cost, eui, field, hex_octets, keeps_new, number, number_within, sixteen_octets,
 };
@@ -272,6 +272,49 @@ fn show_of(octets: &[u8]) -> Option<Event<'static>>
     Some(Event::Show { node })
 }
 
+/// `bcast <n> <hex>`
+#[tactic(auto, unfolding(crate::specs::Readings::bcast_of))]
+fn bcast_of<'a>(octets: &[u8], space: &'a mut [u8]) -> Option<Event<'a>>
+    requires { length space.old ≡ LINE_OCTETS }
+    ensures { result ≡ bcast_of octets.now }
+{
+    let (word, rest) = field(octets)?;
+    let node = number(word)?;
+    let datagram = hex_octets(rest, space)?;
+    Some(Event::Bcast { node, datagram })
+}
+
+/// `scan <n>`
+#[tactic(auto, unfolding(crate::specs::Readings::scan_of))]
+fn scan_of(octets: &[u8]) -> Option<Event<'static>>
+    ensures { result ≡ scan_of octets.now }
+{
+    let node = number(octets)?;
+    Some(Event::Scan { node })
+}
+
+/// `choose <n> <k>`
+#[tactic(auto, unfolding(crate::specs::Readings::choose_of))]
+fn choose_of(octets: &[u8]) -> Option<Event<'static>>
+    ensures { result ≡ choose_of octets.now }
+{
+    let (word, rest) = field(octets)?;
+    let node = number(word)?;
+    let k = number_within(1, 16, rest)? as u8;
+    Some(Event::Choose { node, k })
+}
+
+/// `path <a> <b>`
+#[tactic(auto, unfolding(crate::specs::Readings::path_of))]
+fn path_of(octets: &[u8]) -> Option<Event<'static>>
+    ensures { result ≡ path_of octets.now }
+{
+    let (word, rest) = field(octets)?;
+    let from = number(word)?;
+    let to = number(rest)?;
+    Some(Event::Path { from, to })
+}
+
 /// The event of a kind, by the words after the first.
 #[tactic(auto, unfolding(crate::specs::Readings::event_by))]
 fn event_by<'a>(kind: EventKind, rest: &[u8], space: &'a mut [u8]) -> Option<Event<'a>>
@@ -302,7 +345,24 @@ fn event_by<'a>(kind: EventKind, rest: &[u8], space: &'a mut [u8]) -> Option<Eve
         EventKind::Activate => activate_of(rest),
         EventKind::Kick => kick_of(rest),
         EventKind::Show => show_of(rest),
+        // It has no further word.
+        EventKind::Checks => None,
+        EventKind::Bcast => bcast_of(rest, space),
+        EventKind::Scan => scan_of(rest),
+        EventKind::Choose => choose_of(rest),
+        EventKind::Path => path_of(rest),
     }
+}
+
+/// The event of a line of one word.
+#[tactic(auto, unfolding(crate::specs::Readings::event_alone))]
+fn event_alone(octets: &[u8]) -> Option<Event<'static>>
+    ensures { result ≡ event_alone octets.now }
+{
+    if is_same(octets, EventKind::Checks.word().as_bytes()) {
+        return Some(Event::Checks);
+    }
+    None
 }
 
 #[tactic(auto, unfolding(crate::specs::Readings::event_of))]
@@ -310,7 +370,9 @@ fn event_of<'a>(octets: &[u8], space: &'a mut [u8]) -> Option<Event<'a>>
     requires { length space.old ≡ LINE_OCTETS }
     ensures { result ≡ event_of octets.now }
 {
-    let (word, rest) = field(octets)?;
+    let Some((word, rest)) = field(octets) else {
+        return event_alone(octets);
+    };
     let kind = EventKind::named(word)?;
     event_by(kind, rest, space)
 }

@@ -1,13 +1,15 @@
 //! The texts of a report.
 ghost use Rattle.std.specs.Prelude.{◌≡◌, ◌++◌, IfOk, OnOk, codes, decimal, string_bytes, Some};
 ghost use Rattle.hex.specs.Hex.{encode_lower};
-ghost use Rattle.line_script.specs.Texts.{reason_word, answer_text, forged_text, up_text, grant_text, took_text, done_text, shown_text, details_text, happened_text, fly_text, bad_text, end_text};
+ghost use Rattle.line_script.specs.NodeTexts.{short_word};
+ghost use Rattle.line_script.specs.Texts.{reason_word, answer_text, forged_text, up_text, bup_text, agent_text, walk_text, path_text, further_text, grant_text, took_text, done_text, shown_text, details_text, happened_text, fly_text, bad_text, end_text};
 
 use crate::answer::{answer_word, spaced_verdict};
 use crate::node_report::{push_node, short_word};
 use itoa::Buffer;
-use line_rules::{Admission, Answer, Event, Handed, Happenings};
+use line_rules::{Admission, AgentLine, Answer, BroadcastUp, Event, Handed, Happenings, PathLine};
 use node_rules::ShownRef;
+use plc_base::Short;
 use std::alloc::{AllocError, Global};
 use std::fmt::Write;
 
@@ -126,6 +128,105 @@ fn push_up(text: &mut String, alloc: Global, up: &Option<Handed<'_>>) -> Result<
     }
 }
 
+// A short address after a space.
+fn push_address(text: &mut String, alloc: Global, address: Short) -> Result<(), AllocError>
+    ensures { OnOk result (string_bytes text.new
+        ≡ string_bytes text.old ++ (codes " " ++ short_word address)) }
+{
+    let digits = short_word(alloc, address.number())?;
+    text.push_str(" ")?;
+    text.push_str(digits.as_str())
+}
+
+#[tactic(auto, unfolding(crate::specs::Texts::bup_text))]
+fn push_bup(
+    text: &mut String,
+    alloc: Global,
+    up: &Option<BroadcastUp<'_>>,
+) -> Result<(), AllocError>
+    ensures { OnOk result (string_bytes text.new ≡ string_bytes text.old ++ bup_text up.now) }
+{
+    match up {
+        None => Ok(()),
+        Some(up) => {
+            text.push_str("bup ")?;
+            push_number(text, u32::from(up.node))?;
+            push_address(text, alloc, up.origin)?;
+            push_broadcast(text, alloc, up.number, up.octets.octets())
+        }
+    }
+}
+
+// The number of a broadcast and its octets, at the end of a line.
+fn push_broadcast(
+    text: &mut String,
+    alloc: Global,
+    number: u32,
+    octets: &[u8],
+) -> Result<(), AllocError>
+    ensures { OnOk result (string_bytes text.new ≡ string_bytes text.old
+        ++ (codes " " ++ (decimal number ++ (codes " " ++ (encode_lower octets.now ++ codes "\n"))))) }
+{
+    text.push_str(" ")?;
+    push_number(text, number)?;
+    push_octets(text, alloc, octets)
+}
+
+#[tactic(auto, unfolding(crate::specs::Texts::agent_text))]
+fn push_agent(text: &mut String, alloc: Global, agent: Option<AgentLine>) -> Result<(), AllocError>
+    ensures { OnOk result (string_bytes text.new ≡ string_bytes text.old ++ agent_text agent) }
+{
+    match agent {
+        None => Ok(()),
+        Some(agent) => {
+            let (node, total) = (agent.node, agent.total);
+            let address = short_word(alloc, agent.address.number())?;
+            match write!(text, "agent {node} {address} {total}\n") {
+                Ok(()) => Ok(()),
+                Err(_) => Err(AllocError),
+            }
+        }
+    }
+}
+
+fn push_walk(text: &mut String, alloc: Global, walk: &[Short]) -> Result<(), AllocError>
+    ensures { OnOk result (string_bytes text.new ≡ string_bytes text.old ++ walk_text walk.now) }
+{
+    for address in walk {
+        push_address(text, alloc, *address)?;
+    }
+    Ok(())
+}
+
+#[tactic(auto, unfolding(crate::specs::Texts::path_text))]
+fn push_path(text: &mut String, alloc: Global, path: &Option<PathLine>) -> Result<(), AllocError>
+    ensures { OnOk result (string_bytes text.new ≡ string_bytes text.old ++ path_text path.now) }
+{
+    match path {
+        None => Ok(()),
+        Some(path) => {
+            text.push_str("path ")?;
+            push_number(text, u32::from(path.node))?;
+            push_walk(text, alloc, path.walk.addresses())?;
+            text.push_str("\n")
+        }
+    }
+}
+
+/// What further reach led to: a broadcast that was handed up, an agent that was chosen, a way that was told.
+#[tactic(auto, unfolding(crate::specs::Texts::further_text))]
+fn push_further(
+    text: &mut String,
+    alloc: Global,
+    happened: &Happenings<'_>,
+) -> Result<(), AllocError>
+    ensures { OnOk result (string_bytes text.new ≡ string_bytes text.old ++ further_text happened.now) }
+{
+    push_bup(text, alloc, &happened.bup)?;
+    push_agent(text, alloc, happened.agent)?;
+    push_path(text, alloc, &happened.path)
+}
+
 #[tactic(auto, unfolding(crate::specs::Texts::grant_text))]
 fn push_grant(text: &mut String, alloc: Global, grant: Option<Admission>) -> Result<(), AllocError>
     ensures { OnOk result (string_bytes text.new ≡ string_bytes text.old ++ grant_text grant) }
@@ -204,8 +305,9 @@ fn push_details(
 }
 
 /// Appends the lines of an event of this number, without those of its flights. First comes its answer, and then whatever there
-/// is of these: that it is forged, what was handed up, the address of a meter that was allowed, the meter that took its grant,
-/// the meter whose joining is done, and the lines of the node that is shown.
+/// is of these: that it is forged, the datagram or the broadcast that was handed up, the agent that was chosen, the way that was
+/// told, the address of a meter that was allowed, the meter that took its grant, the meter whose joining is done, and the lines of
+/// the node that is shown.
 #[tactic(auto, unfolding(crate::specs::Texts::happened_text))]
 pub fn push_happened(
     text: &mut String,
@@ -220,6 +322,7 @@ pub fn push_happened(
     push_answer(text, number, happened.answer)?;
     push_forged(text, number, happened.forged)?;
     push_up(text, alloc, &happened.up)?;
+    push_further(text, alloc, happened)?;
     push_details(text, alloc, event, happened)
 }
 

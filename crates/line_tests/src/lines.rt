@@ -1,9 +1,10 @@
 //! Lines of every kind with their limits, and each line of a report.
-use line_rules::{Admission, Answer, Event, Handed, Happenings};
+use line_rules::{Admission, AgentLine, Answer, BroadcastUp, Event, Handed, Happenings, PathLine};
 use line_script::{
     LINE_OCTETS, Reading, Reason, Totals, bad_text, end_text, push_fly, push_happened, read_line,
 };
 use node_rules::{Shown, ShownPeer, ShownPeers, ShownRef, ShownRoute, ShownRoutes};
+use path_requests::Walk;
 use plc_base::{Key, OctetRef, Short};
 use std::alloc::{AllocError, Global};
 use std::test::Fail;
@@ -37,6 +38,10 @@ fn said_of_keys(alloc: Global, event: &Event<'_>) -> Result<String, AllocError> 
             let cost = cost.number();
             let octets = hex::encode(alloc, octets.octets())?;
             format!(in alloc; "inject: node {node} cost {cost} octets {octets}")
+        }
+        Event::Bcast { node, datagram } => {
+            let datagram = hex::encode(alloc, datagram.octets())?;
+            format!(in alloc; "bcast: node {node} datagram {datagram}")
         }
         _ => String::from_str(alloc, "another kind"),
     }
@@ -73,6 +78,10 @@ fn said(alloc: Global, event: &Event<'_>) -> Result<String, AllocError> {
         Event::Activate { node, index } => format!(in alloc; "activate: node {node} index {index}"),
         Event::Kick { node } => format!(in alloc; "kick: node {node}"),
         Event::Show { node } => format!(in alloc; "show: node {node}"),
+        Event::Checks => String::from_str(alloc, "checks"),
+        Event::Scan { node } => format!(in alloc; "scan: node {node}"),
+        Event::Choose { node, k } => format!(in alloc; "choose: node {node} k {k}"),
+        Event::Path { from, to } => format!(in alloc; "path: from {from} to {to}"),
         event => said_of_keys(alloc, event),
     }
 }
@@ -159,6 +168,25 @@ const RANGES: [(&str, &str); 18] = [
     ("tick 1", "tick: seconds 1"),
     ("tick 86400", "tick: seconds 86400"),
     ("tick 86401", "no form"),
+];
+
+// Lines of further reach, and what each says.
+const FURTHER: [(&str, &str); 15] = [
+    ("checks", "checks"),
+    ("checks 1", "no form"),
+    ("checks ", "no form"),
+    ("check", "no form"),
+    ("bcast 1 00ff", "bcast: node 1 datagram 00ff"),
+    ("bcast 1 ", "no form"),
+    ("bcast 1", "no form"),
+    ("scan 3", "scan: node 3"),
+    ("scan", "no form"),
+    ("choose 3 1", "choose: node 3 k 1"),
+    ("choose 3 16", "choose: node 3 k 16"),
+    ("choose 3 0", "no form"),
+    ("choose 3 17", "no form"),
+    ("path 1 2", "path: from 1 to 2"),
+    ("path 1", "no form"),
 ];
 
 // Words that are nearly right, and what each line says.
@@ -250,6 +278,18 @@ fn limits_of_numbers(rt: HostRuntime) -> Result<(), Fail> {
 }
 
 #[test]
+fn lines_with_further_reach(rt: HostRuntime) -> Result<(), Fail> {
+    for (line, want) in FURTHER {
+        assert_eq!(rt;
+            read(rt.alloc(), line.as_bytes())?.as_str(),
+            want,
+            "at {line}"
+        );
+    }
+    Ok(())
+}
+
+#[test]
 fn words_nearly_right(rt: HostRuntime) -> Result<(), Fail> {
     for (line, want) in WORDS {
         assert_eq!(rt;
@@ -307,6 +347,9 @@ fn happened<'a>(
         answer,
         forged: false,
         up: None,
+        bup: None,
+        agent: None,
+        path: None,
         grant,
         took,
         done,
@@ -376,6 +419,9 @@ fn lines_of_an_event_in_order(rt: HostRuntime) -> Result<(), Fail> {
             note: 0,
             octets: OctetRef::new(b"\x00\xab"),
         }),
+        bup: None,
+        agent: None,
+        path: None,
         grant: Some(Admission {
             node: 3,
             address: Short::new(0x12ab).ok_or("no address")?,
@@ -401,6 +447,50 @@ fn lines_of_an_event_in_order(rt: HostRuntime) -> Result<(), Fail> {
         forged: 1,
     };
     assert_eq!(rt; end_text(alloc, totals)?.as_str(), "end 26 19 4 3 1\n");
+    Ok(())
+}
+
+// An event that handed up a broadcast, by an agent that was chosen, with a way that was told.
+fn further<'a>(bup: BroadcastUp<'a>, agent: AgentLine, path: PathLine) -> Happenings<'a> {
+    Happenings {
+        answer: Answer::Bup,
+        forged: false,
+        up: None,
+        bup: Some(bup),
+        agent: Some(agent),
+        path: Some(path),
+        grant: None,
+        took: None,
+        done: None,
+        shown: None,
+        first_flight: 1,
+        flights: 0,
+    }
+}
+
+#[test]
+fn lines_of_further_reach(rt: HostRuntime) -> Result<(), Fail> {
+    let alloc = rt.alloc();
+    let address = Short::new(0x0102).ok_or("no address")?;
+    let bup = BroadcastUp {
+        node: 2,
+        origin: address,
+        number: 4_294_967_294,
+        octets: OctetRef::new(b"\xaa\x01"),
+    };
+    let agent = AgentLine {
+        node: 3,
+        address,
+        total: 65_790,
+    };
+    let path = PathLine {
+        node: 1,
+        walk: Walk::from_addresses(&[address, Short::new(0xfffd).ok_or("no address")?]),
+    };
+    assert_eq!(rt;
+        report(alloc, 9, &Event::Checks, &further(bup, agent, path))?.as_str(),
+        "9 ok Bup\nbup 2 0102 4294967294 aa01\nagent 3 0102 65790\npath 1 0102 fffd\n"
+    );
     Ok(())
 }
 

@@ -31,6 +31,7 @@ use Rattle.node_rules.specs.NodeSteps.{NodeStep, acts, answering, left_by, of_st
 use Rattle.node_rules.specs.Plans.{Plan, carry_out, finished, halted}
 use Rattle.node_rules.proofs.Refusals.{orders_refused}
 use Rattle.line_world.specs.Doings.{Did}
+use Rattle.reach_rules.specs.ReachingNodes.{Beside, nothing_beside}
 use Rattle.line_rules.specs.declared.event.Answer.TheVariants as said
 use Rattle.line_rules.specs.declared.event.StepFault.{StepFault}
 use Rattle.line_rules.specs.declared.event.StepFault.TheVariants as faults
@@ -340,14 +341,40 @@ module _ (w : World) (a b cost : ℕ) (x y : Node) (p q : ℕ) (may : MayMeet w 
 
 -- # coordinator, meter
 
+-- bounds do not speak of what stands beside the nodes
+bounded_beside : (w : World) (beside : List Beside) → IsBounded w → IsBounded (record w { beside = beside })
+bounded_beside w beside b = record {
+  events = b.events;
+  clock = b.clock;
+  nodes = b.nodes;
+  flights = b.flights;
+  made = b.made;
+  sends = b.sends;
+  ups = b.ups;
+  forged = b.forged;
+  done = b.done;
+  uncut = b.uncut;
+}
+
+-- the world with these nodes and what a new one more holds
+abbrev pub one_node_more : World → List Node → World
+one_node_more w nodes = record (set_up w) { nodes = nodes; beside = w.beside ++ nothing_beside ∷ [] }
+
 -- a node was made
 pub was_made : (w new : World) (step : Step) (x : Node) (nodes : List Node) (h : Happenings) → IsBounded w → w.events < MAX_EVENTS → length w.nodes ≤ 999 → IsUncut x
-    → nodes ≡ w.nodes ++ x ∷ [] → step ≡ Ok (made_node w x) → h ≡ happened w said.Made → new ≡ record (set_up w) { nodes = nodes } → Steps true w (Ok h) new step
+    → nodes ≡ w.nodes ++ x ∷ [] → step ≡ Ok (made_node w x) → h ≡ happened w said.Made → new ≡ one_node_more w nodes → Steps true w (Ok h) new step
 was_made w new step x nodes h b room few uncut are made spoken is =
     let long : length nodes ≡ length w.nodes + 1 = ap (λ (ns : List Node). length ns) are ∙ length-append w.nodes (x ∷ []) in
-    was_set true w new step (trace_of (happened w said.Made)) h nodes b room (omega (arith, few, long))
-    (λ running. subst (All IsUncut) (sym are) (All-push IsUncut w.nodes x (b.uncut running) uncut))
-    (made ∙ (λ i. Ok (record (set_up w) { nodes = sym are i }, trace_of (happened w said.Made)))) spoken is
+    record {
+      gives = record {
+        trace = trace_of (happened w said.Made);
+        taken = made ∙ (λ i. Ok (one_node_more w (sym are i), trace_of (happened w said.Made))) ∙ (λ i. Ok (sym is i, trace_of (happened w said.Made)));
+        told = spoken;
+      };
+      memory = tt;
+      bounds = subst IsBounded (sym is) (bounded_setup (record w { beside = w.beside ++ nothing_beside ∷ [] }) nodes (bounded_beside w _ b) room (omega (arith, few, long))
+          (λ running. subst (All IsUncut) (sym are) (All-push IsUncut w.nodes x (b.uncut running) uncut)));
+    }
 
 pub had_begun : (w : World) (eui : Eui) (key : Key) → true ≡ has_begun w → coordinator w eui key ≡ Err faults.Setup
 unfolding coordinator
@@ -366,7 +393,7 @@ no_nodes w is = none_in w.nodes is
 
 -- the coordinator was made
 pub first_made : (w new : World) (eui : Eui) (key : Key) (nodes : List Node) (h : Happenings) → IsBounded w → w.events < MAX_EVENTS → false ≡ has_begun w
-    → nodes ≡ coordinator_node eui key ∷ [] → h ≡ happened w said.Made → new ≡ record (set_up w) { nodes = nodes } → Steps true w (Ok h) new (coordinator w eui key)
+    → nodes ≡ coordinator_node eui key ∷ [] → h ≡ happened w said.Made → new ≡ one_node_more w nodes → Steps true w (Ok h) new (coordinator w eui key)
 first_made w new eui key nodes h b room none are spoken is =
     let x = coordinator_node eui key in
     let empty : w.nodes ≡ [] = no_nodes w none in
@@ -398,7 +425,7 @@ makes_meter w eui psk takes room unknown = meter_by w eui psk true false false (
 
 -- a meter was made
 pub meter_made : (w new : World) (eui : Eui) (psk : Key) (nodes : List Node) (h : Happenings) → IsBounded w → w.events < MAX_EVENTS → true ≡ takes_setup w → length w.nodes < 1000
-    → false ≡ is_known w eui → nodes ≡ w.nodes ++ blank_node (Meter psk) eui ∷ [] → h ≡ happened w said.Made → new ≡ record (set_up w) { nodes = nodes }
+    → false ≡ is_known w eui → nodes ≡ w.nodes ++ blank_node (Meter psk) eui ∷ [] → h ≡ happened w said.Made → new ≡ one_node_more w nodes
     → Steps true w (Ok h) new (meter w eui psk)
 meter_made w new eui psk nodes h b room takes few unknown are spoken is =
     was_made w new _ (blank_node (Meter psk) eui) nodes h b room (omega (arith, few)) (blank_uncut (Meter psk) eui) are

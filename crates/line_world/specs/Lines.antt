@@ -16,6 +16,8 @@ world_of l = record {
   ups = l.ups;
   forged = l.forged;
   done = l.done;
+  checks_on = l.checks_on;
+  beside = l.beside.items;
 }
 
 -- Memory is reserved for all that one event may add: 24 frames of 400 octets, and two tags.

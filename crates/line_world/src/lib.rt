@@ -4,6 +4,7 @@
 #![tactic(auto)]
 
 mod arriving;
+mod beside;
 mod happening;
 mod joining;
 mod line;

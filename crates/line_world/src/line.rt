@@ -1,5 +1,6 @@
 //! A line as the program holds it: its world, the memory that is reserved for what flies, and where a node puts what it
 //! gives out.
+use crate::beside::Beside;
 use crate::nodes::Nodes;
 use line_flights::{Flights, MadeTags};
 use plc_base::Out;
@@ -22,6 +23,10 @@ pub(crate) struct Line {
     pub(crate) ups: u32,
     pub(crate) forged: u32,
     pub(crate) done: u32,
+    // Whether neighbours are checked, on all nodes.
+    pub(crate) checks_on: bool,
+    // What each node holds beside its memory, by its number.
+    pub(crate) beside: Vec<Beside>,
     // What the node of the event gave out.
     pub(crate) out: Out,
 }

@@ -1,5 +1,6 @@
 //! The events that set up a line.
-ghost use Rattle.std.specs.Prelude.{◌≡◌, ◌<◌, ◌≤◌, ◌||◌, true, false, not, length, IfSome, slice_get};
+ghost use Rattle.std.specs.Prelude.{◌≡◌, ◌<◌, ◌≤◌, ◌||◌, ◌++◌, ◌∷◌, [], true, false, not, length, IfSome, slice_get, vec_len, vec_capacity};
+ghost use Rattle.reach_rules.specs.ReachingNodes.{nothing_beside};
 ghost use Rattle.node_rules.specs.Calls as calls;
 ghost use Rattle.node_rules.specs.Ciphers.{network};
 ghost use Rattle.line_rules.specs.declared.event.TheConstants.{MAX_EVENTS};
@@ -9,6 +10,7 @@ ghost use Rattle.line_world.specs.Bounds.{IsBounded};
 ghost use Rattle.line_world.specs.Lines.{world_of};
 ghost use Rattle.line_world.specs.Steps.{Steps};
 
+use crate::beside::Beside;
 use crate::line::{Line, MAX_NODES};
 use line_rules::{Answer, Happenings, StepFault};
 use plc_base::{Eui, Key, LinkCost, Short};
@@ -31,11 +33,23 @@ impl Line {
         if self.has_begun() {
             return Err(StepFault::Setup);
         }
+        if self.beside.reserve(1).is_err() {
+            return Err(StepFault::Memory);
+        }
         if self.nodes.make_coordinator(self.alloc, eui, key).is_err() {
             return Err(StepFault::Memory);
         }
+        self.hold_beside();
         self.set_up();
         Ok(self.happened(Answer::Made))
+    }
+
+    /// One node more holds what a new one holds beside its memory. Memory for it was reserved.
+    fn hold_beside(&mut self)
+        requires { vec_len self.old.beside < vec_capacity self.old.beside }
+        ensures { world_of self.new ≡ record (world_of self.old) { beside = self.old.beside.items ++ nothing_beside ∷ [] } }
+    {
+        self.beside.push(Beside::new()).unwrap();
     }
 
     /// Makes the next meter.
@@ -55,9 +69,13 @@ impl Line {
         if self.nodes.has(eui) {
             return Err(StepFault::Setup);
         }
+        if self.beside.reserve(1).is_err() {
+            return Err(StepFault::Memory);
+        }
         if self.nodes.make_meter(self.alloc, eui, psk).is_err() {
             return Err(StepFault::Memory);
         }
+        self.hold_beside();
         self.set_up();
         Ok(self.happened(Answer::Made))
     }

@@ -112,6 +112,8 @@ impl World {
                 ups: 0,
                 forged: 0,
                 done: 0,
+                checks_on: false,
+                beside: Vec::new(alloc),
                 out: Out::new(),
             },
         }
@@ -199,6 +201,11 @@ impl World {
             Event::Activate { node, index } => self.line.activate(*node, *index),
             Event::Kick { node } => self.line.kick(*node),
             Event::Show { node } => self.line.show(*node, space),
+            Event::Checks => Err(StepFault::Setup),
+            Event::Bcast { .. } => Err(StepFault::Setup),
+            Event::Scan { .. } => Err(StepFault::Setup),
+            Event::Choose { .. } => Err(StepFault::Setup),
+            Event::Path { .. } => Err(StepFault::Setup),
         }
     }
 }
