@@ -5,7 +5,7 @@ use Rattle.plc_base.specs.Keeper.{Records}
 use Rattle.mesh_header.specs.declared.unit.Unit.TheVariants.{Local}
 use Rattle.neighbour_checks.specs.Neighbours.{Neighbours, nobody, tick_after}
 use Rattle.broadcast_log.specs.Log as logs
-use Rattle.plc_base.specs.Numberings.{counting_at}
+use Rattle.store_tables.specs.Numberings.{counting_at}
 use Rattle.pan_discovery.specs.History.{Scanned, ended}
 use Rattle.node_rules.specs.declared.refusal.Dropped.{Dropped}
 use Rattle.node_rules.specs.declared.refusal.Dropped.TheVariants.{CounterSpent, Store}
