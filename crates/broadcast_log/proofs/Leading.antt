@@ -5,15 +5,15 @@ use Rattle.std.specs.FinMap.{insert}
 use Rattle.std.proofs.lemmas.Bool.{eqb-false}
 use Rattle.byteorder.specs.Endian.{big_bytes}
 use Rattle.plc_base.specs.Keeper.{Records, Write}
-use Rattle.plc_base.specs.Writes.{puts_of}
-use Rattle.plc_base.specs.SlotTables.{slot_of}
-use Rattle.plc_base.specs.Numberings.{IsCountingIn, passes, raised, limit_write}
-use Rattle.plc_base.specs.Marks.{AreMarksIn, has_room}
-use Rattle.plc_base.proofs.StoreLemmas.{get-insert_other}
-use Rattle.plc_base.proofs.LeadingPuts.{Leaves, leads_part, leads_when}
-use Rattle.plc_base.proofs.StoredLimits.{reservations_lead}
-use Rattle.plc_base.proofs.MarkEntries.{room_has, keep_write-within}
-use Rattle.plc_base.proofs.LeadingMarks.{admissions_lead}
+use Rattle.store_tables.specs.Writes.{puts_of}
+use Rattle.store_tables.specs.SlotTables.{slot_of}
+use Rattle.store_tables.specs.Numberings.{IsCountingIn, passes, raised, limit_write}
+use Rattle.store_tables.specs.Marks.{AreMarksIn, has_room}
+use Rattle.store_tables.proofs.StoreLemmas.{get-insert_other}
+use Rattle.store_tables.proofs.LeadingPuts.{Leaves, leads_part, leads_when}
+use Rattle.store_tables.proofs.StoredLimits.{reservations_lead}
+use Rattle.store_tables.proofs.MarkEntries.{room_has, keep_write-within}
+use Rattle.store_tables.proofs.LeadingMarks.{admissions_lead}
 use Rattle.broadcast_log.specs.declared.fault.LogFault.TheVariants.{Old, OriginsFull}
 use Rattle.broadcast_log.specs.NextNumber.{Numbering, limit_in, limit_slot, number_put, numbered, is_spent}
 use Rattle.broadcast_log.specs.OriginMarks.{Marks, marks, keep_write, kept_after}

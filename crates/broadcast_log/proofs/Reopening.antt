@@ -2,9 +2,9 @@
 use Rattle.std.proofs.Common.{◌≡◌, ℕ, ◌≤◌, ◌<◌, Option, Some, None, Ok, refl, sym, subst, arith}
 use Rattle.std.specs.FinMap.{get}
 use Rattle.plc_base.specs.Keeper.{Records}
-use Rattle.plc_base.specs.Marks.{mark_in-rests}
-use Rattle.plc_base.specs.Numberings.{counting_at, counting_from}
-use Rattle.plc_base.proofs.Opening.{opened_kept, opened_reads, reopened, stored_gapless}
+use Rattle.store_tables.specs.Marks.{mark_in-rests}
+use Rattle.store_tables.specs.Numberings.{counting_at, counting_from}
+use Rattle.store_tables.proofs.Opening.{opened_kept, opened_reads, reopened, stored_gapless}
 use Rattle.broadcast_log.specs.NextNumber.{IsLimitKept, Numbering, limit_in, limit_slot}
 use Rattle.broadcast_log.specs.OriginMarks.{marks}
 use Rattle.broadcast_log.specs.Log.{Log, log_at_rest, opened}

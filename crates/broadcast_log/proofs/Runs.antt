@@ -4,16 +4,16 @@ use Rattle.std.specs.Option.{option_map}
 use Rattle.std.specs.FinMap.{get}
 use Rattle.std.proofs.lemmas.Bool.{eqb-false}
 use Rattle.plc_base.specs.Keeper.{Records, SameOutside}
-use Rattle.plc_base.specs.SlotTables as slots
-use Rattle.plc_base.specs.SlotTables.{slot_of}
+use Rattle.store_tables.specs.SlotTables as slots
+use Rattle.store_tables.specs.SlotTables.{slot_of}
 use Rattle.plc_base.specs.declared.keeper.BadStore.{BadStore}
-use Rattle.plc_base.specs.Numberings.{AllBelow}
-use Rattle.plc_base.specs.Marks.{has_room}
-use Rattle.plc_base.specs.AdmittedNumbers.{Admitted, AllEarlier}
-use Rattle.plc_base.proofs.StoredLimits.{reserve_write-elsewhere}
-use Rattle.plc_base.proofs.GivenNumbers.{HoldsGiven, given_begins, given_more, given_lost, given_restarts, given_elsewhere, given_none}
-use Rattle.plc_base.proofs.MarkEntries.{room_has, keep_write-elsewhere}
-use Rattle.plc_base.proofs.AdmittedNumbers.{HoldsAdmitted, admitted_begins, admitted_more, admitted_lost, admitted_restarts, admitted_elsewhere, admitted_none, admitted_sound, room_is_fresh}
+use Rattle.store_tables.specs.Numberings.{AllBelow}
+use Rattle.store_tables.specs.Marks.{has_room}
+use Rattle.store_tables.specs.AdmittedNumbers.{Admitted, AllEarlier}
+use Rattle.store_tables.proofs.StoredLimits.{reserve_write-elsewhere}
+use Rattle.store_tables.proofs.GivenNumbers.{HoldsGiven, given_begins, given_more, given_lost, given_restarts, given_elsewhere, given_none}
+use Rattle.store_tables.proofs.MarkEntries.{room_has, keep_write-elsewhere}
+use Rattle.store_tables.proofs.AdmittedNumbers.{HoldsAdmitted, admitted_begins, admitted_more, admitted_lost, admitted_restarts, admitted_elsewhere, admitted_none, admitted_sound, room_is_fresh}
 use Rattle.broadcast_log.specs.declared.fault.LogFault.TheVariants.{Old, OriginsFull}
 use Rattle.broadcast_log.specs.NextNumber.{Numbering, numbering_in, numbered, is_spent, limit_slot}
 use Rattle.broadcast_log.specs.OriginMarks.{Marks, marks, room_for}

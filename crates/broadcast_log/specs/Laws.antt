@@ -2,11 +2,11 @@
 use Rattle.std.specs.Prelude.{◌≡◌, ◌<◌, ◌^◌, ℕ, List, Option, Some, Ok, false}
 use Rattle.plc_base.specs.Fields.{AreOctets}
 use Rattle.plc_base.specs.Keeper.{Records}
-use Rattle.plc_base.specs.Writes.{puts_of}
-use Rattle.plc_base.specs.SlotTables as slots
-use Rattle.plc_base.specs.LeadingPuts.{PutsLead}
-use Rattle.plc_base.specs.Numberings.{EachAbove}
-use Rattle.plc_base.specs.AdmittedNumbers.{Admitted, EachOnce}
+use Rattle.store_tables.specs.Writes.{puts_of}
+use Rattle.store_tables.specs.SlotTables as slots
+use Rattle.store_tables.specs.LeadingPuts.{PutsLead}
+use Rattle.store_tables.specs.Numberings.{EachAbove}
+use Rattle.store_tables.specs.AdmittedNumbers.{Admitted, EachOnce}
 use Rattle.broadcast_log.specs.declared.broadcast.Broadcast.{Broadcast}
 use Rattle.broadcast_log.specs.Grammar.{Spells}
 use Rattle.broadcast_log.specs.Reading.{broadcast_in}

@@ -3,10 +3,10 @@ use Rattle.std.specs.Prelude.{◌≡◌, ◌⊎◌, ℕ, Bool, true, false, if�
 use Rattle.std.specs.Coded.{Coded, code_by, coded×}
 use Rattle.std.specs.FinMap.{get}
 use Rattle.plc_base.specs.Keeper.{Records, Write}
-use Rattle.plc_base.specs.SlotTables as slots
+use Rattle.store_tables.specs.SlotTables as slots
 use Rattle.plc_base.specs.declared.keeper.BadStore.{BadStore}
-use Rattle.plc_base.specs.Numberings.{counting_code, counting_at}
-use Rattle.plc_base.specs.Marks.{table_code}
+use Rattle.store_tables.specs.Numberings.{counting_code, counting_at}
+use Rattle.store_tables.specs.Marks.{table_code}
 use Rattle.broadcast_log.specs.declared.fault.LogFault.{LogFault}
 use Rattle.broadcast_log.specs.declared.fault.LogFault.TheVariants.{NumberSpent, Store, Old, OriginsFull}
 use Rattle.broadcast_log.specs.NextNumber.{Numbering, numbering_in, IsLimitKept, limit_in, limit_slot, number_put, numbered, is_spent}

@@ -1,8 +1,8 @@
--- The number of a node's next broadcast, and what giving it out does: a numbering (`Numberings` of `plc_base`) whose limit
+-- The number of a node's next broadcast, and what giving it out does: a numbering (`Numberings` of `store_tables`) whose limit
 -- stands at slot 6, 32 ahead.
 use Rattle.std.specs.Prelude.{ℕ, Bool, List, Option, Result}
 use Rattle.plc_base.specs.Keeper.{Records, Write}
-use Rattle.plc_base.specs.Numberings as numbers
+use Rattle.store_tables.specs.Numberings as numbers
 use Rattle.plc_base.specs.declared.keeper.BadStore.{BadStore}
 
 -- The limit that is stored, which no number that was given out reaches, and the number that comes next.

@@ -1,9 +1,9 @@
--- The marks of the origins, and what the calls on them do: a table of marks (`Marks` of `plc_base`) at the slots 0300 to 031F.
+-- The marks of the origins, and what the calls on them do: a table of marks (`Marks` of `store_tables`) at the slots 0300 to 031F.
 use Rattle.std.specs.Prelude.{ℕ, Option, Result}
 use Rattle.plc_base.specs.Keeper.{Records, Write}
-use Rattle.plc_base.specs.SlotTables as slots
-use Rattle.plc_base.specs.Marks as tables
-use Rattle.plc_base.specs.declared.marks.Mark.{Mark}
+use Rattle.store_tables.specs.SlotTables as slots
+use Rattle.store_tables.specs.Marks as tables
+use Rattle.store_tables.specs.declared.marks.Mark.{Mark}
 use Rattle.broadcast_log.specs.declared.fault.LogFault.{LogFault}
 use Rattle.broadcast_log.specs.declared.fault.LogFault.TheVariants.{Old, OriginsFull}
 

@@ -2,8 +2,8 @@
 use Rattle.std.specs.Prelude.{◌≡◌, ℕ, ◌^◌, ◌<◌, true, false, List, [], ◌∷◌, Option, Some, None, Ok}
 use Rattle.std.specs.FinMap.{get}
 use Rattle.plc_base.specs.Keeper.{Records, Store, Stores}
-use Rattle.plc_base.specs.SlotTables.{IsGapless, slot_of}
-use Rattle.plc_base.specs.AdmittedNumbers.{Admitted}
+use Rattle.store_tables.specs.SlotTables.{IsGapless, slot_of}
+use Rattle.store_tables.specs.AdmittedNumbers.{Admitted}
 use Rattle.broadcast_log.specs.NextNumber.{limit_slot, is_spent, number_put}
 use Rattle.broadcast_log.specs.OriginMarks.{marks, room_for, keep_write}
 use Rattle.broadcast_log.specs.Log.{Log, opened, numbered_log, admitted_log}

@@ -2,15 +2,16 @@
 ghost use Rattle.std.specs.Prelude.{◌≡◌, ◌+◌, ◌≤◌, Ok, Some, List, ℕ, IfOk, IfErr, OnOk};
 ghost use Rattle.std.specs.Bool.{OnTrue};
 ghost use Rattle.plc_base.specs.Keeper.{Stores, OutsideStays, IsOldOrNew};
-ghost use Rattle.plc_base.specs.SlotTables.{IsTable, IsGapless};
-ghost use Rattle.plc_base.specs.Numberings.{AllBelow};
-ghost use Rattle.plc_base.specs.AdmittedNumbers.{Admitted, AllEarlier};
+ghost use Rattle.store_tables.specs.SlotTables.{IsTable, IsGapless};
+ghost use Rattle.store_tables.specs.Numberings.{AllBelow};
+ghost use Rattle.store_tables.specs.AdmittedNumbers.{Admitted, AllEarlier};
 ghost use Rattle.broadcast_log.specs.OriginMarks.{marks, IsCovered, mark_of, room_for};
 ghost use Rattle.broadcast_log.specs.Log.{Log, empty_log, IsKept, IsBad, Reopens, opened, next_result, next_write, next_after, numbered_log, admit_result, admit_write, admit_after, admitted_log, is_stored};
 ghost use Rattle.broadcast_log.specs.Runs.{Runs};
 
 use crate::LogFault;
-use plc_base::{BadStore, Keeper, Mark, MarkTable, Numbering, Short};
+use plc_base::{BadStore, Keeper, Short};
+use store_tables::{Mark, MarkTable, Numbering};
 use std::marker::Model;
 
 /// One origin: the number that was last admitted of it, and the mark that is stored, which is no lower.

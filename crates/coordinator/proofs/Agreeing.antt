@@ -1,7 +1,7 @@
 -- What agreement owes to a put of the book.
 use Rattle.std.proofs.Common.{inl, inr, ap, ◌∙◌, arith}
 use Rattle.plc_base.specs.Keeper.{Records, SameOutside}
-use Rattle.plc_base.proofs.SlotTables.{stored_elsewhere}
+use Rattle.store_tables.proofs.SlotTables.{stored_elsewhere}
 use Rattle.frame_counters.specs.PeerMarks.{peers}
 use Rattle.frame_counters.specs.SendCounter as counter
 use Rattle.group_keys.specs.KeyRing.{ring_at}

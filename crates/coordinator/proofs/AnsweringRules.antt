@@ -5,15 +5,15 @@ use Rattle.std.specs.Option.{option_map, option_map_or, option_and_then}
 use Rattle.std.proofs.lemmas.Option.{slice_get-get_or}
 use Rattle.plc_base.specs.Addresses.{eui_number}
 use Rattle.plc_base.specs.Keeper.{Store}
-use Rattle.plc_base.specs.Writes.{Wrote, puts_of}
-use Rattle.plc_base.specs.SlotTables as slots
+use Rattle.store_tables.specs.Writes.{Wrote, puts_of}
+use Rattle.store_tables.specs.SlotTables as slots
 use Rattle.plc_base.specs.Grant.{Granted}
 use Rattle.plc_base.specs.declared.address.Eui.{Eui}
 use Rattle.plc_base.specs.declared.key.Rand.{Rand}
 use Rattle.plc_base.specs.declared.out_frame.Out.{Out}
 use Rattle.plc_base.specs.declared.tags.TagList.{TagList}
-use Rattle.plc_base.proofs.SlotTables.{found}
-use Rattle.plc_base.proofs.WritesLemmas.{wrote_none}
+use Rattle.store_tables.proofs.SlotTables.{found}
+use Rattle.store_tables.proofs.WritesLemmas.{wrote_none}
 use Rattle.group_keys.specs.declared.key_book.BookEntry.{BookEntry}
 use Rattle.group_keys.specs.KeyBook as book
 use Rattle.eap_psk.specs.Keys.{PairKeys, keys_of}

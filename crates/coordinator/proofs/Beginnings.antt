@@ -8,10 +8,10 @@ use Rattle.plc_base.specs.declared.address.Eui.{Eui}
 use Rattle.plc_base.specs.declared.key.Rand.{Rand}
 use Rattle.plc_base.specs.declared.key.Key.{Key}
 use Rattle.plc_base.specs.Grant.{Granted}
-use Rattle.plc_base.specs.Writes.{Wrote}
-use Rattle.plc_base.specs.SlotTables as slots
-use Rattle.plc_base.proofs.SlotTables.{stored_elsewhere}
-use Rattle.plc_base.proofs.WritesLemmas.{wrote_one}
+use Rattle.store_tables.specs.Writes.{Wrote}
+use Rattle.store_tables.specs.SlotTables as slots
+use Rattle.store_tables.proofs.SlotTables.{stored_elsewhere}
+use Rattle.store_tables.proofs.WritesLemmas.{wrote_one}
 use Rattle.group_keys.specs.KeyRing as ring
 use Rattle.group_keys.specs.KeyBook as book
 use Rattle.group_keys.specs.declared.fault.RingFault.{RingFault}

@@ -3,9 +3,9 @@ use Rattle.std.proofs.Common.{◌≡◌, Bool, true, false, List, Option, Some, 
 use Rattle.std.specs.Prelude.{IfSome}
 use Rattle.std.specs.Option.{option_map}
 use Rattle.plc_base.specs.Keeper.{Store, Stores, OutsideStays}
-use Rattle.plc_base.specs.Writes.{Wrote, puts_of}
+use Rattle.store_tables.specs.Writes.{Wrote, puts_of}
 use Rattle.plc_base.specs.declared.key.Rand.{Rand}
-use Rattle.plc_base.proofs.WritesLemmas.{wrote_one}
+use Rattle.store_tables.proofs.WritesLemmas.{wrote_one}
 use Rattle.group_keys.specs.declared.key_book.BookEntry.{BookEntry}
 use Rattle.group_keys.specs.KeyBook as book
 use Rattle.node_rules.specs.Memory.{StationMemory, CoordinatorSession}

@@ -3,11 +3,11 @@ use Rattle.std.proofs.Common.{◌≡◌, ℕ, ◌≤◌, true, false, List, [], 
 use Rattle.std.specs.Prelude.{IfSome, IsSome, drop, slice_get}
 use Rattle.std.specs.Option.{option_map, option_map_or}
 use Rattle.plc_base.specs.Keeper.{Store}
-use Rattle.plc_base.specs.Writes.{Wrote}
+use Rattle.store_tables.specs.Writes.{Wrote}
 use Rattle.plc_base.specs.declared.address.Eui.{Eui}
 use Rattle.plc_base.specs.declared.key.Rand.{Rand}
 use Rattle.plc_base.specs.declared.out_frame.Out.{Out}
-use Rattle.plc_base.proofs.WritesLemmas.{wrote_none}
+use Rattle.store_tables.proofs.WritesLemmas.{wrote_none}
 use Rattle.group_keys.specs.KeyBook as book
 use Rattle.eap_psk.specs.declared.server.Server.{Server}
 use Rattle.joining_messages.specs.declared.message.JoinMessage.{JoinMessage}

@@ -2,7 +2,7 @@
 use Rattle.std.proofs.Common.{◌≡◌, ℕ, ◌+◌, ◌≤◌, Bool, true, false, [], Option, Some, None, Ok, Err, refl, sym, ap, subst, ◌∙◌}
 use Rattle.std.specs.Prelude.{if◌then◌else◌, not, IfSome}
 use Rattle.plc_base.specs.Keeper.{Store}
-use Rattle.plc_base.specs.Writes.{Wrote, puts_of}
+use Rattle.store_tables.specs.Writes.{Wrote, puts_of}
 use Rattle.plc_base.specs.declared.address.Eui.{Eui}
 use Rattle.plc_base.specs.declared.key.Key.{Key}
 use Rattle.group_keys.specs.declared.key_book.BookEntry.{BookEntry}

@@ -3,7 +3,7 @@ use Rattle.std.proofs.Common.{◌≡◌, ◌≤◌, ◌++◌, true, false, List,
 use Rattle.std.specs.Prelude.{nat_lt, OnOk, OnErr, MatchResult}
 use Rattle.std.specs.Option.{option_map}
 use Rattle.plc_base.specs.declared.key.Rand.{Rand}
-use Rattle.plc_base.proofs.WritesLemmas.{wrote_none}
+use Rattle.store_tables.proofs.WritesLemmas.{wrote_none}
 use Rattle.group_keys.specs.KeyBook as book
 use Rattle.node_rules.specs.declared.refusal.RandomFault.{RandomFault}
 use Rattle.node_rules.specs.declared.refusal.RandomFault.TheVariants.{RandomsFull}

@@ -3,10 +3,10 @@ use Rattle.std.proofs.Common.{◌≡◌, ℕ, Bool, true, false, [], length, get
 use Rattle.std.specs.Prelude.{if◌then◌else◌, ◌||◌, nat_lt, is_some, slice_get, IfSome}
 use Rattle.std.specs.Option.{option_map_or, option_and_then}
 use Rattle.std.proofs.lemmas.Option.{slice_get-get_or}
-use Rattle.plc_base.specs.SlotTables as slots
+use Rattle.store_tables.specs.SlotTables as slots
 use Rattle.plc_base.specs.declared.address.Eui.{Eui}
 use Rattle.plc_base.specs.declared.out_frame.Out.{Out}
-use Rattle.plc_base.proofs.SlotTables.{found}
+use Rattle.store_tables.proofs.SlotTables.{found}
 use Rattle.group_keys.specs.declared.key_book.BookEntry.{BookEntry}
 use Rattle.group_keys.specs.KeyBook as book
 use Rattle.joining_messages.specs.declared.message.JoinBody.TheVariants.{Kick}

@@ -2,8 +2,8 @@
 use Rattle.std.proofs.Common.{◌≡◌, ℕ, ◌≤◌, Bool, true, false, List, length, Option, Some, None, Result, refl, arith}
 use Rattle.std.specs.Prelude.{if◌then◌else◌, unwrap_or}
 use Rattle.std.specs.Option.{option_map_or}
-use Rattle.plc_base.specs.Writes.{puts_of}
-use Rattle.plc_base.proofs.SlotTables.{found}
+use Rattle.store_tables.specs.Writes.{puts_of}
+use Rattle.store_tables.proofs.SlotTables.{found}
 use Rattle.mesh_header.specs.declared.unit.Mesh.{Mesh as MeshHeader}
 use Rattle.mesh_header.specs.declared.unit.Unit.{Unit as MeshUnit}
 use Rattle.mesh_header.specs.declared.unit.Unit.TheVariants as units

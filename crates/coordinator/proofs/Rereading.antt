@@ -3,8 +3,8 @@ use Rattle.std.proofs.Common.{◌≡◌, ℕ, zero, suc, ◌+◌, ◌<◌, ◌�
 use Rattle.std.specs.FinMap.{get}
 use Rattle.plc_base.specs.Keeper.{Records, SameOutside}
 use Rattle.plc_base.specs.declared.keeper.BadStore.{BadStore}
-use Rattle.plc_base.specs.SlotTables as slots
-use Rattle.plc_base.proofs.Opening.{opened_from-empty, opened_from-damaged, opened_from-more, opened_from-none_left}
+use Rattle.store_tables.specs.SlotTables as slots
+use Rattle.store_tables.proofs.Opening.{opened_from-empty, opened_from-damaged, opened_from-more, opened_from-none_left}
 use Rattle.frame_counters.specs.SendCounter as counter
 use Rattle.frame_counters.specs.PeerMarks as marks
 use Rattle.group_keys.specs.KeyRing as ring

@@ -3,11 +3,11 @@ use Rattle.std.proofs.Common.{◌≡◌, ℕ, Bool, true, false, List, [], ◌�
 use Rattle.std.specs.Prelude.{IfSome}
 use Rattle.std.specs.Option.{option_map, option_map_or}
 use Rattle.plc_base.specs.Keeper.{Write}
-use Rattle.plc_base.specs.Writes.{Wrote}
+use Rattle.store_tables.specs.Writes.{Wrote}
 use Rattle.plc_base.specs.declared.address.Eui.{Eui}
 use Rattle.plc_base.specs.declared.out_frame.Out.{Out}
 use Rattle.plc_base.specs.declared.tags.TagList.{TagList}
-use Rattle.plc_base.proofs.WritesLemmas.{wrote_none}
+use Rattle.store_tables.proofs.WritesLemmas.{wrote_none}
 use Rattle.joining_messages.specs.declared.message.JoinMessage.{JoinMessage}
 use Rattle.joining_base.specs.Reasons.{dropped_send}
 use Rattle.node_rules.specs.declared.heard.SentHow.{SentHow}

@@ -6,10 +6,10 @@ use Rattle.std.specs.FinMap.{get}
 use Rattle.plc_base.specs.Grant.{Granted}
 use Rattle.plc_base.specs.declared.key.Key.{Key}
 use Rattle.plc_base.specs.Keeper.{Records, Store, Write}
-use Rattle.plc_base.specs.Writes.{Writes, Wrote, puts_of}
-use Rattle.plc_base.specs.SlotTables.{slot_of}
+use Rattle.store_tables.specs.Writes.{Writes, Wrote, puts_of}
+use Rattle.store_tables.specs.SlotTables.{slot_of}
 use Rattle.plc_base.specs.declared.out_frame.Out.{Out}
-use Rattle.plc_base.proofs.StoreLemmas.{stores_elsewhere}
+use Rattle.store_tables.proofs.StoreLemmas.{stores_elsewhere}
 use Rattle.frame_counters.specs.SendCounter.{Counting, reserve_write, passes, limit_write, raised}
 use Rattle.routing_set.specs.OwnNumber as number
 use Rattle.group_keys.specs.KeyRing.{Ring, IsOldRingOrKept, with_key, with_active}

@@ -3,7 +3,7 @@ use Rattle.std.specs.Prelude.{◌≡◌, ℕ, true, false, [], IsSome}
 use Rattle.plc_base.specs.declared.address.Eui.{Eui}
 use Rattle.plc_base.specs.declared.tags.TagList.{TagList}
 use Rattle.plc_base.specs.Grant.{Granted}
-use Rattle.plc_base.specs.Writes.{puts_of}
+use Rattle.store_tables.specs.Writes.{puts_of}
 use Rattle.group_keys.specs.declared.key_book.BookEntry.{BookEntry}
 use Rattle.group_keys.specs.KeyBook as book
 use Rattle.eap_psk.specs.declared.server.Agreed.{Agreed}

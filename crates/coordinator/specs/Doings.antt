@@ -1,6 +1,6 @@
 -- What the coordinator has done of a draft so far.
 use Rattle.std.specs.Prelude.{◌≡◌, Bool, if◌then◌else◌, Some, None}
-use Rattle.plc_base.specs.Writes.{Wrote}
+use Rattle.store_tables.specs.Writes.{Wrote}
 use Rattle.node_rules.specs.Memory.{Memory}
 use Rattle.node_rules.specs.Drafts.{Draft}
 use Rattle.node_rules.specs.States.{State}

@@ -1,7 +1,7 @@
 //! The coordinator.
 ghost use Rattle.std.specs.Prelude.{◌≡◌, Some, None, Ok, Err, IfSome, IfNone, IsSome, IfOk, IfErr, is_some};
 ghost use Rattle.std.specs.Option.{option_map, option_and_then};
-ghost use Rattle.plc_base.specs.SlotTables.{IsGapless};
+ghost use Rattle.store_tables.specs.SlotTables.{IsGapless};
 ghost use Rattle.frame_counters.specs.PeerMarks.{peers};
 ghost use Rattle.routing_set.specs.RoutingSet.{ranks};
 ghost use Rattle.group_keys.specs.KeyBook as book;

@@ -1,6 +1,6 @@
 //! How a coordinator begins over what its keeper holds.
 ghost use Rattle.std.specs.Prelude.{◌≡◌, [], false, is_some, Ok, Err, IfSome, IsSome, IfOk, IfErr};
-ghost use Rattle.plc_base.specs.SlotTables as slots;
+ghost use Rattle.store_tables.specs.SlotTables as slots;
 ghost use Rattle.frame_counters.specs.PeerMarks.{peers};
 ghost use Rattle.routing_set.specs.RoutingSet.{ranks};
 ghost use Rattle.group_keys.specs.KeyBook as book;

@@ -2,8 +2,8 @@
 use Rattle.std.specs.Prelude.{◌≡◌, ℕ, ◌+◌, ◌%◌, nat_le, if◌then◌else◌, List, Option, Some, None, Result, Ok}
 use Rattle.std.specs.FinMap.{get}
 use Rattle.plc_base.specs.Keeper.{Records, Write}
-use Rattle.plc_base.specs.NumberSlots.{number_in, read_result, number_write}
-use Rattle.plc_base.specs.declared.number_slot.NumberSlot.{NumberSlot}
+use Rattle.store_tables.specs.NumberSlots.{number_in, read_result, number_write}
+use Rattle.store_tables.specs.declared.number_slot.NumberSlot.{NumberSlot}
 use Rattle.plc_base.specs.declared.keeper.BadStore.{BadStore}
 
 -- where it is stored: 2 octets at slot 4, and 0 where none is there

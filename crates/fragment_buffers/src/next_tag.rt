@@ -4,7 +4,8 @@ ghost use Rattle.plc_base.specs.Keeper.{Stores, OutsideStays};
 ghost use Rattle.std.specs.FinMap.{get};
 ghost use Rattle.fragment_buffers.specs.NextTag.{tag_in, tag_slot, IsKept, tag_after, tag_write, take_write, tag_left};
 
-use plc_base::{BadStore, Failed, Keeper, NumberSlot};
+use plc_base::{BadStore, Failed, Keeper};
+use store_tables::NumberSlot;
 use std::marker::Model;
 
 /// Names the pieces of each datagram that is cut by a tag of its own, even over losses of power: the next tag is always stored

@@ -1,10 +1,10 @@
 -- A counter is admitted only above all that were admitted of its sender.
 use Rattle.std.proofs.Common.{◌≡◌, ℕ, ◌^◌, ◌<◌, true, List, Option, Some, Ok}
 use Rattle.plc_base.specs.Keeper.{Records}
-use Rattle.plc_base.specs.Marks.{has_room}
-use Rattle.plc_base.specs.AdmittedNumbers.{Admitted, AllEarlier}
-use Rattle.plc_base.proofs.MarkEntries.{room_has}
-use Rattle.plc_base.proofs.AdmittedNumbers as numbers
+use Rattle.store_tables.specs.Marks.{has_room}
+use Rattle.store_tables.specs.AdmittedNumbers.{Admitted, AllEarlier}
+use Rattle.store_tables.proofs.MarkEntries.{room_has}
+use Rattle.store_tables.proofs.AdmittedNumbers as numbers
 use Rattle.frame_counters.specs.declared.fault.PeerFault.TheVariants.{Replayed, PeersFull}
 use Rattle.frame_counters.specs.PeerMarks.{Table, room_for}
 use Rattle.frame_counters.specs.Admitted.{Admits, begins, keeps, fails, restarts, elsewhere}

@@ -1,8 +1,8 @@
 -- No counter is given out twice.
 use Rattle.std.proofs.Common.{ℕ, List, Option, Some}
 use Rattle.plc_base.specs.Keeper.{Records}
-use Rattle.plc_base.specs.Numberings.{AllBelow}
-use Rattle.plc_base.proofs.GivenNumbers.{HoldsGiven, given_begins, given_more, given_lost, given_restarts, given_elsewhere}
+use Rattle.store_tables.specs.Numberings.{AllBelow}
+use Rattle.store_tables.proofs.GivenNumbers.{HoldsGiven, given_begins, given_more, given_lost, given_restarts, given_elsewhere}
 use Rattle.frame_counters.specs.SendCounter.{Counting}
 use Rattle.frame_counters.specs.Given.{Gives, begins, reserves, fails, restarts, elsewhere}
 

@@ -3,11 +3,11 @@ use Rattle.std.proofs.Common.{◌≡◌, ◌≢◌, ℕ, ◌+◌, ◌<◌, ◌�
 use Rattle.std.specs.Prelude.{if◌then◌else◌, ◌==◌, nat_le}
 use Rattle.std.specs.Option.{option_map_or}
 use Rattle.std.proofs.lemmas.Bool.Decides.{nat_tests}
-use Rattle.plc_base.specs.Writes.{puts_of}
-use Rattle.plc_base.specs.LeadingPuts.{PutsLead}
-use Rattle.plc_base.proofs.LeadingPuts.{leads_when}
-use Rattle.plc_base.proofs.MarkEntries.{room_has}
-use Rattle.plc_base.proofs.LeadingMarks.{admissions_lead}
+use Rattle.store_tables.specs.Writes.{puts_of}
+use Rattle.store_tables.specs.LeadingPuts.{PutsLead}
+use Rattle.store_tables.proofs.LeadingPuts.{leads_when}
+use Rattle.store_tables.proofs.MarkEntries.{room_has}
+use Rattle.store_tables.proofs.LeadingMarks.{admissions_lead}
 use Rattle.frame_counters.specs.declared.fault.PeerFault.TheVariants.{Replayed, PeersFull, Store}
 use Rattle.frame_counters.specs.SendCounter.{Counting, passes, raised, limit_write}
 use Rattle.frame_counters.specs.PeerMarks as marks

@@ -3,7 +3,7 @@ use Rattle.std.proofs.Common.{◌≡◌, ◌⊎◌, ℕ, ◌^◌, ◌<◌, Some}
 use Rattle.std.specs.FinMap.{get, insert}
 use Rattle.byteorder.specs.Endian.{big_bytes}
 use Rattle.plc_base.specs.Keeper.{Records, SameOutside}
-use Rattle.plc_base.proofs.StoredLimits as limits
+use Rattle.store_tables.proofs.StoredLimits as limits
 use Rattle.frame_counters.specs.SendCounter.{Counting, IsKept, limit_in, limit_slot, stored_limit}
 
 -- a limit that was stored is read back

@@ -1,6 +1,6 @@
 -- What the records of the senders give, and where there is room: the lemmas on marks at the slots 0100 to 013F.
 use Rattle.std.proofs.Common.{◌≡◌, ℕ, ◌^◌, ◌<◌, ◌≤◌, Some, None, Ok, length}
-use Rattle.plc_base.proofs.MarkEntries as entries
+use Rattle.store_tables.proofs.MarkEntries as entries
 use Rattle.frame_counters.specs.declared.fault.PeerFault.TheVariants.{Replayed, PeersFull}
 use Rattle.frame_counters.specs.PeerMarks.{Peer, Table, peer_in, octets_of, at_rest, place_of, room_for}
 

@@ -2,8 +2,8 @@
 use Rattle.std.specs.Prelude.{◌≡◌, ℕ, ◌^◌, ◌<◌, true, false, List, [], ◌∷◌, Option, Some, None, Ok}
 use Rattle.std.specs.FinMap.{get}
 use Rattle.plc_base.specs.Keeper.{Records, Store, Stores}
-use Rattle.plc_base.specs.SlotTables.{IsGapless, slot_of, opened}
-use Rattle.plc_base.specs.AdmittedNumbers.{Admitted}
+use Rattle.store_tables.specs.SlotTables.{IsGapless, slot_of, opened}
+use Rattle.store_tables.specs.AdmittedNumbers.{Admitted}
 use Rattle.frame_counters.specs.PeerMarks.{Table, peers, room_for, keep_write, kept_after}
 
 -- What was admitted, the last first, since some opening; the marks, none where a put failed and they were not opened again;

@@ -2,7 +2,7 @@
 use Rattle.std.specs.Prelude.{◌≡◌, ℕ, ◌+◌, ◌^◌, ◌<◌, ◌≤◌, true, false, List, [], ◌++◌, Option, Some, None, Ok}
 use Rattle.std.specs.FinMap.{get}
 use Rattle.plc_base.specs.Keeper.{Records, Store, Stores}
-use Rattle.plc_base.specs.Numberings.{run_of}
+use Rattle.store_tables.specs.Numberings.{run_of}
 use Rattle.frame_counters.specs.SendCounter.{Counting, opened, limit_slot, reserve_write, reserved}
 
 -- What was given out, the last first, since some opening; the counter, none where a put failed and it was not opened again;

@@ -1,10 +1,10 @@
 -- What holds of counters and marks, whatever becomes of their puts.
 use Rattle.std.specs.Prelude.{◌≡◌, ◌≢◌, ℕ, ◌+◌, ◌<◌, ◌≤◌, ◌^◌, Ok, Err, None}
 use Rattle.plc_base.specs.Keeper.{Records}
-use Rattle.plc_base.specs.Writes.{puts_of}
-use Rattle.plc_base.specs.Numberings as numbers
-use Rattle.plc_base.specs.Marks as tables
-use Rattle.plc_base.specs.LeadingPuts.{PutsLead}
+use Rattle.store_tables.specs.Writes.{puts_of}
+use Rattle.store_tables.specs.Numberings as numbers
+use Rattle.store_tables.specs.Marks as tables
+use Rattle.store_tables.specs.LeadingPuts.{PutsLead}
 use Rattle.frame_counters.specs.declared.fault.PeerFault.TheVariants.{Store}
 use Rattle.frame_counters.specs.SendCounter as counters
 use Rattle.frame_counters.specs.PeerMarks as marks

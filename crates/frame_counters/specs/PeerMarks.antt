@@ -1,10 +1,10 @@
--- The marks of the senders, and what the calls on them do: a table of marks (`Marks` of `plc_base`) at the slots 0100 to 013F.
+-- The marks of the senders, and what the calls on them do: a table of marks (`Marks` of `store_tables`) at the slots 0100 to 013F.
 use Rattle.std.specs.Prelude.{ℕ, Bool, true, false, if◌then◌else◌, List, Option, None, Result, Ok, Err}
 use Rattle.std.specs.Coded.{Coded}
 use Rattle.plc_base.specs.Keeper.{Records, Write}
-use Rattle.plc_base.specs.SlotTables as slots
-use Rattle.plc_base.specs.Marks as marks
-use Rattle.plc_base.specs.declared.marks.Mark.{Mark}
+use Rattle.store_tables.specs.SlotTables as slots
+use Rattle.store_tables.specs.Marks as marks
+use Rattle.store_tables.specs.declared.marks.Mark.{Mark}
 use Rattle.frame_counters.specs.declared.fault.PeerFault.{PeerFault}
 use Rattle.frame_counters.specs.declared.fault.PeerFault.TheVariants.{Replayed, PeersFull, Store}
 

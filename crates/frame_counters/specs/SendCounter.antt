@@ -1,10 +1,10 @@
--- The counter of the frames that a node sends, and what its calls do to it: a numbering (`Numberings` of `plc_base`) whose
+-- The counter of the frames that a node sends, and what its calls do to it: a numbering (`Numberings` of `store_tables`) whose
 -- limit stands at slot 2, 1,024 ahead.
 use Rattle.std.specs.Prelude.{ℕ, Bool, true, false, if◌then◌else◌, List, Option, None, Result, Ok, Err}
 use Rattle.std.specs.Coded.{Coded}
 use Rattle.plc_base.specs.Keeper.{Records, Write}
-use Rattle.plc_base.specs.Numberings as numbers
-use Rattle.plc_base.specs.declared.number_slot.NumberSlot.{NumberSlot}
+use Rattle.store_tables.specs.Numberings as numbers
+use Rattle.store_tables.specs.declared.number_slot.NumberSlot.{NumberSlot}
 use Rattle.plc_base.specs.declared.keeper.BadStore.{BadStore}
 use Rattle.frame_counters.specs.declared.fault.CounterFault.{CounterFault}
 use Rattle.frame_counters.specs.declared.fault.CounterFault.TheVariants.{Spent, Store}

@@ -3,14 +3,15 @@ ghost use Rattle.std.specs.Prelude.{◌≡◌, ◌≤◌, Ok, Some, None, List, 
 ghost use Rattle.std.specs.Bool.{OnTrue};
 ghost use Rattle.std.specs.Ordering.{nat_cmp};
 ghost use Rattle.plc_base.specs.Keeper.{Stores, OutsideStays, IsOldOrNew};
-ghost use Rattle.plc_base.specs.SlotTables.{IsTable, IsGapless, IsReading, IsBad, Reopens, opened};
-ghost use Rattle.plc_base.specs.AdmittedNumbers.{Admitted, AllEarlier};
+ghost use Rattle.store_tables.specs.SlotTables.{IsTable, IsGapless, IsReading, IsBad, Reopens, opened};
+ghost use Rattle.store_tables.specs.AdmittedNumbers.{Admitted, AllEarlier};
 ghost use Rattle.frame_counters.specs.Admitted.{Admits};
 ghost use Rattle.frame_counters.specs.PeerMarks.{Table, peers, IsKept, IsCovered, mark_of, room_for, keep_write, kept_after, admit_result, admit_write, admit_after, is_stored};
 
 use crate::PeerFault;
 use arrayvec::ArrayVec;
-use plc_base::{BadStore, Failed, Keeper, Mark, MarkTable, Short};
+use plc_base::{BadStore, Failed, Keeper, Short};
+use store_tables::{Mark, MarkTable};
 use std::marker::Model;
 
 /// One sender: the counter that was last admitted of it, and the mark that is stored, which is no lower.

@@ -3,11 +3,12 @@ ghost use Rattle.std.specs.Prelude.{◌≡◌, ◌+◌, ◌<◌, ◌≤◌, IfOk
 ghost use Rattle.std.specs.Bool.{OnTrue};
 ghost use Rattle.plc_base.specs.Keeper.{Stores, OutsideStays, IsOldOrNew};
 ghost use Rattle.frame_counters.specs.SendCounter.{IsKept, IsOldLimitOrKept, stored_limit, opened, reserve_write, reserved, limit_write, counting_at, take_result, take_write, take_after, is_stored, preset_result};
-ghost use Rattle.plc_base.specs.Numberings.{AllBelow};
+ghost use Rattle.store_tables.specs.Numberings.{AllBelow};
 ghost use Rattle.frame_counters.specs.Given.{Gives};
 
 use crate::CounterFault;
-use plc_base::{BadStore, Failed, Keeper, Numbering};
+use plc_base::{BadStore, Failed, Keeper};
+use store_tables::Numbering;
 use std::marker::Model;
 
 /// Gives out each counter once, also over losses of power: a limit is stored ahead of the counters that are given out,

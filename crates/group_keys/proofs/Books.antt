@@ -5,9 +5,9 @@ use Rattle.std.specs.Cmp.Lexicographic.{pointwise}
 use mathlib.Core.Bool.{beq}
 use lib.Pointwise.{bytes_decides}
 use Rattle.plc_base.specs.declared.address.Eui.{Eui}
-use Rattle.plc_base.specs.SlotTables as slots
+use Rattle.store_tables.specs.SlotTables as slots
 use Rattle.std.specs.Option.{option_map, option_map_or, option_eq}
-use Rattle.plc_base.proofs.SlotTables.{place_of-set, place_of-push}
+use Rattle.store_tables.proofs.SlotTables.{place_of-set, place_of-push}
 use Rattle.group_keys.specs.declared.fault.BookFault.{BookFault}
 use Rattle.std.proofs.lemmas.Bool.Decides.{nat_tests}
 use Rattle.byteorder.specs.Endian.{big_number, big_bytes}

@@ -6,12 +6,12 @@ use Rattle.std.specs.FinMap.{insert}
 use Rattle.std.proofs.lemmas.Bool.{ltb-true}
 use Rattle.std.proofs.lemmas.List.Elements.{All-set, All-push}
 use Rattle.plc_base.specs.Keeper.{Records}
-use Rattle.plc_base.specs.Writes.{puts_of}
-use Rattle.plc_base.specs.LeadingPuts.{PutsLead}
-use Rattle.plc_base.proofs.LeadingPuts.{leads_one, leads_beside}
-use Rattle.plc_base.proofs.LookUps.{entry_set, entry_set_other, entry_push, entry_push_other, place_push}
-use Rattle.plc_base.proofs.StoreLemmas.{get-insert_same}
-use Rattle.plc_base.proofs.SlotTables.{found, free_new, free_found, IsTable-set, IsTable-push, stored_set, stored_push, place_of-set}
+use Rattle.store_tables.specs.Writes.{puts_of}
+use Rattle.store_tables.specs.LeadingPuts.{PutsLead}
+use Rattle.store_tables.proofs.LeadingPuts.{leads_one, leads_beside}
+use Rattle.store_tables.proofs.LookUps.{entry_set, entry_set_other, entry_push, entry_push_other, place_push}
+use Rattle.store_tables.proofs.StoreLemmas.{get-insert_same}
+use Rattle.store_tables.proofs.SlotTables.{found, free_new, free_found, IsTable-set, IsTable-push, stored_set, stored_push, place_of-set}
 use Rattle.plc_base.specs.declared.address.Eui.{Eui}
 use Rattle.group_keys.specs.declared.key_book.BookEntry.{BookEntry}
 use Rattle.group_keys.specs.KeyRing as rings

@@ -9,7 +9,7 @@ use Rattle.byteorder.specs.Numbers.{big_number-reads_back}
 use Rattle.plc_base.specs.Keeper.{Records, Store, Stores, SameOutside}
 use Rattle.plc_base.specs.Grant.{Granted, IsGrant}
 use Rattle.plc_base.specs.declared.key.Key.{Key}
-use Rattle.plc_base.proofs.StoreLemmas.{get-insert_same}
+use Rattle.store_tables.proofs.StoreLemmas.{get-insert_same}
 use Rattle.group_keys.specs.Fields.{held_in, held_octets}
 use Rattle.group_keys.specs.KeyRing.{Ring, IsKept, ring_slot, ring_at, ring_in, grant_in, grant_of, ring_octets, ring_write}
 

@@ -6,7 +6,7 @@ use mathlib.Core.Bool.{beq}
 use Rattle.std.specs.Coded.{Coded, code_by, coded×, coded_ℕ, coded_bool, coded_list, coded_option}
 use Rattle.byteorder.specs.Endian.{big_number, big_bytes}
 use Rattle.plc_base.specs.Keeper.{Records, Write}
-use Rattle.plc_base.specs.SlotTables as slots
+use Rattle.store_tables.specs.SlotTables as slots
 use Rattle.plc_base.specs.Grant.{Granted, key_code}
 pub use Rattle.plc_base.specs.Addresses.{eui_number}
 use Rattle.plc_base.specs.declared.address.Eui.{Eui}

@@ -2,9 +2,9 @@
 use Rattle.std.specs.Prelude.{◌≡◌, ◌≢◌, ℕ, ◌+◌, ◌<◌, true, All, Option, Some, None, IfSome, length}
 use Rattle.plc_base.specs.Grant.{Granted, IsGrant}
 use Rattle.plc_base.specs.Keeper.{Records}
-use Rattle.plc_base.specs.Writes.{puts_of}
-use Rattle.plc_base.specs.LeadingPuts.{PutsLead}
-use Rattle.plc_base.specs.SlotTables as slots
+use Rattle.store_tables.specs.Writes.{puts_of}
+use Rattle.store_tables.specs.LeadingPuts.{PutsLead}
+use Rattle.store_tables.specs.SlotTables as slots
 use Rattle.plc_base.specs.declared.address.Eui.{Eui}
 use Rattle.plc_base.specs.declared.key.Key.{Key}
 use Rattle.group_keys.specs.Fields.{held_octets}

@@ -5,7 +5,7 @@ use Rattle.std.specs.List.{list_any}
 use Rattle.std.specs.Option.{option_map, option_map_or}
 use Rattle.std.proofs.lemmas.Bool.{cases_eq, eqb-false, eqb-true, or_parts}
 use Rattle.std.proofs.lemmas.Option.{same_Some}
-use Rattle.plc_base.proofs.SlotTables.{slice_get-set, slice_get-set_other, slice_get-map, slice_get-push_other}
+use Rattle.store_tables.proofs.SlotTables.{slice_get-set, slice_get-set_other, slice_get-map, slice_get-push_other}
 use Rattle.plc_base.specs.declared.address.Eui.{Eui}
 use Rattle.plc_base.specs.declared.key.Key.{Key}
 use Rattle.plc_base.specs.declared.key.Rand.{Rand}
@@ -75,7 +75,7 @@ use Rattle.line_rules.specs.Worlds.{Pairing}
 use Rattle.line_rules.specs.Runs.{one_of}
 use Rattle.line_rules.specs.Answers.{CompletedJoining}
 use Rattle.line_rules.specs.Steps.{number_of, done_by, tag_of, is_taken}
-use Rattle.plc_base.proofs.SlotTables.{slice_get-push_other}
+use Rattle.store_tables.proofs.SlotTables.{slice_get-push_other}
 use Rattle.line_laws.proofs.IssueNodes.{installs_rest}
 use Rattle.node_rules.specs.Laws.{IsWhole, IsCutOff}
 use Rattle.node_rules.specs.Plans.{carry_out}

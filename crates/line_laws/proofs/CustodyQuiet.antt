@@ -16,7 +16,7 @@ use Rattle.node_rules.specs.Meters as meters
 use Rattle.node_rules.specs.Coordinators as coordinators
 use Rattle.node_rules.specs.MemoryDrafts.{with_station, give_random, given_ends}
 use Rattle.std.specs.FinMap.{get}
-use Rattle.plc_base.specs.SlotTables as slots
+use Rattle.store_tables.specs.SlotTables as slots
 use Rattle.frame_counters.specs.SendCounter as counter
 use Rattle.frame_counters.specs.PeerMarks as marks
 use Rattle.group_keys.specs.KeyRing as ring

@@ -10,7 +10,7 @@ use Rattle.std.proofs.lemmas.Option.{same_Some}
 use Rattle.plc_base.specs.Grant.{Granted}
 use Rattle.plc_base.specs.declared.address.Eui.{Eui}
 use Rattle.plc_base.specs.declared.key.Key.{Key}
-use Rattle.plc_base.proofs.SlotTables.{slice_get-set, slice_get-set_other}
+use Rattle.store_tables.proofs.SlotTables.{slice_get-set, slice_get-set_other}
 use Rattle.group_keys.specs.KeyBook as books
 use Rattle.group_keys.specs.KeyRing as ring
 use Rattle.group_keys.specs.declared.fault.RingFault.{RingFault}

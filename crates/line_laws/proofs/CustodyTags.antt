@@ -5,7 +5,7 @@ use Rattle.std.specs.List.{list_any}
 use Rattle.std.specs.Option.{option_to_list}
 use Rattle.std.proofs.lemmas.Bool.{eqb-true, and_parts, or_parts, cases_eq}
 use Rattle.std.proofs.lemmas.Option.{same_Some}
-use Rattle.plc_base.proofs.SlotTables.{slice_get-set, slice_get-set_other}
+use Rattle.store_tables.proofs.SlotTables.{slice_get-set, slice_get-set_other}
 use Rattle.line_laws.proofs.Worlds.{at_place, within}
 use Rattle.line_rules.specs.Answers.{frame_word}
 use Rattle.std.proofs.lemmas.List.Elements.{All-head, All-tail}

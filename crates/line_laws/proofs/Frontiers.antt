@@ -6,13 +6,13 @@ use Rattle.std.specs.Option.{option_map_or}
 use Rattle.std.specs.FinMap.{get, insert}
 use Rattle.byteorder.specs.Endian.{big_bytes}
 use Rattle.plc_base.specs.Keeper.{Records, Write}
-use Rattle.plc_base.specs.Writes.{puts_of}
-use Rattle.plc_base.specs.SlotTables as slots
+use Rattle.store_tables.specs.Writes.{puts_of}
+use Rattle.store_tables.specs.SlotTables as slots
 use Rattle.plc_base.specs.declared.keeper.Cut.{Cut}
 use Rattle.plc_base.specs.declared.address.Eui.{Eui}
 use Rattle.plc_base.specs.declared.key.Key.{Key}
 use Rattle.plc_base.specs.Grant.{Granted}
-use Rattle.plc_base.proofs.StoreLemmas.{get-insert_other}
+use Rattle.store_tables.proofs.StoreLemmas.{get-insert_other}
 use Rattle.frame_counters.specs.SendCounter as counter
 use Rattle.frame_counters.specs.PeerMarks as marks
 use Rattle.frame_counters.proofs.Limits.{limit_in-insert}

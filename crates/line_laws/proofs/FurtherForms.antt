@@ -7,8 +7,8 @@ use Rattle.std.proofs.lemmas.Bool.{ltb-false}
 use Rattle.std.proofs.lemmas.List.{length-append}
 use Rattle.std.proofs.lemmas.List.Elements.{All-nil, All-cons}
 use Rattle.plc_base.specs.Keeper.{Write}
-use Rattle.plc_base.specs.Writes.{puts_of}
-use Rattle.plc_base.specs.Numberings.{passes, limit_write, raised}
+use Rattle.store_tables.specs.Writes.{puts_of}
+use Rattle.store_tables.specs.Numberings.{passes, limit_write, raised}
 use Rattle.mesh_header.specs.declared.unit.Unit.TheVariants.{Local}
 use Rattle.frame_counters.specs.SendCounter as counter
 use Rattle.broadcast_log.specs.declared.broadcast.Broadcast.{Broadcast}

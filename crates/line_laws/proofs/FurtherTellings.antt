@@ -7,14 +7,14 @@ use Rattle.std.proofs.lemmas.Bool.{ltb-false}
 use Rattle.std.proofs.lemmas.List.{append_assoc, length-append}
 use Rattle.std.proofs.lemmas.List.Elements.{All-append, All-cons, All-nil}
 use Rattle.plc_base.specs.declared.tags.PairTag.{PairTag}
-use Rattle.plc_base.proofs.SlotTables.{slice_get-set}
-use Rattle.plc_base.proofs.MarkEntries.{keep_write-within, room_has}
+use Rattle.store_tables.proofs.SlotTables.{slice_get-set}
+use Rattle.store_tables.proofs.MarkEntries.{keep_write-within, room_has}
 use Rattle.plc_base.proofs.Faults.{then_none}
 use Rattle.plc_base.specs.declared.keeper.BadStore.{BadStore}
 use Rattle.plc_base.specs.declared.key.Key.{Key}
 use Rattle.plc_base.specs.Keeper.{Records, Write}
-use Rattle.plc_base.specs.LeadingPuts.{Reads}
-use Rattle.plc_base.specs.Writes.{puts_of}
+use Rattle.store_tables.specs.LeadingPuts.{Reads}
+use Rattle.store_tables.specs.Writes.{puts_of}
 use Rattle.broadcast_log.specs.declared.broadcast.Broadcast.{Broadcast}
 use Rattle.broadcast_log.specs.declared.fault.LogFault.{LogFault}
 use Rattle.broadcast_log.specs.declared.fault.LogFault.TheVariants as log_faults

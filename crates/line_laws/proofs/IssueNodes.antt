@@ -12,7 +12,7 @@ use Rattle.plc_base.specs.declared.key.Rand.{Rand}
 use Rattle.plc_base.specs.declared.tags.PairTag.{PairTag}
 use Rattle.plc_base.specs.declared.tags.PairTag.TheVariants as tags
 use Rattle.plc_base.specs.Grant.{Granted}
-use Rattle.plc_base.specs.SlotTables as slots
+use Rattle.store_tables.specs.SlotTables as slots
 use Rattle.group_keys.specs.KeyRing as ring
 use Rattle.group_keys.specs.KeyBook as book
 use Rattle.joining_messages.specs.Grants.{IsGranted, IsPlace, grant_spelling}

@@ -7,7 +7,7 @@ use Rattle.std.proofs.lemmas.Bool.{ltb-true, ltb-false}
 use Rattle.std.proofs.lemmas.List.Elements.{All-nil, All-cons}
 use Rattle.std.proofs.lemmas.List.Sums.{sum_by-cons}
 use Rattle.plc_base.specs.Grant.{Granted}
-use Rattle.plc_base.specs.Writes.{puts_of}
+use Rattle.store_tables.specs.Writes.{puts_of}
 use Rattle.plc_base.specs.declared.key.Key.{Key}
 use Rattle.frame_counters.specs.SendCounter as counter
 use Rattle.group_keys.specs.KeyBook as books

@@ -10,7 +10,7 @@ use Rattle.std.proofs.lemmas.List.Elements.{All-nil, All-head, All-tail}
 use Rattle.plc_base.specs.Keeper.{Records}
 use Rattle.plc_base.specs.declared.address.Eui.{Eui}
 use Rattle.plc_base.specs.declared.key.Key.{Key}
-use Rattle.plc_base.proofs.SlotTables.{slice_get-set}
+use Rattle.store_tables.proofs.SlotTables.{slice_get-set}
 use Rattle.mac_frames.specs.Faults.{frame_fault}
 use Rattle.mac_frames.specs.Reading.{head_in, body_in}
 use Rattle.mac_frames.specs.declared.head.MacHead.{MacHead}

@@ -2,10 +2,10 @@
 use Rattle.std.proofs.Common.{◌≡◌, ℕ, ◌<◌, ◌^◌, map, Option, Some, None, Result, Ok, refl, sym, subst}
 use Rattle.std.specs.Option.{option_map_or}
 use Rattle.plc_base.specs.Keeper.{Records, Write}
-use Rattle.plc_base.specs.Writes.{puts_of}
-use Rattle.plc_base.specs.LeadingPuts.{PutsLead}
-use Rattle.plc_base.specs.SlotTables as slots
-use Rattle.plc_base.proofs.Opening.{reopened}
+use Rattle.store_tables.specs.Writes.{puts_of}
+use Rattle.store_tables.specs.LeadingPuts.{PutsLead}
+use Rattle.store_tables.specs.SlotTables as slots
+use Rattle.store_tables.proofs.Opening.{reopened}
 use Rattle.frame_counters.specs.PeerMarks as marks
 use Rattle.frame_counters.specs.Laws.{AreMarksIn}
 use Rattle.frame_counters.proofs.Leading.{admission_leads}

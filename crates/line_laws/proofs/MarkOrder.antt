@@ -7,7 +7,7 @@ use Rattle.std.proofs.lemmas.Bool.Decides.{nat_tests}
 use Rattle.std.proofs.lemmas.List.{length-map, length-append, get_or-map, get_or-set_same, get_or-set_other, get_or_append_left, get_or_push}
 use Rattle.std.proofs.lemmas.List.Sums.{position_or_len_is}
 use Rattle.std.proofs.lemmas.List.Elements.{All-push, All-set}
-use Rattle.plc_base.proofs.SlotTables.{found, apart, same_place, place_of-set, place_of-push}
+use Rattle.store_tables.proofs.SlotTables.{found, apart, same_place, place_of-set, place_of-push}
 use Rattle.frame_counters.specs.declared.fault.PeerFault.TheVariants.{Replayed, PeersFull}
 use Rattle.frame_counters.specs.PeerMarks.{Peer}
 use Rattle.frame_counters.specs.PeerMarks as marks

@@ -4,9 +4,9 @@ use Rattle.std.specs.Prelude.{is_some, if◌then◌else◌, nat_le}
 use Rattle.std.specs.Option.{option_map_or}
 use Rattle.std.proofs.lemmas.Option.{same_Some}
 use Rattle.std.proofs.lemmas.List.Elements.{All-nil}
-use Rattle.plc_base.specs.Writes.{puts_of}
-use Rattle.plc_base.specs.SlotTables as slots
-use Rattle.plc_base.proofs.SlotTables.{found}
+use Rattle.store_tables.specs.Writes.{puts_of}
+use Rattle.store_tables.specs.SlotTables as slots
+use Rattle.store_tables.proofs.SlotTables.{found}
 use Rattle.plc_base.specs.declared.address.Eui.{Eui}
 use Rattle.plc_base.specs.declared.key.Key.{Key}
 use Rattle.plc_base.specs.declared.key.Rand.{Rand}

@@ -5,7 +5,7 @@ use Rattle.std.specs.List.{filter, flat_map, find, position_or_len}
 use Rattle.std.specs.Option.{option_map, option_map_or, option_and_then, option_or}
 use Rattle.std.proofs.lemmas.List.Folds.{find-set, find-append}
 use Rattle.std.proofs.lemmas.List.Elements.{All-nil, All-cons, All-head, All-tail, All-push, All-append, All-map, All-weaker}
-use Rattle.plc_base.proofs.SlotTables.{found}
+use Rattle.store_tables.proofs.SlotTables.{found}
 use Rattle.plc_base.specs.Grant.{Granted}
 use Rattle.plc_base.specs.declared.address.Eui.{Eui}
 use Rattle.plc_base.specs.declared.key.Key.{Key}

@@ -3,9 +3,9 @@ use Rattle.std.proofs.Common.{◌≡◌, ◌<◌, true, None, List, [], ◌∷�
 use Rattle.std.specs.Prelude.{All}
 use Rattle.std.proofs.lemmas.List.Elements.{All-nil, All-map}
 use Rattle.plc_base.specs.Keeper.{Records}
-use Rattle.plc_base.specs.SlotTables as slots
-use Rattle.plc_base.proofs.SlotTables.{stored_map}
-use Rattle.plc_base.proofs.Opening.{reopened, opened_reads}
+use Rattle.store_tables.specs.SlotTables as slots
+use Rattle.store_tables.proofs.SlotTables.{stored_map}
+use Rattle.store_tables.proofs.Opening.{reopened, opened_reads}
 use Rattle.frame_counters.specs.SendCounter as counter
 use Rattle.frame_counters.specs.PeerMarks as peer_marks
 use Rattle.frame_counters.proofs.Limits.{stored_limit-kept}

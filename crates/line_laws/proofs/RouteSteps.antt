@@ -6,7 +6,7 @@ use Rattle.std.specs.Option.{option_map, option_map_or, option_and_then}
 use Rattle.std.proofs.lemmas.Bool.{eqb-false, eqb-true, or_parts}
 use Rattle.std.proofs.lemmas.List.Elements.{All-nil, All-set, All-weaker}
 use Rattle.std.proofs.lemmas.Option.{same_Some, none-some}
-use Rattle.plc_base.proofs.SlotTables.{slice_get-set_other, slice_get-map}
+use Rattle.store_tables.proofs.SlotTables.{slice_get-set_other, slice_get-map}
 use Rattle.plc_base.specs.declared.address.Eui.{Eui}
 use Rattle.plc_base.specs.declared.key.Key.{Key}
 use Rattle.plc_base.specs.declared.key.Rand.{Rand}

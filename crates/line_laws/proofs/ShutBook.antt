@@ -4,8 +4,8 @@ use Rattle.std.specs.Prelude.{if◌then◌else◌, IfSome, slice_get}
 use Rattle.std.specs.Option.{option_map_or, option_and_then}
 use Rattle.std.proofs.lemmas.Bool.{cases_eq}
 use Rattle.std.proofs.lemmas.Option.{same_Some, slice_get-get_or}
-use Rattle.plc_base.proofs.SlotTables.{found, free_found, slice_get-set, slice_get-set_other, slice_get-push, slice_get-push_other}
-use Rattle.plc_base.specs.SlotTables as slots
+use Rattle.store_tables.proofs.SlotTables.{found, free_found, slice_get-set, slice_get-set_other, slice_get-push, slice_get-push_other}
+use Rattle.store_tables.specs.SlotTables as slots
 use Rattle.plc_base.specs.Grant.{Granted}
 use Rattle.plc_base.specs.declared.address.Eui.{Eui}
 use Rattle.plc_base.specs.declared.key.Key.{Key}

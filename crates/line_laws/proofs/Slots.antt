@@ -3,8 +3,8 @@ use Rattle.std.proofs.Common.{◌≡◌, ◌≢◌, ◌⊎◌, inl, inr, ℕ, �
 use Rattle.std.proofs.lemmas.Bool.{cases_lt}
 use Rattle.std.specs.FinMap.{get, insert}
 use Rattle.plc_base.specs.Keeper.{Records, SameOutside}
-use Rattle.plc_base.proofs.StoreLemmas.{get-insert_other}
-use Rattle.plc_base.proofs.SlotTables.{stored_elsewhere}
+use Rattle.store_tables.proofs.StoreLemmas.{get-insert_other}
+use Rattle.store_tables.proofs.SlotTables.{stored_elsewhere}
 use Rattle.frame_counters.specs.SendCounter as counter
 use Rattle.frame_counters.specs.PeerMarks as marks
 use Rattle.frame_counters.proofs.Limits as counter_limits

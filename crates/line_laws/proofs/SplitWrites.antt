@@ -6,7 +6,7 @@ use Rattle.plc_base.specs.declared.address.Eui.{Eui}
 use Rattle.plc_base.specs.declared.keeper.Cut.{Cut}
 use Rattle.plc_base.specs.declared.tags.PairTag.{PairTag}
 use Rattle.plc_base.specs.Keeper.{Records, Write, succeeds, cut_after, records_after}
-use Rattle.plc_base.specs.Writes.{Written, write}
+use Rattle.store_tables.specs.Writes.{Written, write}
 use Rattle.node_rules.specs.Frames.{Sent}
 use Rattle.node_rules.specs.Memory.{Memory, Node, Role, Stored}
 use Rattle.node_rules.specs.Composing.{behind}

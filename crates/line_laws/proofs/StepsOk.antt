@@ -9,9 +9,9 @@ use Rattle.std.proofs.lemmas.Bool.{cases_eq, eqb-false, ltb-true, ltb-false, or_
 use Rattle.std.proofs.lemmas.List.{length-append, length-set, length-map}
 use Rattle.std.proofs.lemmas.List.Elements.{All-nil, All-push, All-set, All-map, All-weaker, All-filter}
 use Rattle.std.proofs.lemmas.Option.{same_Some}
-use Rattle.plc_base.proofs.SlotTables.{slice_get-set_other, slice_get-map, slice_get-push_other}
+use Rattle.store_tables.proofs.SlotTables.{slice_get-set_other, slice_get-map, slice_get-push_other}
 use Rattle.plc_base.specs.Keeper.{Records}
-use Rattle.plc_base.specs.SlotTables as slots
+use Rattle.store_tables.specs.SlotTables as slots
 use Rattle.plc_base.specs.declared.address.Eui.{Eui}
 use Rattle.plc_base.specs.declared.key.Key.{Key}
 use Rattle.plc_base.specs.declared.key.Rand.{Rand}

@@ -5,9 +5,9 @@ use Rattle.std.specs.Option.{option_map_or}
 use Rattle.std.specs.FinMap.{insert}
 use Rattle.std.proofs.lemmas.Option.{slice_get-get_or}
 use Rattle.plc_base.specs.Keeper.{Records}
-use Rattle.plc_base.specs.Writes.{puts_of}
-use Rattle.plc_base.specs.SlotTables as slots
-use Rattle.plc_base.proofs.SlotTables.{found, free_new, free_found, IsTable-set, IsTable-push, stored_set, stored_push, stored_rest}
+use Rattle.store_tables.specs.Writes.{puts_of}
+use Rattle.store_tables.specs.SlotTables as slots
+use Rattle.store_tables.proofs.SlotTables.{found, free_new, free_found, IsTable-set, IsTable-push, stored_set, stored_push, stored_rest}
 use Rattle.plc_base.specs.declared.address.Eui.{Eui}
 use Rattle.plc_base.specs.declared.key.Key.{Key}
 use Rattle.mac_frames.specs.declared.head.MacHead.{MacHead}

@@ -5,8 +5,8 @@ use Rattle.std.specs.FinMap.{get, insert}
 use Rattle.std.proofs.lemmas.Bool.{ltb-false, eqb-false}
 use Rattle.byteorder.specs.Endian.{big_bytes}
 use Rattle.plc_base.specs.Keeper.{Records}
-use Rattle.plc_base.specs.Writes.{puts_of}
-use Rattle.plc_base.proofs.StoreLemmas.{get-insert_same}
+use Rattle.store_tables.specs.Writes.{puts_of}
+use Rattle.store_tables.proofs.StoreLemmas.{get-insert_same}
 use Rattle.frame_counters.specs.SendCounter as counter
 use Rattle.frame_counters.proofs.Limits as counter_limits
 use Rattle.group_keys.specs.KeyRing as ring
@@ -16,8 +16,8 @@ use Rattle.routing_set.proofs.Limits as number_limits
 use Rattle.node_rules.specs.Memory.{StationMemory}
 use Rattle.node_rules.specs.Drafts.{tag_slot, tag_after, numbers_spent}
 use Rattle.node_rules.specs.StoreReading.{tag_in}
-use Rattle.plc_base.specs.NumberSlots.{read_result}
-use Rattle.plc_base.proofs.NumberSlots.{stored-insert}
+use Rattle.store_tables.specs.NumberSlots.{read_result}
+use Rattle.store_tables.proofs.NumberSlots.{stored-insert}
 use Rattle.fragment_buffers.specs.NextTag.{tag_at}
 use Rattle.line_laws.specs.Stores.{IsReadable, IsStationKept}
 use Rattle.line_laws.proofs.Keeping.{Leads}

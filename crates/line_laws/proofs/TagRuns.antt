@@ -13,8 +13,8 @@ use Rattle.plc_base.specs.declared.keeper.BadStore.{BadStore}
 use Rattle.plc_base.specs.declared.key.Key.{Key}
 use Rattle.plc_base.specs.Grant.{Granted}
 use Rattle.plc_base.specs.Keeper.{Records, Write}
-use Rattle.plc_base.proofs.SlotTables.{slice_get-set, slice_get-set_other}
-use Rattle.plc_base.proofs.StoreLemmas.{get-insert_other}
+use Rattle.store_tables.proofs.SlotTables.{slice_get-set, slice_get-set_other}
+use Rattle.store_tables.proofs.StoreLemmas.{get-insert_other}
 use Rattle.group_keys.specs.declared.fault.RingFault.TheVariants as ring_faults
 use Rattle.line_rules.specs.declared.event.Answer.{Answer}
 use Rattle.line_rules.specs.declared.event.Answer.TheVariants as said

@@ -6,7 +6,7 @@ use Rattle.plc_base.specs.Keeper.{Records}
 use Rattle.plc_base.specs.declared.address.Eui.{Eui}
 use Rattle.plc_base.specs.declared.key.Key.{Key}
 use Rattle.plc_base.specs.Grant.{Granted, IsGrant}
-use Rattle.plc_base.specs.SlotTables as slots
+use Rattle.store_tables.specs.SlotTables as slots
 use Rattle.frame_counters.specs.SendCounter as counter
 use Rattle.frame_counters.specs.PeerMarks as marks
 use Rattle.group_keys.specs.Fields.{held_octets}

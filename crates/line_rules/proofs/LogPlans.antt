@@ -10,14 +10,14 @@ use Rattle.std.proofs.lemmas.List.Elements.{All-nil, All-cons, All-append}
 use Rattle.std.proofs.lemmas.Option.{same_Some}
 use Rattle.plc_base.specs.Fields.{AreOctets}
 use Rattle.plc_base.specs.Keeper.{Write}
-use Rattle.plc_base.specs.Writes.{Written, write, puts_of}
+use Rattle.store_tables.specs.Writes.{Written, write, puts_of}
 use Rattle.plc_base.specs.declared.key.Rand.{Rand}
 use Rattle.plc_base.specs.declared.address.Eui.{Eui}
 use Rattle.frame_counters.specs.SendCounter as counter
 use Rattle.frame_counters.specs.PeerMarks as marks
 use Rattle.frame_counters.specs.declared.fault.PeerFault.{PeerFault}
 use Rattle.frame_counters.specs.declared.fault.PeerFault.TheVariants.{Replayed, PeersFull}
-use Rattle.plc_base.specs.Marks as tables
+use Rattle.store_tables.specs.Marks as tables
 use Rattle.plc_base.proofs.Faults.{then_none, when_none}
 use Rattle.plc_base.specs.declared.key.Key.{Key}
 use Rattle.broadcast_log.specs.declared.broadcast.Broadcast.{Broadcast}
@@ -27,12 +27,12 @@ use Rattle.broadcast_log.specs.Grammar.{Spells, spelling}
 use Rattle.broadcast_log.specs.Laws.{IsLogIn}
 use Rattle.broadcast_log.specs.Log.{Log, admitted_log, numbered_log}
 use Rattle.broadcast_log.specs.NextNumber.{is_spent, limit_in, number_put}
-use Rattle.plc_base.specs.SlotTables.{slot_of}
+use Rattle.store_tables.specs.SlotTables.{slot_of}
 use Rattle.broadcast_log.specs.OriginMarks.{keep_write, marks as log_marks, room_for}
 use Rattle.broadcast_log.specs.Reading.{broadcast_in}
 use Rattle.broadcast_log.proofs.Leading.{admission_leads, number_leads}
 use Rattle.broadcast_log.proofs.Spellings.{broadcast_spelled}
-use Rattle.plc_base.specs.LeadingPuts.{PutsLead, Reads}
+use Rattle.store_tables.specs.LeadingPuts.{PutsLead, Reads}
 use Rattle.path_requests.specs.declared.message.PathMessage.{PathMessage}
 use Rattle.path_requests.specs.declared.step.PathStep.{PathStep}
 use Rattle.path_requests.specs.declared.step.PathStep.TheVariants.{Forward, Answer, Done}

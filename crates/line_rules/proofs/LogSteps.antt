@@ -8,10 +8,10 @@ use Rattle.std.proofs.lemmas.Option.{same_Some}
 use Rattle.plc_base.specs.declared.keeper.BadStore.{BadStore}
 use Rattle.plc_base.specs.declared.keeper.Cut.{Cut}
 use Rattle.plc_base.specs.Keeper.{Records, Write}
-use Rattle.plc_base.specs.Writes.{Written, write, puts_of}
-use Rattle.plc_base.specs.SlotTables.{slot_of}
-use Rattle.plc_base.specs.LeadingPuts.{Reads, PutsLead, Prefixes, Left}
-use Rattle.plc_base.proofs.LeadingPuts.{leads_append, leads_beside, left_by}
+use Rattle.store_tables.specs.Writes.{Written, write, puts_of}
+use Rattle.store_tables.specs.SlotTables.{slot_of}
+use Rattle.store_tables.specs.LeadingPuts.{Reads, PutsLead, Prefixes, Left}
+use Rattle.store_tables.proofs.LeadingPuts.{leads_append, leads_beside, left_by}
 use Rattle.broadcast_log.specs.Log.{Log, opened}
 use Rattle.broadcast_log.specs.NextNumber.{limit_in, limit_slot}
 use Rattle.broadcast_log.specs.OriginMarks.{marks}

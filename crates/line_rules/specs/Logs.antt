@@ -2,7 +2,7 @@
 -- is.
 use Rattle.std.specs.Prelude.{◌≡◌, ℕ, List, [], ◌∷◌, Option, Some, None, Ok}
 use Rattle.plc_base.specs.Keeper.{Records}
-use Rattle.plc_base.specs.LeadingPuts.{Reads}
+use Rattle.store_tables.specs.LeadingPuts.{Reads}
 use Rattle.broadcast_log.specs.Log.{Log}
 use Rattle.broadcast_log.specs.Laws.{IsLogIn}
 use Rattle.node_rules.specs.declared.heard.Accepted.{Accepted}

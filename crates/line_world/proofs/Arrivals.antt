@@ -7,7 +7,7 @@ use denote.Ref.{Bor}
 use Rattle.std.proofs.lemmas.List.{append-nil, length-set, set-set}
 use Rattle.std.proofs.lemmas.List.Folds.{position_or_len-set}
 use Rattle.std.proofs.lemmas.Option.{get_or_from_slice_get, slice_get_within}
-use Rattle.plc_base.proofs.SlotTables.{slice_get-set}
+use Rattle.store_tables.proofs.SlotTables.{slice_get-set}
 use Rattle.plc_base.specs.declared.address.Eui.{Eui}
 use Rattle.plc_base.specs.declared.out_frame.Out.{Out}
 use Rattle.eap_psk.specs.declared.server.Agreed.{Agreed}

@@ -1,7 +1,7 @@
 -- A link of a station that broke.
 use Rattle.std.proofs.Common.{◌≡◌, ℕ, true, Option, Some, None, Result, Ok, Err, refl, sym, subst}
 use Rattle.std.specs.Prelude.{IfSome, IfNone, MatchResult}
-use Rattle.plc_base.proofs.WritesLemmas.{wrote_none}
+use Rattle.store_tables.proofs.WritesLemmas.{wrote_none}
 use Rattle.node_rules.specs.declared.refusal.Halted.{Halted}
 use Rattle.node_rules.specs.Calls as calls
 use Rattle.node_rules.specs.Carrying.{Carries, nothing}

@@ -9,7 +9,7 @@ use Rattle.plc_base.specs.declared.keeper.BadStore.{BadStore}
 use Rattle.plc_base.specs.declared.out_frame.Out.{Out}
 use Rattle.plc_base.specs.Grant.{Granted}
 use Rattle.plc_base.specs.Keeper.{Records, Store}
-use Rattle.plc_base.specs.Writes.{puts_of}
+use Rattle.store_tables.specs.Writes.{puts_of}
 use Rattle.frame_counters.specs.SendCounter.{passes, limit_write, raised}
 use Rattle.group_keys.specs.KeyRing.{Ring, ring_at, ring_slot}
 use Rattle.node_rules.specs.declared.refusal.RandomFault.{RandomFault}

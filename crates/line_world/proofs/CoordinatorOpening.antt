@@ -9,7 +9,7 @@ use Rattle.plc_base.specs.declared.keeper.BadStore.{BadStore}
 use Rattle.plc_base.specs.declared.key.Key.{Key}
 use Rattle.plc_base.specs.Grant.{Granted}
 use Rattle.plc_base.specs.Keeper.{Records, Store}
-use Rattle.plc_base.proofs.Opening.{stored_gapless, empty_gapless}
+use Rattle.store_tables.proofs.Opening.{stored_gapless, empty_gapless}
 use Rattle.frame_counters.specs.PeerMarks as marks
 use Rattle.group_keys.specs.KeyBook as book
 use Rattle.group_keys.specs.KeyRing.{ring_at, ring_slot}

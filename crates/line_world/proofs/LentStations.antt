@@ -9,7 +9,7 @@ use Rattle.plc_base.specs.declared.out_frame.Out.{Out}
 use Rattle.plc_base.specs.Grant.{Granted}
 use Rattle.plc_base.specs.declared.keeper.Cut.{Cut}
 use Rattle.plc_base.specs.Keeper.{Records, Store}
-use Rattle.plc_base.specs.SlotTables.{slot_of}
+use Rattle.store_tables.specs.SlotTables.{slot_of}
 use Rattle.group_keys.specs.KeyBook as book
 use Rattle.group_keys.specs.KeyRing.{ring_at, ring_slot}
 use Rattle.routing_set.specs.RoutingSet as routing

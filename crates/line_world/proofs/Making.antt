@@ -9,8 +9,8 @@ use Rattle.plc_base.specs.declared.address.Eui.{Eui}
 use Rattle.plc_base.specs.declared.key.Key.{Key}
 use Rattle.plc_base.specs.declared.keeper.BadStore.{BadStore}
 use Rattle.plc_base.specs.Keeper.{Store}
-use Rattle.plc_base.specs.SlotTables as slots
-use Rattle.plc_base.proofs.Opening.{empty_gapless}
+use Rattle.store_tables.specs.SlotTables as slots
+use Rattle.store_tables.proofs.Opening.{empty_gapless}
 use Rattle.frame_counters.specs.PeerMarks as marks
 use Rattle.routing_set.specs.RoutingSet as routing
 use Rattle.node_rules.specs.Agreement.{Agrees}

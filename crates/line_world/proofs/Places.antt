@@ -5,7 +5,7 @@ use Rattle.std.specs.Option.{option_map, option_and_then}
 use Rattle.std.specs.List.{list_any, position_or_len}
 use Rattle.std.proofs.lemmas.Bool.{le-ltb, lt-ltb, ltb-false, ltb-true}
 use Rattle.std.proofs.Math.Seq.{map-set_same}
-use Rattle.plc_base.proofs.SlotTables.{slice_get-set}
+use Rattle.store_tables.proofs.SlotTables.{slice_get-set}
 use Rattle.routing_set.proofs.Endings.{map_length, map_step, map_whole}
 use Rattle.std.proofs.lemmas.List.{map-set, length-map}
 use Rattle.std.proofs.lemmas.List.Elements.{All-set}

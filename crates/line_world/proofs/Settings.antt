@@ -14,8 +14,8 @@ use Rattle.plc_base.specs.declared.key.Key.{Key}
 use Rattle.plc_base.specs.declared.out_frame.Out.{Out}
 use Rattle.plc_base.specs.Grant.{Granted}
 use Rattle.plc_base.specs.Keeper.{Records, Write}
-use Rattle.plc_base.specs.Writes.{Written, write}
-use Rattle.plc_base.proofs.SlotTables.{slice_get-set_other}
+use Rattle.store_tables.specs.Writes.{Written, write}
+use Rattle.store_tables.proofs.SlotTables.{slice_get-set_other}
 use Rattle.group_keys.specs.declared.fault.RingFault.{RingFault}
 use Rattle.node_rules.specs.declared.refusal.CoordinatorRefusal.{CoordinatorRefusal}
 use Rattle.node_rules.specs.declared.refusal.CoordinatorRefusal.TheVariants as orders

@@ -5,11 +5,11 @@ use Rattle.std.specs.Option.{option_map, option_map_or}
 use Rattle.std.proofs.lemmas.List.{append-nil}
 use Rattle.plc_base.specs.Faults.{◌then◌}
 use Rattle.plc_base.specs.Grant.{Granted}
-use Rattle.plc_base.specs.Writes.{Wrote, puts_of}
+use Rattle.store_tables.specs.Writes.{Wrote, puts_of}
 use Rattle.plc_base.specs.declared.key.Rand.{Rand}
 use Rattle.plc_base.specs.declared.tags.PairTag.{PairTag}
 use Rattle.plc_base.specs.declared.out_frame.Out.{Out}
-use Rattle.plc_base.proofs.WritesLemmas.{wrote_none}
+use Rattle.store_tables.proofs.WritesLemmas.{wrote_none}
 use Rattle.group_keys.specs.KeyRing.{ring_write}
 use Rattle.group_keys.specs.declared.fault.RingFault.{RingFault}
 use Rattle.joining_messages.specs.declared.message.JoinMessage.{JoinMessage}

@@ -4,8 +4,8 @@ use Rattle.std.specs.Prelude.{◌==◌, is_some, IfSome, IsSome}
 use Rattle.std.specs.Option.{option_map, option_map_or}
 use Rattle.std.proofs.lemmas.List.{append-nil}
 use Rattle.std.proofs.lemmas.Bool.Decides.{nat_tests}
-use Rattle.plc_base.specs.Writes.{Wrote}
-use Rattle.plc_base.proofs.WritesLemmas.{wrote_none}
+use Rattle.store_tables.specs.Writes.{Wrote}
+use Rattle.store_tables.proofs.WritesLemmas.{wrote_none}
 use Rattle.plc_base.specs.Keeper.{Write}
 use Rattle.plc_base.specs.declared.tags.PairTag.{PairTag}
 use Rattle.plc_base.specs.declared.out_frame.Out.{Out}

@@ -5,9 +5,9 @@ use Rattle.std.specs.Option.{option_map}
 use Rattle.plc_base.specs.Grant.{Granted}
 use Rattle.plc_base.specs.declared.key.Key.{Key}
 use Rattle.plc_base.specs.Keeper.{Store}
-use Rattle.plc_base.specs.Writes.{Wrote}
+use Rattle.store_tables.specs.Writes.{Wrote}
 use Rattle.plc_base.specs.declared.out_frame.Out.{Out}
-use Rattle.plc_base.proofs.WritesLemmas.{wrote_none}
+use Rattle.store_tables.proofs.WritesLemmas.{wrote_none}
 use Rattle.joining_messages.specs.Reading.{join_in}
 use Rattle.mesh_header.specs.declared.unit.Unit.{Unit as MeshUnit}
 use Rattle.mesh_header.specs.Reading.{unit_in}

@@ -2,8 +2,8 @@
 use Rattle.std.proofs.Common.{◌≡◌, [], replicate, Some, None, Ok, refl, ap, ◌∙◌}
 use Rattle.std.specs.Ordering.{nat_cmp}
 use Rattle.std.specs.FinMap.{get, empty, get-empty}
-use Rattle.plc_base.specs.SlotTables as slots
-use Rattle.plc_base.proofs.Opening.{opened_from-empty}
+use Rattle.store_tables.specs.SlotTables as slots
+use Rattle.store_tables.proofs.Opening.{opened_from-empty}
 use Rattle.frame_counters.specs.SendCounter as counter
 use Rattle.frame_counters.specs.PeerMarks as marks
 use Rattle.group_keys.specs.KeyRing as ring

@@ -12,8 +12,8 @@ use Rattle.mac_frames.specs.declared.head.MacHead.TheVariants as heads
 use Rattle.frame_counters.specs.declared.fault.PeerFault.{PeerFault}
 use Rattle.frame_counters.specs.declared.fault.PeerFault.TheVariants as peers
 use Rattle.frame_counters.specs.PeerMarks as marks
-use Rattle.plc_base.specs.SlotTables as slots
-use Rattle.plc_base.specs.Writes.{puts_of}
+use Rattle.store_tables.specs.SlotTables as slots
+use Rattle.store_tables.specs.Writes.{puts_of}
 use Rattle.std.proofs.lemmas.List.Quantifiers.{position-Some}
 use Rattle.group_keys.specs.KeyBook.{Book}
 use Rattle.group_keys.specs.KeyRing as ring

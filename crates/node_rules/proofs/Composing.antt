@@ -8,8 +8,8 @@ use Rattle.plc_base.specs.declared.address.Eui.{Eui}
 use Rattle.plc_base.specs.declared.tags.PairTag.{PairTag}
 use Rattle.plc_base.specs.declared.out_frame.Out.{Out}
 use Rattle.plc_base.specs.Keeper.{Store, Write}
-use Rattle.plc_base.specs.Writes.{Wrote, puts_of}
-use Rattle.plc_base.proofs.WritesLemmas.{wrote_append, wrote_append_stop}
+use Rattle.store_tables.specs.Writes.{Wrote, puts_of}
+use Rattle.store_tables.proofs.WritesLemmas.{wrote_append, wrote_append_stop}
 use Rattle.frame_counters.specs.SendCounter.{Counting, reserved, reserve_write, passes, raised}
 use Rattle.node_rules.specs.Ciphers.{network}
 use Rattle.node_rules.specs.Frames.{Sent, spelled}

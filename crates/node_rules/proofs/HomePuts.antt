@@ -9,7 +9,7 @@ use Rattle.std.proofs.lemmas.Option.{same_Some}
 use Rattle.byteorder.specs.Endian.{big_number}
 use Rattle.plc_base.specs.declared.key.Key.{Key}
 use Rattle.plc_base.specs.Keeper.{Records, Write}
-use Rattle.plc_base.proofs.StoreLemmas.{get-insert_same, get-insert_other}
+use Rattle.store_tables.proofs.StoreLemmas.{get-insert_same, get-insert_other}
 use Rattle.frame_counters.specs.SendCounter as counter
 use Rattle.group_keys.specs.Fields.{are_zeros, held_in}
 use Rattle.group_keys.specs.KeyBook as book

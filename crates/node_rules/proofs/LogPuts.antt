@@ -24,7 +24,7 @@ use Rattle.node_rules.specs.LogSlots.{IsBesideLog, IsLogSlot, SameLog, StationsL
 use Rattle.node_rules.proofs.Tables.{Keep, carried_keeps}
 use Rattle.node_rules.proofs.TablePlans.{plan_puts, accept_puts, local_puts, near_puts, ring_puts, activate_puts, random_puts, begin_puts}
 use Rattle.plc_base.specs.Keeper.{Records}
-use Rattle.plc_base.proofs.StoreLemmas.{get-insert_other}
+use Rattle.store_tables.proofs.StoreLemmas.{get-insert_other}
 use Rattle.std.specs.FinMap.{get, insert}
 use Rattle.node_rules.proofs.Shapes.{Shape, Rests, Keeps, Ended, checked_shape, choose_shape, sealed_shape}
 use Rattle.node_rules.proofs.TablePuts.{Membership, RingOf, PutOf, OfFloors, OfNumber, OfRing, OfMark, OfRank, OfEntry, AnyMembership, Any, AreOf, Puts, Does, begun_puts, ranked_puts, ringed_puts, goes_puts, counter_of, mark_of, both, begins, remembers, quiet_does}

@@ -4,8 +4,8 @@ use Rattle.std.specs.Prelude.{IfSome, if◌then◌else◌}
 use Rattle.std.specs.Bool.{OnFalse}
 use Rattle.plc_base.specs.declared.keeper.Cut.{Cut}
 use Rattle.plc_base.specs.declared.out_frame.Out.{Out}
-use Rattle.plc_base.specs.Writes.{IsCutBy, write}
-use Rattle.plc_base.proofs.WritesLemmas.{cut_of}
+use Rattle.store_tables.specs.Writes.{IsCutBy, write}
+use Rattle.store_tables.proofs.WritesLemmas.{cut_of}
 use Rattle.node_rules.specs.Plans.{Plan, Outcome, carry_out, outcome_of, finished, halted}
 use Rattle.node_rules.specs.States.{State}
 use Rattle.node_rules.specs.Carrying.{Carries}

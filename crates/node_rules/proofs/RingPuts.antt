@@ -3,8 +3,8 @@ use Rattle.std.proofs.Common.{◌≡◌, Bool, List, refl, sym, ap, ◌∙◌, a
 use Rattle.std.specs.Prelude.{All}
 use Rattle.std.specs.FinMap.{get}
 use Rattle.plc_base.specs.Keeper.{Records, Store, Write}
-use Rattle.plc_base.specs.Writes.{Wrote}
-use Rattle.plc_base.proofs.StoreLemmas.{get-insert_other}
+use Rattle.store_tables.specs.Writes.{Wrote}
+use Rattle.store_tables.proofs.StoreLemmas.{get-insert_other}
 use Rattle.group_keys.specs.declared.key_book.BookEntry.{BookEntry}
 use Rattle.group_keys.specs.KeyBook as book
 use Rattle.group_keys.specs.KeyRing.{ring_slot}

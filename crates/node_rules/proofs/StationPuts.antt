@@ -4,7 +4,7 @@ use Rattle.std.specs.Prelude.{All}
 use Rattle.std.specs.FinMap.{get, insert}
 use Rattle.std.proofs.lemmas.List.Elements.{All-nil, All-cons}
 use Rattle.plc_base.specs.Keeper.{Records, Write}
-use Rattle.plc_base.proofs.StoreLemmas.{get-insert_other}
+use Rattle.store_tables.proofs.StoreLemmas.{get-insert_other}
 use Rattle.frame_counters.specs.SendCounter as counter
 use Rattle.group_keys.specs.KeyRing.{ring_slot}
 use Rattle.routing_set.specs.OwnNumber as own_number

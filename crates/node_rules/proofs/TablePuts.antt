@@ -7,13 +7,13 @@ use Rattle.std.proofs.lemmas.List.Quantifiers.{position-Some}
 use Rattle.std.proofs.lemmas.Option.{same_Some}
 use Rattle.plc_base.specs.declared.address.Eui.{Eui}
 use Rattle.plc_base.specs.declared.key.Key.{Key}
-use Rattle.plc_base.specs.declared.number_slot.NumberSlot.{NumberSlot}
+use Rattle.store_tables.specs.declared.number_slot.NumberSlot.{NumberSlot}
 use Rattle.plc_base.specs.declared.tags.PairTag.{PairTag}
 use Rattle.plc_base.specs.Grant.{Granted}
 use Rattle.plc_base.specs.Keeper.{Write}
-use Rattle.plc_base.specs.NumberSlots.{number_write}
-use Rattle.plc_base.specs.SlotTables as slots
-use Rattle.plc_base.specs.Writes.{puts_of}
+use Rattle.store_tables.specs.NumberSlots.{number_write}
+use Rattle.store_tables.specs.SlotTables as slots
+use Rattle.store_tables.specs.Writes.{puts_of}
 use Rattle.fragment_buffers.specs.NextTag.{tag_at}
 use Rattle.frame_counters.specs.PeerMarks.{Peer}
 use Rattle.frame_counters.specs.PeerMarks as marks

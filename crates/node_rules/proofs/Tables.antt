@@ -8,10 +8,10 @@ use Rattle.std.proofs.lemmas.List.Elements.{All-head, All-tail}
 use Rattle.std.proofs.lemmas.Option.{slice_get-get_or}
 use Rattle.plc_base.specs.declared.keeper.Cut.{Cut}
 use Rattle.plc_base.specs.Keeper.{Records, Store, Write, Puts, succeeds, cut_after, records_after, writes}
-use Rattle.plc_base.specs.Writes.{Writes, Wrote, Written, write}
-use Rattle.plc_base.specs.SlotTables as slots
-use Rattle.plc_base.proofs.StoreLemmas.{get-insert_same, get-insert_other}
-use Rattle.plc_base.proofs.Opening.{stored_gapless}
+use Rattle.store_tables.specs.Writes.{Writes, Wrote, Written, write}
+use Rattle.store_tables.specs.SlotTables as slots
+use Rattle.store_tables.proofs.StoreLemmas.{get-insert_same, get-insert_other}
+use Rattle.store_tables.proofs.Opening.{stored_gapless}
 use Rattle.frame_counters.specs.PeerMarks as marks
 use Rattle.group_keys.specs.KeyBook as book
 use Rattle.routing_set.specs.RoutingSet as routing

@@ -7,8 +7,8 @@ use Rattle.std.proofs.lemmas.List.{length-append}
 use Rattle.plc_base.specs.declared.address.Eui.{Eui}
 use Rattle.plc_base.specs.declared.tags.PairTag.{PairTag}
 use Rattle.plc_base.specs.Keeper.{Write}
-use Rattle.plc_base.specs.SlotTables as slots
-use Rattle.plc_base.specs.Writes.{puts_of}
+use Rattle.store_tables.specs.SlotTables as slots
+use Rattle.store_tables.specs.Writes.{puts_of}
 use Rattle.frame_counters.specs.SendCounter as counter
 use Rattle.group_keys.specs.declared.key_book.BookEntry.{BookEntry}
 use Rattle.group_keys.specs.KeyBook as book

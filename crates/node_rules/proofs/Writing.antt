@@ -7,7 +7,7 @@ use Rattle.std.proofs.lemmas.Bool.{ltb-true, ltb-false}
 use Rattle.std.proofs.lemmas.Option.{same_Some}
 use Rattle.plc_base.specs.declared.keeper.Cut.{Cut}
 use Rattle.plc_base.specs.Keeper.{Records, Write}
-use Rattle.plc_base.specs.Writes.{Written, write}
+use Rattle.store_tables.specs.Writes.{Written, write}
 use Rattle.node_rules.specs.Plans.{Plan, carry_out, outcome_of}
 use Rattle.node_rules.specs.Laws.{all_put, nearer_by, IsWhole, IsCutOff, WritesFailCleanly, NoCutNoFailure}
 

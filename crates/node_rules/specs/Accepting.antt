@@ -5,7 +5,7 @@ use Rattle.plc_base.specs.Faults.{◌then◌}
 use Rattle.plc_base.specs.declared.address.TheConstants.{PAN}
 use Rattle.plc_base.specs.declared.address.Eui.{Eui}
 use Rattle.plc_base.specs.declared.key.Key.{Key}
-use Rattle.plc_base.specs.Writes.{puts_of}
+use Rattle.store_tables.specs.Writes.{puts_of}
 use Rattle.mac_frames.specs.declared.head.MacHead.{MacHead}
 use Rattle.mac_frames.specs.declared.head.MacHead.TheVariants as heads
 use Rattle.frame_counters.specs.declared.fault.PeerFault.{PeerFault}

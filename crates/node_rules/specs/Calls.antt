@@ -4,7 +4,7 @@ use Rattle.std.specs.Option.{option_map, option_map_or}
 use Rattle.plc_base.specs.Faults.{◌then◌, ◌when◌}
 use Rattle.plc_base.specs.declared.key.Key.{Key}
 use Rattle.plc_base.specs.Grant.{Granted}
-use Rattle.plc_base.specs.Writes.{puts_of}
+use Rattle.store_tables.specs.Writes.{puts_of}
 use Rattle.frame_counters.specs.SendCounter as counter
 use Rattle.group_keys.specs.declared.fault.RingFault.{RingFault}
 use Rattle.group_keys.specs.declared.fault.RingFault.TheVariants as ring_faults

@@ -3,7 +3,7 @@ use Rattle.std.specs.Prelude.{◌≡◌, Bool, if◌then◌else◌, [], map, Opt
 use Rattle.plc_base.specs.declared.keeper.Cut.{Cut}
 use Rattle.plc_base.specs.declared.out_frame.Out.{Out}
 use Rattle.plc_base.specs.Causes.{Rose}
-use Rattle.plc_base.specs.Writes.{Wrote}
+use Rattle.store_tables.specs.Writes.{Wrote}
 use Rattle.node_rules.specs.Ciphers.{network}
 use Rattle.node_rules.specs.Frames.{spelled}
 use Rattle.node_rules.specs.Plans.{Plan, Outcome, carry_out}

@@ -7,7 +7,7 @@ use Rattle.plc_base.specs.declared.address.Eui.{Eui}
 use Rattle.plc_base.specs.declared.key.Key.{Key}
 use Rattle.plc_base.specs.declared.key.Rand.{Rand}
 use Rattle.plc_base.specs.Grant.{Granted}
-use Rattle.plc_base.specs.Writes.{puts_of}
+use Rattle.store_tables.specs.Writes.{puts_of}
 use Rattle.group_keys.specs.declared.fault.RingFault.{RingFault}
 use Rattle.group_keys.specs.declared.fault.RingFault.TheVariants.{Store}
 use Rattle.group_keys.specs.declared.key_book.BookEntry.{BookEntry}

@@ -4,7 +4,7 @@ use Rattle.std.specs.Prelude.{List, [], Option, Some, None, if◌then◌else◌}
 use Rattle.plc_base.specs.declared.keeper.Cut.{Cut}
 use Rattle.plc_base.specs.declared.tags.PairTag.{PairTag}
 use Rattle.plc_base.specs.Keeper.{Records, Write}
-use Rattle.plc_base.specs.Writes.{Written, write}
+use Rattle.store_tables.specs.Writes.{Written, write}
 use Rattle.node_rules.specs.Frames.{Sent}
 
 -- A plan over a memory M with an answer A.

@@ -3,7 +3,7 @@ use Rattle.std.specs.Prelude.{◌≡◌, ◌≢◌, ℕ, ◌<◌, ◌≤◌, Boo
 use Rattle.std.specs.FinMap.{get}
 use Rattle.plc_base.specs.declared.address.Eui.{Eui}
 use Rattle.plc_base.specs.Keeper.{Records, Store, Write}
-use Rattle.plc_base.specs.Writes.{Wrote}
+use Rattle.store_tables.specs.Writes.{Wrote}
 use Rattle.group_keys.specs.KeyRing.{ring_slot}
 use Rattle.group_keys.specs.KeyBook as book
 use Rattle.node_rules.specs.declared.heard.Accepted.{Accepted}

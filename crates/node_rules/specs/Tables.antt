@@ -6,8 +6,8 @@ use Rattle.plc_base.specs.declared.key.Rand.{Rand}
 use Rattle.plc_base.specs.declared.keeper.Cut.{Cut}
 use Rattle.plc_base.specs.Grant.{Granted}
 use Rattle.plc_base.specs.Keeper.{Records, Store, Write}
-use Rattle.plc_base.specs.SlotTables as slots
-use Rattle.plc_base.specs.Writes.{Wrote}
+use Rattle.store_tables.specs.SlotTables as slots
+use Rattle.store_tables.specs.Writes.{Wrote}
 use Rattle.frame_counters.specs.PeerMarks as marks
 use Rattle.group_keys.specs.KeyBook as book
 use Rattle.routing_set.specs.RoutingSet as routing

@@ -1,7 +1,7 @@
 //! Laws of the rules: each carried by a function that does nothing.
 ghost use Rattle.std.specs.Prelude.{ℕ, ◌≡◌, true, List, is_some, Ok, Err};
 ghost use Rattle.plc_base.specs.Keeper.{Write};
-ghost use Rattle.plc_base.specs.Writes.{Wrote};
+ghost use Rattle.store_tables.specs.Writes.{Wrote};
 ghost use Rattle.plc_base.specs.declared.tags.PairTag.{PairTag};
 ghost use Rattle.node_rules.specs.declared.heard.Accepted.{Accepted};
 ghost use Rattle.node_rules.specs.declared.heard.Way.{Way};

@@ -1,7 +1,6 @@
 -- A list in the order of a number.
-use Rattle.std.specs.Prelude.{◌≡◌, ℕ, nat_lt, List, [], ◌∷◌, map, Some, if◌then◌else◌, IsSorted, IsPermutation}
+use Rattle.std.specs.Prelude.{◌≡◌, ℕ, nat_lt, List, [], ◌∷◌, map, if◌then◌else◌, IsSorted, IsPermutation}
 use Rattle.std.specs.Ordering.{nat_cmp}
-use Rattle.plc_base.specs.SlotTables.{Layout, IsTable, entry_of}
 
 -- an item before the first one of a higher number
 abbrev pub placed_by : {A : Type 0} → (A → ℕ) → A → List A → List A
@@ -22,10 +21,3 @@ abbrev pub SortedNumbersAreOrdered : Type 0 → Type 0
 SortedNumbersAreOrdered A =
     (number : A → ℕ) (xs : List A) (sorted : List ℕ) → IsPermutation (map number xs) sorted → IsSorted nat_cmp sorted
     → sorted ≡ map number (ordered_by number xs)
-
--- The sorted keys of a table, looked up one by one, give its entries in the order of their keys.
-abbrev pub SortedKeysFindAll : Type 0 → Type 0
-SortedKeysFindAll A =
-    (layout : Layout A) (table : List A) (sorted : List ℕ) → IsTable layout table
-    → IsPermutation (map layout.key table) sorted → IsSorted nat_cmp sorted
-    → map (entry_of layout table) sorted ≡ map Some (ordered_by layout.key table)

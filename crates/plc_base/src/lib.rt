@@ -10,8 +10,6 @@
 //!   in memory, for tests and for simulated lines; it can be told at which put power is lost.
 //! - [`Out`] is what one step gives out: at most 24 frames ([`OutFrames`]), and the tags that it made and checked
 //!   ([`TagList`]).
-//! - [`SlotTable`], [`MarkTable`], [`Numbering`] and [`NumberSlot`] are what the crates above keep in a store: entries by a
-//!   key, numbers that are admitted once, numbers that are given out once, and a number that has a slot to itself.
 //! - `octet_at`, `two_at`, `octets_at` and the like read the fields of a format, and [`Fault`] is its first fault with the
 //!   place.
 //! - [`Source`] and [`Sink`] are for programs: octets in, text out, with adapters over memory and over std's streams.
@@ -20,18 +18,13 @@
 //!
 //! - A put leaves the record from before or the new one, even where it fails, and changes no other slot (`Puts`). The trait
 //!   asks this of each keeper, and all that the crates above promise of a store rests on it.
-//! - A table, a numbering or a number is what the records give (`table`, `reading`, `numbering`, `number`). BadStore names a
-//!   record that has no reading (`bad`).
-//! - After a failed put the value is the one before (`same`), the records give the old or the new one (`either`), and the slots
-//!   of others are as they were (`elsewhere`). The value may not be used again until it is opened again.
-//! - What is true of writes in a row, of sorted keys and of octets in fixed width is a law (`laws`).
+//! - A read or a write fails only where the object counted a fault (`read`, `written`).
+//! - What is true of tags, of sorted numbers and of octets in fixed width is a law (`laws`).
 //!
 //! Memory is taken by `MemKeeper::new` and `MemSink::new` alone, and there is no `unsafe`. A buffer that is full is no fault at
 //! run time: `push` and `append` ask for room, and who calls them proves that there is some.
 //!
-//! For example, a driver over flash implements `Keeper` for its type. A counter that no loss of power sets back is then a
-//! `Numbering` at one of the slots: `open` reads it at the start, `left` says how many numbers there are still, and `reserve`
-//! gives out the next ones. It stores a limit ahead of them, so most numbers cost no put. After `Failed` it is opened again.
+//! What a node keeps in a store (tables, numberings) is in `store_tables`, the crate above.
 #![tactic(auto)]
 
 mod address;
@@ -41,17 +34,12 @@ mod keeper;
 mod key;
 pub mod laws;
 mod link_cost;
-mod marks;
 mod mem_keeper;
 mod memory;
-mod number_slot;
-mod numbering;
 mod numbers;
 mod octet_ref;
 mod octets;
 mod out_frame;
-mod slot_order;
-mod slot_table;
 mod standard;
 mod streams;
 mod tags;
@@ -66,16 +54,12 @@ pub use grant::Grant;
 pub use keeper::{BadStore, Cut, Keeper};
 pub use key::{Key, Rand};
 pub use link_cost::LinkCost;
-pub use marks::{Mark, MarkTable};
 pub use mem_keeper::MemKeeper;
 pub use memory::{MemSink, MemSource};
-pub use number_slot::NumberSlot;
-pub use numbering::Numbering;
 pub use numbers::a_number_has_the_octets_it_was_read_from;
 pub use octet_ref::OctetRef;
 pub use octets::{DatagramBuf, EapBuf, FrameBuf, Octets, Record};
 pub use out_frame::{Out, OutFrame, OutFrames};
-pub use slot_table::{SlotEntry, SlotTable};
 pub use standard::{StdSink, StdSource};
 pub use streams::{Failed, Sink, Source, write_all};
 pub use tags::{PairTag, PairTags, TagList, TagOctets, TagText};

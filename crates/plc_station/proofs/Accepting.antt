@@ -2,7 +2,7 @@
 use Rattle.std.proofs.Common.{◌≡◌, ℕ, true, false, List, take, Option, Some, None, Result, Ok, Err, refl, sym, subst}
 use Rattle.plc_base.specs.Keeper.{Stores}
 use Rattle.plc_base.specs.declared.key.Key.{Key}
-use Rattle.plc_base.proofs.WritesLemmas.{wrote_one}
+use Rattle.store_tables.proofs.WritesLemmas.{wrote_one}
 use Rattle.frame_counters.specs.declared.fault.PeerFault.{PeerFault}
 use Rattle.frame_counters.specs.PeerMarks.{room_for, keep_write, kept_after}
 use Rattle.node_rules.specs.declared.heard.Accepted.{Accepted}

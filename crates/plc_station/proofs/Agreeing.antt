@@ -2,9 +2,9 @@
 use Rattle.std.proofs.Common.{inl, inr, Option, Some, None, ap, ◌∙◌, arith}
 use Rattle.std.specs.Prelude.{IfSome, IsSome}
 use Rattle.plc_base.specs.Keeper.{Records, SameOutside}
-use Rattle.plc_base.specs.SlotTables.{IsGapless}
-use Rattle.plc_base.proofs.Opening.{stored_gapless}
-use Rattle.plc_base.proofs.SlotTables.{stored_elsewhere}
+use Rattle.store_tables.specs.SlotTables.{IsGapless}
+use Rattle.store_tables.proofs.Opening.{stored_gapless}
+use Rattle.store_tables.proofs.SlotTables.{stored_elsewhere}
 use Rattle.frame_counters.specs.PeerMarks.{peers}
 use Rattle.frame_counters.specs.SendCounter as counter
 use Rattle.group_keys.specs.KeyRing.{ring_at, Ring}

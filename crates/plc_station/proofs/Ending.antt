@@ -2,9 +2,9 @@
 use Rattle.std.proofs.Common.{◌≡◌, ℕ, ◌++◌, Bool, true, false, [], length, map, Option, Some, None, Result, Ok, Err, refl, sym, ap, subst, ◌∙◌}
 use Rattle.std.specs.Prelude.{if◌then◌else◌}
 use Rattle.plc_base.specs.Keeper.{Store, Stores}
-use Rattle.plc_base.specs.Writes.{Wrote}
+use Rattle.store_tables.specs.Writes.{Wrote}
 use Rattle.plc_base.specs.declared.out_frame.Out.{Out}
-use Rattle.plc_base.proofs.WritesLemmas.{wrote_one, wrote_append, wrote_append_stop}
+use Rattle.store_tables.proofs.WritesLemmas.{wrote_one, wrote_append, wrote_append_stop}
 use Rattle.frame_counters.specs.SendCounter.{reserved, reserve_write}
 use Rattle.std.specs.Option.{option_map_or}
 use Rattle.plc_base.specs.declared.key.Key.{Key}

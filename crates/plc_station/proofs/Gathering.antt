@@ -7,7 +7,7 @@ use Rattle.node_rules.specs.declared.refusal.Dropped.TheVariants.{Store}
 use Rattle.node_rules.specs.Memory.{StationMemory}
 use Rattle.node_rules.specs.Plans.{resting}
 use Rattle.node_rules.specs.Hearing.{gathered}
-use Rattle.plc_base.proofs.WritesLemmas.{wrote_none}
+use Rattle.store_tables.proofs.WritesLemmas.{wrote_none}
 use Rattle.plc_station.specs.Pieces.{came}
 use Rattle.node_rules.specs.States.{State, unless_halted}
 use Rattle.node_rules.specs.Carrying.{Carries, nothing}

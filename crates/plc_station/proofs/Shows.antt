@@ -5,10 +5,10 @@ use Rattle.std.specs.Option.{option_map, option_and_then}
 use Rattle.std.specs.Ordering.{nat_cmp}
 use Rattle.std.proofs.lemmas.List.{length-map}
 use Rattle.std.proofs.lemmas.Option.{slice_get-map, get_or_from_slice_get, slice_get-get_or}
-use Rattle.plc_base.specs.SlotTables.{Layout, IsTable, place_of, entry_of}
+use Rattle.store_tables.specs.SlotTables.{Layout, IsTable, place_of, entry_of}
 use Rattle.plc_base.specs.Orders.{ordered_by}
-use Rattle.plc_base.proofs.SlotTables.{found}
-use Rattle.plc_base.proofs.Finding.{sorted_find}
+use Rattle.store_tables.proofs.SlotTables.{found}
+use Rattle.store_tables.proofs.Finding.{sorted_find}
 use Rattle.frame_counters.specs.PeerMarks.{Table, peers, mark_of, peer_at}
 use Rattle.routing_set.specs.declared.rank.Rank.{Rank}
 use Rattle.routing_set.specs.declared.entry.Route.{Route}

@@ -1,7 +1,7 @@
 -- The tag of a datagram, as a put that may not be there.
 use Rattle.std.proofs.Common.{◌≡◌, ℕ, Bool, true, false, List, [], length, refl}
 use Rattle.std.specs.Prelude.{nat_le}
-use Rattle.plc_base.specs.Writes.{puts_of}
+use Rattle.store_tables.specs.Writes.{puts_of}
 use Rattle.node_rules.specs.Memory.{StationMemory}
 use Rattle.node_rules.specs.Drafts.{Draft, empty_draft, with_next_tag}
 use Rattle.node_rules.specs.Calls.{tag_taken}

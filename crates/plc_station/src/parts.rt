@@ -1,6 +1,6 @@
 //! What a station holds of its store.
 ghost use Rattle.std.specs.Prelude.{◌≡◌, Ok, Err, MatchResult, IfOk};
-ghost use Rattle.plc_base.specs.SlotTables.{IsGapless};
+ghost use Rattle.store_tables.specs.SlotTables.{IsGapless};
 ghost use Rattle.frame_counters.specs.PeerMarks.{peers};
 ghost use Rattle.routing_set.specs.RoutingSet.{ranks};
 ghost use Rattle.node_rules.specs.StoreReading.{station_of};

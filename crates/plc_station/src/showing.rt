@@ -2,7 +2,7 @@
 ghost use Rattle.std.specs.Prelude.{◌≡◌, ◌<◌, map, None, Some, IfSome, IsSome, length};
 ghost use Rattle.std.specs.Option.{option_map};
 ghost use Rattle.plc_base.specs.Orders.{ordered_by};
-ghost use Rattle.plc_base.specs.SlotTables.{entry_of};
+ghost use Rattle.store_tables.specs.SlotTables.{entry_of};
 ghost use Rattle.frame_counters.specs.PeerMarks.{peers};
 ghost use Rattle.routing_set.specs.RoutingSet.{ranks, next_of};
 ghost use Rattle.node_rules.specs.Neighbours.{valid_route};

@@ -2,7 +2,7 @@
 ghost use Rattle.std.specs.Prelude.{◌≡◌, Some, None, Ok, Err, IsSome, IfOk, IfErr};
 ghost use Rattle.std.specs.Bool.{MatchBool};
 ghost use Rattle.std.specs.Option.{option_map};
-ghost use Rattle.plc_base.specs.SlotTables.{IsGapless};
+ghost use Rattle.store_tables.specs.SlotTables.{IsGapless};
 ghost use Rattle.frame_counters.specs.PeerMarks.{peers};
 ghost use Rattle.routing_set.specs.RoutingSet.{ranks};
 ghost use Rattle.node_rules.specs.StoreReading.{station_of};

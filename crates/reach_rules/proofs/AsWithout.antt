@@ -4,14 +4,14 @@ use Rattle.std.specs.Prelude.{if◌then◌else◌}
 use Rattle.std.specs.Option.{option_map_or}
 use Rattle.std.specs.Ordering.{nat_cmp}
 use Rattle.std.specs.FinMap.{empty, get-empty}
-use Rattle.plc_base.specs.SlotTables as slots
-use Rattle.plc_base.proofs.Opening.{opened_from-empty}
+use Rattle.store_tables.specs.SlotTables as slots
+use Rattle.store_tables.proofs.Opening.{opened_from-empty}
 use Rattle.mesh_header.specs.declared.unit.Unit.{Unit as MeshUnit}
 use Rattle.mesh_header.specs.declared.unit.Unit.TheVariants as units
 use Rattle.mesh_header.specs.Reading.{unit_in}
 use Rattle.neighbour_checks.specs.Acks.{ack_in}
 use Rattle.neighbour_checks.specs.Neighbours.{Neighbours, is_awaited, acked_after}
-use Rattle.plc_base.specs.Numberings.{counting_at, counting_from}
+use Rattle.store_tables.specs.Numberings.{counting_at, counting_from}
 use Rattle.broadcast_log.specs.NextNumber.{numbering_in, limit_in, limit_slot}
 use Rattle.broadcast_log.specs.OriginMarks.{marks}
 use Rattle.pan_discovery.specs.History.{Scanned}

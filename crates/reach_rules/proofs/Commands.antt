@@ -5,8 +5,8 @@ use Rattle.std.specs.Option.{option_map_or}
 use Rattle.std.proofs.lemmas.Bool.{ne_eqb}
 use Rattle.plc_base.specs.declared.key.Key.{Key}
 use Rattle.plc_base.specs.Grant.{Granted}
-use Rattle.plc_base.specs.SlotTables as slots
-use Rattle.plc_base.specs.Writes.{puts_of}
+use Rattle.store_tables.specs.SlotTables as slots
+use Rattle.store_tables.specs.Writes.{puts_of}
 use Rattle.mesh_header.specs.declared.unit.Unit.TheVariants.{Local}
 use Rattle.frame_counters.specs.SendCounter as counter
 use Rattle.group_keys.specs.KeyRing as ring
@@ -14,7 +14,7 @@ use Rattle.neighbour_checks.specs.Acks.{ack_in}
 use Rattle.broadcast_log.specs.declared.broadcast.Broadcast.{Broadcast}
 use Rattle.broadcast_log.specs.Grammar.{spelling}
 use Rattle.broadcast_log.specs.Reading.{broadcast_in}
-use Rattle.plc_base.specs.Numberings.{passes, limit_write, raised}
+use Rattle.store_tables.specs.Numberings.{passes, limit_write, raised}
 use Rattle.broadcast_log.specs.NextNumber.{Numbering, limit_slot, number_put}
 use Rattle.broadcast_log.specs.OriginMarks.{OriginMark, Marks, marks, place_of, mark_at, mark_ahead, keep_write, kept_after}
 use Rattle.path_requests.specs.declared.message.PathMessage.{PathMessage}

@@ -5,8 +5,8 @@ use Rattle.std.proofs.lemmas.Bool.Decides.{nat_tests}
 use Rattle.std.proofs.lemmas.List.{get_or-set_same}
 use Rattle.std.proofs.Math.Seq.{get_or-append_seam}
 use Rattle.plc_base.specs.Faults.{◌then◌, ◌when◌}
-use Rattle.plc_base.proofs.SlotTables.{found, place_of-set}
-use Rattle.plc_base.proofs.LookUps.{place_push}
+use Rattle.store_tables.proofs.SlotTables.{found, place_of-set}
+use Rattle.store_tables.proofs.LookUps.{place_push}
 use Rattle.broadcast_log.specs.declared.broadcast.Broadcast.{Broadcast}
 use Rattle.broadcast_log.specs.declared.fault.LogFault.TheVariants as log_faults
 use Rattle.broadcast_log.specs.OriginMarks.{OriginMark, Marks, marks, place_of, mark_at, mark_ahead, advanced, room_for, kept_after}

@@ -7,7 +7,7 @@ use Rattle.plc_base.specs.Keeper.{Write}
 use Rattle.frame_counters.specs.SendCounter as counter
 use Rattle.neighbour_checks.specs.Acks.{ack_spelling}
 use Rattle.broadcast_log.specs.Grammar.{spelling}
-use Rattle.plc_base.specs.Numberings.{counting_at}
+use Rattle.store_tables.specs.Numberings.{counting_at}
 use Rattle.broadcast_log.specs.OriginMarks.{mark_ahead}
 use Rattle.path_requests.specs.declared.message.PathMessage.TheVariants.{Ask, Tell}
 use Rattle.path_requests.specs.Messages.{path_spelling}

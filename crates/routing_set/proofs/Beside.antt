@@ -2,8 +2,8 @@
 use Rattle.std.proofs.Common.{◌≢◌, ◌⊎◌, inl, inr, ℕ, ◌+◌, ◌<◌, ◌≤◌, List, ap, ◌∙◌, arith}
 use Rattle.std.specs.Option.{option_map}
 use Rattle.plc_base.specs.Keeper.{Records, SameOutside}
-use Rattle.plc_base.specs.SlotTables.{Layout, slot_of, IsStored}
-use Rattle.plc_base.proofs.SlotTables.{stored_elsewhere}
+use Rattle.store_tables.specs.SlotTables.{Layout, slot_of, IsStored}
+use Rattle.store_tables.proofs.SlotTables.{stored_elsewhere}
 use Rattle.routing_set.specs.RoutingSet.{Routing, ranks, IsKept, SameElsewhere, floor_slot, floors_in}
 
 -- what is kept stays where other slots are put

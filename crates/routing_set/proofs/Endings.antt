@@ -3,7 +3,7 @@ use Rattle.std.proofs.Common.{◌≡◌, ℕ, zero, suc, ◌≤◌, Bool, true, 
 use Rattle.std.specs.Prelude.{slice_get}
 use Rattle.std.proofs.lemmas.List.{drop_all, take_all, append-nil}
 use Rattle.plc_base.specs.Keeper.{Records}
-use Rattle.plc_base.proofs.SlotTables.{stored_map}
+use Rattle.store_tables.proofs.SlotTables.{stored_map}
 use Rattle.routing_set.specs.declared.entry.RoutingEntry.{RoutingEntry}
 use Rattle.routing_set.specs.RoutingSet.{Routing, ranks, IsKept, without_route, ended}
 

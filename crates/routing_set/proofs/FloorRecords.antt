@@ -8,7 +8,7 @@ use Rattle.std.specs.FinMap.{get, insert}
 use Rattle.byteorder.specs.Endian.{big_number, IsRead}
 use Rattle.byteorder.specs.Numbers.{big_number-reads_back}
 use Rattle.plc_base.specs.Keeper.{Records, Store, Stores}
-use Rattle.plc_base.proofs.StoreLemmas.{get-insert_same}
+use Rattle.store_tables.proofs.StoreLemmas.{get-insert_same}
 use Rattle.routing_set.specs.RoutingSet.{floor_slot, floors_of, floors_in, floors_octets, floors_write}
 
 -- the octets of numbers of 2 octets each

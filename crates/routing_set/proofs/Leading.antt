@@ -6,13 +6,13 @@ use Rattle.std.proofs.lemmas.Bool.{cases_eq, ltb-false}
 use Rattle.std.proofs.lemmas.List.{get_or-set_same, get_or-set_other}
 use Rattle.std.proofs.lemmas.List.Elements.{All-set, All-push}
 use Rattle.plc_base.specs.Keeper.{Records}
-use Rattle.plc_base.specs.Writes.{puts_of}
-use Rattle.plc_base.specs.LeadingPuts.{PutsLead}
-use Rattle.plc_base.specs.SlotTables as slots
-use Rattle.plc_base.proofs.LeadingPuts.{leads_one, leads_beside, leads_append, leads_when}
-use Rattle.plc_base.proofs.CutWrites.{put_outside}
-use Rattle.plc_base.proofs.StoreLemmas.{get-insert_other}
-use Rattle.plc_base.proofs.SlotTables.{found, stored_set, stored_push, stored_elsewhere}
+use Rattle.store_tables.specs.Writes.{puts_of}
+use Rattle.store_tables.specs.LeadingPuts.{PutsLead}
+use Rattle.store_tables.specs.SlotTables as slots
+use Rattle.store_tables.proofs.LeadingPuts.{leads_one, leads_beside, leads_append, leads_when}
+use Rattle.store_tables.proofs.CutWrites.{put_outside}
+use Rattle.store_tables.proofs.StoreLemmas.{get-insert_other}
+use Rattle.store_tables.proofs.SlotTables.{found, stored_set, stored_push, stored_elsewhere}
 use Rattle.routing_set.specs.declared.rank.Rank.{Rank}
 use Rattle.routing_set.specs.declared.entry.RoutingEntry.{RoutingEntry}
 use Rattle.routing_set.specs.RoutingSet.{Routing, IsKept, ranks, octets_of, floors_in, floor_slot, floors_due, floors_write, raised, raises, class_of, place_of, entered, entry_writes, writes_of, after_of, first_to_go, is_full, offered_entry, offer_writes, offered}

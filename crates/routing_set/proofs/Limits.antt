@@ -3,7 +3,7 @@ use Rattle.std.proofs.Common.{◌≡◌, ◌⊎◌, ℕ, ◌^◌, ◌<◌, ◌�
 use Rattle.std.specs.FinMap.{get, insert}
 use Rattle.byteorder.specs.Endian.{big_bytes}
 use Rattle.plc_base.specs.Keeper.{Records, SameOutside}
-use Rattle.plc_base.proofs.NumberSlots.{stored-insert}
+use Rattle.store_tables.proofs.NumberSlots.{stored-insert}
 use Rattle.routing_set.specs.OwnNumber.{Numbering, IsKept, limit_at, limit_in, limit_slot}
 
 -- a limit that was stored is read back

@@ -8,8 +8,8 @@ use Rattle.std.proofs.lemmas.Bool.Decides.{nat_tests}
 use Rattle.std.proofs.lemmas.List.{get_or-set_same, get_or-set_other, length-set}
 use Rattle.std.proofs.lemmas.List.Folds.{find_at, find-set, find_past, find-append}
 use Rattle.std.proofs.lemmas.Option.{slice_get_past, slice_get_within, slice_get-get_or}
-use Rattle.plc_base.specs.SlotTables.{IsTable}
-use Rattle.plc_base.proofs.SlotTables.{found, apart, free_new, free_found, IsTable-set, IsTable-push}
+use Rattle.store_tables.specs.SlotTables.{IsTable}
+use Rattle.store_tables.proofs.SlotTables.{found, apart, free_new, free_found, IsTable-set, IsTable-push}
 use Rattle.routing_set.specs.declared.entry.RoutingEntry.{RoutingEntry}
 use Rattle.routing_set.specs.RoutingSet.{ranks, place_of, entry_of}
 use Rattle.routing_set.specs.Laws.{Among}

@@ -8,10 +8,10 @@ use Rattle.std.specs.List.{list_all}
 use Rattle.std.specs.FinMap.{get}
 use Rattle.std.proofs.lemmas.Option.{slice_get_within, slice_get-get_or}
 use Rattle.plc_base.specs.Keeper.{Records, Store, Write, Stores, SameOutside}
-use Rattle.plc_base.specs.Writes.{Wrote, puts_of}
-use Rattle.plc_base.proofs.WritesLemmas.{wrote_none, wrote_then, wrote_stop}
-use Rattle.plc_base.specs.SlotTables as slots
-use Rattle.plc_base.proofs.SlotTables.{apart, stored_elsewhere}
+use Rattle.store_tables.specs.Writes.{Wrote, puts_of}
+use Rattle.store_tables.proofs.WritesLemmas.{wrote_none, wrote_then, wrote_stop}
+use Rattle.store_tables.specs.SlotTables as slots
+use Rattle.store_tables.proofs.SlotTables.{apart, stored_elsewhere}
 use Rattle.routing_set.specs.declared.entry.RoutingEntry.{RoutingEntry}
 use Rattle.routing_set.specs.Laws.{Among}
 use Rattle.routing_set.specs.RoutingSet.{Routing, ranks, place_of, IsKept, Keeps, floor_slot, floors_in, is_fresh, goes_before, first_of, first_to_go, is_full, forgotten, raised, floors_due, writes_of, half_of, after_of, half_entered, entered, entry_writes}

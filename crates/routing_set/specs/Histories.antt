@@ -2,7 +2,7 @@
 use Rattle.std.specs.Prelude.{◌≡◌, ◌⊎◌, ℕ, ◌<◌, Bool, true, false, length, Option, Some, None, Ok}
 use Rattle.std.specs.FinMap.{get}
 use Rattle.plc_base.specs.Keeper.{Records}
-use Rattle.plc_base.specs.SlotTables.{IsTable, slot_of}
+use Rattle.store_tables.specs.SlotTables.{IsTable, slot_of}
 use Rattle.routing_set.specs.declared.rank.Rank.{Rank}
 use Rattle.routing_set.specs.declared.entry.RoutingEntry.{RoutingEntry}
 use Rattle.routing_set.specs.RoutingSet.{Routing, ranks, IsKept, floor_slot, opened, is_better, is_full, offered, half_offered, ended}

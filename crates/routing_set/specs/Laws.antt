@@ -2,8 +2,8 @@
 use Rattle.std.specs.Prelude.{◌≡◌, ◌⊎◌, ℕ, ◌<◌, ◌≤◌, ◌^◌, Bool, true, false, ◌==◌, ◌&&◌, if◌then◌else◌, List, slice_get, get_or, All, Option, Some, None, MatchOption}
 use Rattle.std.specs.List.{list_all}
 use Rattle.plc_base.specs.Keeper.{Records}
-use Rattle.plc_base.specs.Writes.{puts_of}
-use Rattle.plc_base.specs.LeadingPuts.{PutsLead}
+use Rattle.store_tables.specs.Writes.{puts_of}
+use Rattle.store_tables.specs.LeadingPuts.{PutsLead}
 use Rattle.routing_set.specs.declared.rank.Rank.{Rank}
 use Rattle.routing_set.specs.declared.entry.RoutingEntry.{RoutingEntry}
 use Rattle.routing_set.specs.Ranks.{IsAtLeast}

@@ -3,8 +3,8 @@ use Rattle.std.specs.Prelude.{◌≡◌, ◌⊎◌, ℕ, ◌+◌, ◌≤◌, min
 use Rattle.std.specs.Coded.{Coded, code_by, coded×, coded_ℕ}
 use Rattle.std.specs.FinMap.{get}
 use Rattle.plc_base.specs.Keeper.{Records, Write}
-use Rattle.plc_base.specs.NumberSlots.{number_in, stored_number, number_write}
-use Rattle.plc_base.specs.declared.number_slot.NumberSlot.{NumberSlot}
+use Rattle.store_tables.specs.NumberSlots.{number_in, stored_number, number_write}
+use Rattle.store_tables.specs.declared.number_slot.NumberSlot.{NumberSlot}
 use Rattle.plc_base.specs.declared.keeper.BadStore.{BadStore}
 use Rattle.routing_set.specs.declared.fault.NumberFault.{NumberFault}
 use Rattle.routing_set.specs.declared.fault.NumberFault.TheVariants.{SeqSpent, Store}

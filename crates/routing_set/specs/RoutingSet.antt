@@ -8,8 +8,8 @@ use Rattle.std.specs.FinMap.{get}
 use Rattle.byteorder.specs.Endian.{big_number, big_bytes}
 use Rattle.plc_base.specs.Keeper.{Records, Write}
 use Rattle.plc_base.specs.Times.{is_within}
-use Rattle.plc_base.specs.Writes.{puts_of}
-use Rattle.plc_base.specs.SlotTables as slots
+use Rattle.store_tables.specs.Writes.{puts_of}
+use Rattle.store_tables.specs.SlotTables as slots
 use Rattle.plc_base.specs.declared.keeper.BadStore.{BadStore}
 use Rattle.routing_set.specs.declared.fault.Offered.{Offered}
 use Rattle.routing_set.specs.declared.fault.Offered.TheVariants.{Better, NotBetter}

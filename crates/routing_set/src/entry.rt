@@ -5,7 +5,8 @@ ghost use Rattle.routing_set.specs.RoutingSet.{is_fresh, goes_before, comes_firs
 
 use crate::Rank;
 use byteorder::{BigEndian, ByteOrder};
-use plc_base::{Record, Short, SlotEntry, earlier_end, is_within};
+use plc_base::{Record, Short, earlier_end, is_within};
+use store_tables::SlotEntry;
 
 /// A valid route.
 #[derive(Clone, Copy, Debug, PartialEq, Eq)]

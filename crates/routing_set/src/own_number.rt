@@ -2,11 +2,12 @@
 ghost use Rattle.std.specs.Prelude.{◌≡◌, ◌+◌, ◌<◌, ◌≤◌, IfOk, OnOk, OnErr, is_ok, Some, Ok};
 ghost use Rattle.std.specs.Bool.{OnTrue};
 ghost use Rattle.plc_base.specs.Keeper.{Stores, OutsideStays, IsOldOrNew};
-ghost use Rattle.plc_base.specs.NumberSlots.{IsOldOrNewNumber, stored_number};
+ghost use Rattle.store_tables.specs.NumberSlots.{IsOldOrNewNumber, stored_number};
 ghost use Rattle.routing_set.specs.OwnNumber.{Numbering, IsKept, IsOldLimitOrKept, limit_at, opened, numbering_at, limit_write, advance_write, advanced, next_result, next_write, next_after, is_stored, preset_result};
 
 use crate::NumberFault;
-use plc_base::{BadStore, Failed, Keeper, NumberSlot};
+use plc_base::{BadStore, Failed, Keeper};
+use store_tables::NumberSlot;
 use std::marker::Model;
 
 /// Gives out the numbers of the route messages that a node begins, each higher than the last, also over losses of power: a

@@ -4,8 +4,8 @@ ghost use Rattle.std.specs.Bool.{OnTrue};
 ghost use Rattle.std.specs.Ordering.{nat_cmp};
 ghost use Rattle.std.specs.List.{list_all};
 ghost use Rattle.plc_base.specs.Keeper.{Records};
-ghost use Rattle.plc_base.specs.Writes.{Wrote};
-ghost use Rattle.plc_base.specs.SlotTables.{IsTable, IsGapless, IsReading};
+ghost use Rattle.store_tables.specs.Writes.{Wrote};
+ghost use Rattle.store_tables.specs.SlotTables.{IsTable, IsGapless, IsReading};
 ghost use Rattle.routing_set.specs.Ranks.{beats, rank_by};
 ghost use Rattle.routing_set.specs.Endings.{takes};
 ghost use Rattle.routing_set.specs.FirstEnd.{first_end, IsStill};
@@ -16,7 +16,8 @@ use crate::entry::first_of;
 use crate::floors::{FLOOR_SLOT, class_of, raise_floor, stored_floors};
 use crate::{OfferFault, Offered, Rank, Route, RoutingEntry};
 use arrayvec::ArrayVec;
-use plc_base::{BadStore, Failed, Keeper, Short, SlotTable};
+use plc_base::{BadStore, Failed, Keeper, Short};
+use store_tables::SlotTable;
 use std::marker::Model;
 
 /// What a node knows of ways to other addresses: at most 64 ranks, which are stored, the valid routes, and 16 floors (the

@@ -83,7 +83,7 @@ fn first_marks(keeper: &MemKeeper) -> Result<PeerMarks, Fail>
 }
 
 // The marks that a new start finds.
-#[tactic(auto, using(plc_base::proofs::Opening::stored_gapless))]
+#[tactic(auto, using(store_tables::proofs::Opening::stored_gapless))]
 fn restarted(before: PeerMarks, keeper: &MemKeeper) -> Result<PeerMarks, Fail>
     requires kept { IsKept before keeper.now.records }
     ensures kept { IfOk result (λ marks. IsKept marks keeper.now.records) }

@@ -1,7 +1,7 @@
 //! Tables: which records have a reading, the ends of the ranges, and each put of each call cut.
 ghost use Rattle.std.specs.Prelude.{◌≡◌, IfOk, OnOk};
 ghost use Rattle.std.specs.FinMap as map;
-ghost use Rattle.plc_base.specs.SlotTables.{IsGapless};
+ghost use Rattle.store_tables.specs.SlotTables.{IsGapless};
 ghost use Rattle.group_keys.specs.KeyBook.{entries, IsKept};
 
 use group_keys::{BookFault, KeyBook, KeyRing, RingFault};
@@ -145,7 +145,7 @@ fn first_book(keeper: &MemKeeper) -> Result<KeyBook, Fail>
 }
 
 // The book that a new start finds.
-#[tactic(auto, using(plc_base::proofs::Opening::stored_gapless))]
+#[tactic(auto, using(store_tables::proofs::Opening::stored_gapless))]
 fn restarted(before: KeyBook, keeper: &MemKeeper) -> Result<KeyBook, Fail>
     requires kept { IsKept before keeper.now.records }
     ensures kept { IfOk result (λ book. IsKept book keeper.now.records) }
@@ -218,7 +218,7 @@ fn issued(keeper: &mut MemKeeper, grant: &Grant) -> Result<KeyBook, Fail>
 }
 
 // Nothing is put where nothing changes, so the put that is to fail is the one of the kick.
-#[tactic(auto, using(plc_base::proofs::Opening::stored_gapless))]
+#[tactic(auto, using(store_tables::proofs::Opening::stored_gapless))]
 fn kick_cut(book: &mut KeyBook, keeper: &mut MemKeeper, grant: &Grant) -> Result<(), Fail>
     requires kept { IsKept book.old keeper.old.records }
     ensures gapless { OnOk result (IsGapless entries keeper.new.records) }

@@ -1,9 +1,10 @@
 //! A table of marks whose addresses do not rise.
 ghost use Rattle.std.specs.Prelude.{◌≡◌, IfOk, OnOk};
 ghost use Rattle.std.specs.FinMap as map;
-ghost use Rattle.plc_base.specs.Marks.{IsKept};
+ghost use Rattle.store_tables.specs.Marks.{IsKept};
 
-use plc_base::{Keeper, MarkTable, MemKeeper, Record, Short};
+use plc_base::{Keeper, MemKeeper, Record, Short};
+use store_tables::MarkTable;
 use std::test::Fail;
 
 type Marks = MarkTable<0x0100, 64>;

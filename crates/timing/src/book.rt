@@ -3,7 +3,8 @@ ghost use Rattle.std.specs.Prelude.{◌≤◌};
 
 use anyhow::Context;
 use group_keys::{BookEntry, KeyBook};
-use plc_base::{Eui, Keeper, Key, MemKeeper, SlotEntry};
+use plc_base::{Eui, Keeper, Key, MemKeeper};
+use store_tables::SlotEntry;
 
 /// How many meters a book has room for.
 const METERS: u32 = 999;

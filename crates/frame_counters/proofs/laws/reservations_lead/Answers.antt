@@ -1,4 +1,4 @@
-use Rattle.plc_base.proofs.StoredLimits.{reservations_lead}
+use Rattle.store_tables.proofs.StoredLimits.{reservations_lead}
 use Rattle.frame_counters.proofs.laws.reservations_lead.Goals as goal
 
 pub returns : goal.returns

@@ -1,5 +1,5 @@
 use Rattle.std.proofs.Common.{arith}
-use Rattle.plc_base.proofs.StoreLemmas.{stores_elsewhere}
+use Rattle.store_tables.proofs.StoreLemmas.{stores_elsewhere}
 use Rattle.group_keys.specs.KeyRing.{ring_write}
 use Rattle.group_keys.proofs.Rings.{ring_stored, ring_either}
 use Rattle.group_keys.proofs.key_ring.store_ring.Goals as goal

@@ -2,7 +2,7 @@ use Rattle.std.proofs.Common.{inl, ap, ◌∙◌}
 use Rattle.std.specs.FinMap.{get, get-empty}
 use Rattle.std.specs.Ordering.{nat_cmp}
 use Rattle.plc_base.specs.Keeper.{Records}
-use Rattle.plc_base.proofs.Opening.{empty_gapless}
+use Rattle.store_tables.proofs.Opening.{empty_gapless}
 use Rattle.frame_counters.specs.PeerMarks.{peers}
 use Rattle.routing_set.specs.RoutingSet.{ranks}
 use Rattle.group_keys.specs.KeyRing.{ring_at}

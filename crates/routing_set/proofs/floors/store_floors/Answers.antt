@@ -1,6 +1,6 @@
 use Rattle.std.proofs.Common.{arith}
 use Rattle.std.specs.Prelude.{Some}
-use Rattle.plc_base.proofs.StoreLemmas.{stores_elsewhere}
+use Rattle.store_tables.proofs.StoreLemmas.{stores_elsewhere}
 use Rattle.routing_set.specs.RoutingSet.{floors_write}
 use Rattle.routing_set.proofs.FloorRecords.{floors_stored, floors_either}
 use Rattle.routing_set.proofs.floors.store_floors.Goals as goal

@@ -1,4 +1,4 @@
-use Rattle.plc_base.proofs.Opening.{empty_gapless}
+use Rattle.store_tables.proofs.Opening.{empty_gapless}
 use Rattle.broadcast_log.specs.OriginMarks.{marks}
 use Rattle.store_tests.proofs.broadcasts.first_log.Goals as goal
 

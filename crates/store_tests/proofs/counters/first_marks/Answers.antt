@@ -1,4 +1,4 @@
-use Rattle.plc_base.proofs.Opening.{empty_gapless}
+use Rattle.store_tables.proofs.Opening.{empty_gapless}
 use Rattle.frame_counters.specs.PeerMarks.{peers}
 use Rattle.store_tests.proofs.counters.first_marks.Goals as goal
 

@@ -1,4 +1,4 @@
-use Rattle.plc_base.proofs.Opening.{empty_gapless}
+use Rattle.store_tables.proofs.Opening.{empty_gapless}
 use Rattle.group_keys.specs.KeyBook.{entries}
 use Rattle.store_tests.proofs.keys.first_book.Goals as goal
 

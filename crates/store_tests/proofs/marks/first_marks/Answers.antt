@@ -1,5 +1,5 @@
-use Rattle.plc_base.proofs.Opening.{empty_gapless}
-use Rattle.plc_base.specs.Marks.{layout}
+use Rattle.store_tables.proofs.Opening.{empty_gapless}
+use Rattle.store_tables.specs.Marks.{layout}
 use Rattle.store_tests.proofs.marks.first_marks.Goals as goal
 
 pub returns : goal.returns

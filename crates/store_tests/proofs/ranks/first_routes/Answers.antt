@@ -1,4 +1,4 @@
-use Rattle.plc_base.proofs.Opening.{empty_gapless}
+use Rattle.store_tables.proofs.Opening.{empty_gapless}
 use Rattle.routing_set.specs.RoutingSet.{ranks}
 use Rattle.store_tests.proofs.ranks.first_routes.Goals as goal
 

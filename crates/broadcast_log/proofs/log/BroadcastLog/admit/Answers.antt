@@ -1,6 +1,6 @@
 use Rattle.std.proofs.Common.{◌≡◌, Ok, Err, Result, sym, ap, subst, ◌∙◌, arith}
 use Rattle.std.specs.Prelude.{OnOk}
-use Rattle.plc_base.proofs.MarkEntries.{room_has}
+use Rattle.store_tables.proofs.MarkEntries.{room_has}
 use Rattle.broadcast_log.specs.declared.fault.LogFault.TheVariants.{Old, OriginsFull}
 use Rattle.broadcast_log.specs.Log.{Log}
 use Rattle.broadcast_log.specs.OriginMarks.{AreMarksKept, room_for}

@@ -1,6 +1,6 @@
 use Rattle.std.proofs.Common.{ap, subst, sym, ◌∙◌, ℕ}
 use Rattle.broadcast_log.specs.Log.{Log}
-use Rattle.plc_base.specs.Numberings.{AllBelow}
+use Rattle.store_tables.specs.Numberings.{AllBelow}
 use Rattle.broadcast_log.proofs.Runs.{next_is_fresh}
 use Rattle.broadcast_log.proofs.log.BroadcastLog.next.Goals as goal
 

@@ -1,6 +1,6 @@
 use Rattle.std.proofs.Common.{◌≡◌, set, get_or, length, sym, ap, subst, ◌∙◌, arith}
 use Rattle.std.specs.List.{refill}
-use Rattle.plc_base.proofs.SlotTables.{refill-set}
+use Rattle.store_tables.proofs.SlotTables.{refill-set}
 use Rattle.fragment_buffers.specs.Reassembly.{begun, placed}
 use Rattle.fragment_buffers.specs.Taking.{grown}
 use Rattle.fragment_buffers.specs.Entries.{Entry, Keeps, Moves, IsBounded, told, entry_at, reassembly_in, blocks_used, no_entry}

@@ -1,7 +1,7 @@
 use Rattle.std.proofs.Common.{◌≡◌, true, sym, subst, arith}
 use Rattle.plc_base.specs.Keeper.{IsOldOrNew}
-use Rattle.plc_base.specs.Marks.{has_room}
-use Rattle.plc_base.proofs.MarkEntries.{kept_covered, room_has}
+use Rattle.store_tables.specs.Marks.{has_room}
+use Rattle.store_tables.proofs.MarkEntries.{kept_covered, room_has}
 use Rattle.frame_counters.specs.declared.fault.PeerFault.TheVariants.{Replayed, PeersFull}
 use Rattle.frame_counters.specs.PeerMarks.{Table, IsKept, kept_after}
 use Rattle.frame_counters.proofs.peer_marks.PeerMarks.keep.Goals as goal

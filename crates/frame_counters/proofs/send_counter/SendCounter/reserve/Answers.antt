@@ -1,6 +1,6 @@
 use Rattle.std.proofs.Common.{◌≡◌, ℕ, List, Result, Ok, Err, ap, subst, sym}
 use Rattle.std.specs.Prelude.{IfOk}
-use Rattle.plc_base.specs.Numberings.{AllBelow}
+use Rattle.store_tables.specs.Numberings.{AllBelow}
 use Rattle.frame_counters.specs.SendCounter.{Counting}
 use Rattle.frame_counters.proofs.Given.{next_is_fresh}
 use Rattle.frame_counters.proofs.send_counter.SendCounter.reserve.Goals as goal

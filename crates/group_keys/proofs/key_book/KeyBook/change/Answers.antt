@@ -1,5 +1,5 @@
 use Rattle.std.proofs.Common.{◌≡◌, true, Some, set, refl, sym, ap, subst, ◌∙◌}
-use Rattle.plc_base.specs.SlotTables as slots
+use Rattle.store_tables.specs.SlotTables as slots
 use Rattle.group_keys.specs.KeyBook.{Book, entries, place_of, same_entry, with_entry, address_of}
 use Rattle.group_keys.proofs.Books.{entry_same, address_kept}
 use Rattle.group_keys.proofs.key_book.KeyBook.change.Goals as goal

@@ -1,4 +1,4 @@
-use Rattle.plc_base.proofs.Opening.{empty_gapless}
+use Rattle.store_tables.proofs.Opening.{empty_gapless}
 use Rattle.frame_counters.specs.PeerMarks.{peers}
 use Rattle.routing_set.specs.RoutingSet.{ranks}
 use Rattle.node_tests.proofs.stations.node.opened.Goals as goal

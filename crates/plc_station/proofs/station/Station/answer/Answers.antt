@@ -1,6 +1,6 @@
 use Rattle.std.proofs.Common.{◌≡◌, ◌∷◌, [], ◌++◌, ◌+◌, Some, length, map, refl, sym, ap, subst, ◌∙◌, arith}
 use Rattle.std.proofs.lemmas.List.{length-append}
-use Rattle.plc_base.proofs.WritesLemmas.{wrote_append, wrote_append_stop, wrote_one}
+use Rattle.store_tables.proofs.WritesLemmas.{wrote_append, wrote_append_stop, wrote_one}
 use Rattle.plc_base.specs.declared.out_frame.Out.{Out}
 use Rattle.plc_base.specs.Grant.{Granted}
 use Rattle.loadng_messages.specs.Grammar as messages

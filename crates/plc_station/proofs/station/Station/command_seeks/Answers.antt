@@ -1,6 +1,6 @@
 use Rattle.std.specs.Prelude.{IfSome}
 use Rattle.std.proofs.Common.{◌≡◌, ◌∷◌, [], Some, map, refl, sym, ap, ◌∙◌}
-use Rattle.plc_base.proofs.WritesLemmas.{wrote_one}
+use Rattle.store_tables.proofs.WritesLemmas.{wrote_one}
 use Rattle.loadng_messages.specs.Grammar as messages
 use Rattle.loadng_messages.specs.declared.message.Message.TheVariants.{Rreq}
 use Rattle.mesh_header.specs.declared.unit.Unit.TheVariants.{Local}

@@ -1,5 +1,5 @@
 use Rattle.std.proofs.Common.{List, map, refl, sym, ap, ◌∙◌}
-use Rattle.plc_base.proofs.WritesLemmas.{wrote_none}
+use Rattle.store_tables.proofs.WritesLemmas.{wrote_none}
 use Rattle.node_rules.specs.declared.heard.SentHow.TheVariants.{Waiting}
 use Rattle.node_rules.specs.Ciphers.{network}
 use Rattle.node_rules.specs.Frames.{Sent as Frame, spelled}

@@ -1,6 +1,6 @@
 use Rattle.std.proofs.Common.{Some, List, map, refl, sym, ap}
 use Rattle.std.specs.Prelude.{IfSome}
-use Rattle.plc_base.proofs.WritesLemmas.{wrote_one}
+use Rattle.store_tables.proofs.WritesLemmas.{wrote_one}
 use Rattle.group_keys.specs.KeyRing.{ring_write}
 use Rattle.node_rules.specs.Ciphers.{network}
 use Rattle.node_rules.specs.Frames.{Sent as Frame, spelled}

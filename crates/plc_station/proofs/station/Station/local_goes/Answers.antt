@@ -1,5 +1,5 @@
 use Rattle.std.proofs.Common.{◌≡◌, ◌∷◌, [], ◌++◌, Some, List, map, refl, sym, ap, ◌∙◌}
-use Rattle.plc_base.proofs.WritesLemmas.{wrote_none}
+use Rattle.store_tables.proofs.WritesLemmas.{wrote_none}
 use Rattle.plc_base.specs.declared.out_frame.OutFrame.{OutFrame}
 use Rattle.mesh_header.specs.declared.unit.Unit.TheVariants.{Local}
 use Rattle.waiting_bodies.specs.Frames.{unit_frame, with_frames}

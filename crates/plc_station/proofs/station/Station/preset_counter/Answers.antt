@@ -1,6 +1,6 @@
 use Rattle.std.proofs.Common.{true, false, refl}
 use Rattle.frame_counters.specs.SendCounter.{limit_write}
-use Rattle.plc_base.proofs.WritesLemmas.{wrote_one}
+use Rattle.store_tables.proofs.WritesLemmas.{wrote_one}
 use Rattle.node_rules.specs.Plans.{resting}
 use Rattle.plc_station.proofs.Carrying.{on_memory, lines_are}
 use Rattle.plc_station.proofs.station.Station.preset_counter.Goals as goal

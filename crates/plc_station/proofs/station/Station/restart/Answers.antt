@@ -1,6 +1,6 @@
 use Rattle.std.proofs.Common.{◌≡◌, ap, sym, subst}
 use Rattle.plc_base.specs.Keeper.{Records}
-use Rattle.plc_base.specs.SlotTables.{IsGapless}
+use Rattle.store_tables.specs.SlotTables.{IsGapless}
 use Rattle.frame_counters.specs.PeerMarks.{peers}
 use Rattle.routing_set.specs.RoutingSet.{ranks}
 use Rattle.node_rules.specs.Memory.{StationMemory}

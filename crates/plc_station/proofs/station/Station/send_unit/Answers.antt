@@ -1,5 +1,5 @@
 use Rattle.std.proofs.Common.{◌≡◌, ◌∷◌, [], ◌++◌, Some, map, refl, sym, ap, ◌∙◌}
-use Rattle.plc_base.proofs.WritesLemmas.{wrote_none}
+use Rattle.store_tables.proofs.WritesLemmas.{wrote_none}
 use Rattle.node_rules.specs.Ciphers.{network}
 use Rattle.node_rules.specs.Frames.{spelled}
 use Rattle.node_rules.specs.Memory.{StationMemory}

@@ -1,8 +1,8 @@
 use Rattle.std.proofs.Common.{◌≡◌, ◌∷◌, [], List, Some, None, true, false, length, sym, ap, subst, ◌∙◌}
 use Rattle.std.specs.Prelude.{◌==◌, is_ok}
 use Rattle.plc_base.specs.Keeper.{Write}
-use Rattle.plc_base.specs.Writes.{Wrote}
-use Rattle.plc_base.specs.SlotTables.{entry_write}
+use Rattle.store_tables.specs.Writes.{Wrote}
+use Rattle.store_tables.specs.SlotTables.{entry_write}
 use Rattle.routing_set.specs.declared.entry.RoutingEntry.{RoutingEntry}
 use Rattle.routing_set.specs.RoutingSet.{Routing, ranks, IsKept, place_of, entered, half_entered, entry_writes, Keeps}
 use Rattle.routing_set.proofs.Offers.{room_old, entered_held, entered_new, entered_first, writes_held, writes_new, writes_first, held_keeps, new_keeps, first_keeps, stored_ok, ok_is, wrote_last}

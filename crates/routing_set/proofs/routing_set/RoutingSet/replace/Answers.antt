@@ -1,9 +1,9 @@
 use Rattle.std.proofs.Common.{◌≡◌, ◌<◌, ℕ, List, Bool, Option, Some, None, true, false, length, sym, ap, subst, inl, ◌∙◌, arith}
 use Rattle.std.specs.Prelude.{is_some, IfSome}
 use Rattle.std.proofs.lemmas.Bool.Decides.{nat_tests}
-use Rattle.plc_base.specs.Writes.{Wrote}
-use Rattle.plc_base.specs.SlotTables.{IsStored}
-use Rattle.plc_base.proofs.SlotTables.{free_new, stored_elsewhere}
+use Rattle.store_tables.specs.Writes.{Wrote}
+use Rattle.store_tables.specs.SlotTables.{IsStored}
+use Rattle.store_tables.proofs.SlotTables.{free_new, stored_elsewhere}
 use Rattle.routing_set.specs.declared.entry.RoutingEntry.{RoutingEntry}
 use Rattle.routing_set.specs.Laws.{Among}
 use Rattle.routing_set.specs.RoutingSet.{Routing, ranks, place_of, first_to_go, writes_of}

@@ -1,0 +1,15 @@
+pub mod StoreLemmas
+pub mod NumberSlots
+pub mod StoredLimits
+pub mod GivenNumbers
+pub mod WritesLemmas
+pub mod LeadingPuts
+pub mod CutWrites
+pub mod SlotTables
+pub mod SlotOrders
+pub mod MarkEntries
+pub mod AdmittedNumbers
+pub mod LeadingMarks
+pub mod Opening
+pub mod LookUps
+pub mod Finding

@@ -1,0 +1,9 @@
+pub mod Writes
+pub mod LeadingPuts
+pub mod Laws
+pub mod NumberSlots
+pub mod Numberings
+pub mod SlotOrders
+pub mod SlotTables
+pub mod Marks
+pub mod AdmittedNumbers
