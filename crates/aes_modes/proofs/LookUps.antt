@@ -9,7 +9,7 @@ use lib.Lanes.{zip2, Each1}
 use lib.Dec.{T, leb, ltb}
 use mathlib.Core.Bool.{cond, ◌||◌}
 use Rattle.aes_modes.specs.Field.{product, inverse, s_box}
-use Rattle.aes_modes.specs.LookUps.{entry, inv, inva, half_g, half_h, turned, unturned, unhidden, plain}
+use Rattle.aes_modes.specs.LookUps.{entry, inverses, scaled_inverses, half_g, half_h, turned, unturned, unhidden, plain}
 
 pub zip_const : (f : ℕ → ℕ → ℕ) (a n : ℕ) (xs : List ℕ) → length xs ≡ n → zip2 f xs (replicate n a) ≡ map (λ (x : ℕ). f x a) xs
 zip_const f a zero [] h = refl
@@ -132,31 +132,31 @@ abbrev pub fun_k : ℕ → ℕ
 fun_k b = bit_and b 15
 
 abbrev pub fun_f : ℕ → ℕ
-fun_f b = entry inva (fun_k b)
+fun_f b = entry scaled_inverses (fun_k b)
 
 abbrev pub fun_j : ℕ → ℕ
 fun_j b = bit_xor (fun_i b) (fun_k b)
 
 abbrev pub fun_p : ℕ → ℕ
-fun_p b = entry inv (fun_i b)
+fun_p b = entry inverses (fun_i b)
 
 abbrev pub fun_m : ℕ → ℕ
 fun_m b = bit_xor (fun_p b) (fun_f b)
 
 abbrev pub fun_q : ℕ → ℕ
-fun_q b = entry inv (fun_j b)
+fun_q b = entry inverses (fun_j b)
 
 abbrev pub fun_n : ℕ → ℕ
 fun_n b = bit_xor (fun_q b) (fun_f b)
 
 abbrev pub fun_r : ℕ → ℕ
-fun_r b = entry inv (fun_m b)
+fun_r b = entry inverses (fun_m b)
 
 abbrev pub fun_g : ℕ → ℕ
 fun_g b = bit_xor (fun_r b) (fun_j b)
 
 abbrev pub fun_s : ℕ → ℕ
-fun_s b = entry inv (fun_n b)
+fun_s b = entry inverses (fun_n b)
 
 abbrev pub fun_h : ℕ → ℕ
 fun_h b = bit_xor (fun_s b) (fun_i b)

@@ -7,9 +7,9 @@ use Rattle.std.proofs.lemmas.Simd.{Each1-get_or}
 use lib.Lanes.{zip2, Each1}
 use Rattle.aes_modes.specs.Field.{product, inverse, s_box}
 use Rattle.aes_modes.specs.Cipher.{sub_bytes, shift_rows, mixed_column, round, next_round_key}
-use Rattle.aes_modes.specs.LookUps.{entry, opt_low, opt_high, unturned, unhidden, once, twice}
+use Rattle.aes_modes.specs.LookUps.{entry, unturned_low, unturned_high, unturned, unhidden, once, twice}
 use Rattle.aes_modes.specs.Rounds.{mixed}
-use Rattle.aes_modes.specs.declared.cipher.TheConstants.{OWN, TURN, BY_ONE, BY_TWO, BY_THREE}
+use Rattle.aes_modes.specs.declared.cipher.TheConstants.{OWN, ROT_WORD, BY_ONE, BY_TWO, BY_THREE}
 use Rattle.aes_modes.proofs.LookUps.{at}
 use Rattle.aes_modes.proofs.Written.{spelled}
 
@@ -53,18 +53,18 @@ sum_entry t same i j li lj =
     (λ q. entry t (bit_xor (sym d q) (sym m q))) ∙ at (pairs_in t) (pairs_out t) same (16 * i + j) (omega arith)
     ∙ (λ q. bit_xor (entry t (d q)) (entry t (m q)))
 
-sums_low : map (pairs_in opt_low) (range_with_len 0 256) ≡ map (pairs_out opt_low) (range_with_len 0 256)
+sums_low : map (pairs_in unturned_low) (range_with_len 0 256) ≡ map (pairs_out unturned_low) (range_with_len 0 256)
 sums_low = refl
 
-sums_high : map (pairs_in opt_high) (range_with_len 0 256) ≡ map (pairs_out opt_high) (range_with_len 0 256)
+sums_high : map (pairs_in unturned_high) (range_with_len 0 256) ≡ map (pairs_out unturned_high) (range_with_len 0 256)
 sums_high = refl
 
 back_sum : (a b : ℕ) → a < 256 → b < 256 → unturned (bit_xor a b) ≡ bit_xor (unturned a) (unturned b)
 back_sum a b la lb =
-    (λ q. bit_xor (entry opt_low (xor_mod a b 4 q)) (entry opt_high (xor_shr a b 4 q)))
-    ∙ (λ q. bit_xor (sum_entry opt_low sums_low (a % 16) (b % 16) (omega arith) (omega arith) q)
-    (sum_entry opt_high sums_high (a / 16) (b / 16) (omega arith) (omega arith) q))
-    ∙ swapped (entry opt_low (a % 16)) (entry opt_low (b % 16)) (entry opt_high (a / 16)) (entry opt_high (b / 16))
+    (λ q. bit_xor (entry unturned_low (xor_mod a b 4 q)) (entry unturned_high (xor_shr a b 4 q)))
+    ∙ (λ q. bit_xor (sum_entry unturned_low sums_low (a % 16) (b % 16) (omega arith) (omega arith) q)
+    (sum_entry unturned_high sums_high (a / 16) (b / 16) (omega arith) (omega arith) q))
+    ∙ swapped (entry unturned_low (a % 16)) (entry unturned_low (b % 16)) (entry unturned_high (a / 16)) (entry unturned_high (b / 16))
 
 -- # What an octet gives to a round
 
@@ -164,12 +164,17 @@ abbrev new_state : List ℕ → List ℕ → List ℕ
 new_state s k = map unturned (zip2 bit_xor (mixed (map once s) (map twice s)) k)
 
 round_16 : (s0 s1 s2 s3 s4 s5 s6 s7 s8 s9 s10 s11 s12 s13 s14 s15 k0 k1 k2 k3 k4 k5 k6 k7 k8 k9 k10 k11 k12 k13 k14 k15 : ℕ)
-    → s0 < 256 → s1 < 256 → s2 < 256 → s3 < 256 → s4 < 256 → s5 < 256 → s6 < 256 → s7 < 256 → s8 < 256 → s9 < 256 → s10 < 256 → s11 < 256 → s12 < 256 → s13 < 256 → s14 < 256 → s15 < 256
-    → k0 < 256 → k1 < 256 → k2 < 256 → k3 < 256 → k4 < 256 → k5 < 256 → k6 < 256 → k7 < 256 → k8 < 256 → k9 < 256 → k10 < 256 → k11 < 256 → k12 < 256 → k13 < 256 → k14 < 256 → k15 < 256
-    → new_state (s0 ∷ s1 ∷ s2 ∷ s3 ∷ s4 ∷ s5 ∷ s6 ∷ s7 ∷ s8 ∷ s9 ∷ s10 ∷ s11 ∷ s12 ∷ s13 ∷ s14 ∷ s15 ∷ []) (k0 ∷ k1 ∷ k2 ∷ k3 ∷ k4 ∷ k5 ∷ k6 ∷ k7 ∷ k8 ∷ k9 ∷ k10 ∷ k11 ∷ k12 ∷ k13 ∷ k14 ∷ k15 ∷ [])
-    ≡ round (map unhidden (k0 ∷ k1 ∷ k2 ∷ k3 ∷ k4 ∷ k5 ∷ k6 ∷ k7 ∷ k8 ∷ k9 ∷ k10 ∷ k11 ∷ k12 ∷ k13 ∷ k14 ∷ k15 ∷ [])) (map unturned (s0 ∷ s1 ∷ s2 ∷ s3 ∷ s4 ∷ s5 ∷ s6 ∷ s7 ∷ s8 ∷ s9 ∷ s10 ∷ s11 ∷ s12 ∷ s13 ∷ s14 ∷ s15 ∷ []))
+    → s0 < 256 → s1 < 256 → s2 < 256 → s3 < 256 → s4 < 256 → s5 < 256 → s6 < 256 → s7 < 256 → s8 < 256 → s9 < 256 → s10 < 256 → s11 < 256 → s12 < 256
+    → s13 < 256 → s14 < 256 → s15 < 256
+    → k0 < 256 → k1 < 256 → k2 < 256 → k3 < 256 → k4 < 256 → k5 < 256 → k6 < 256 → k7 < 256 → k8 < 256 → k9 < 256 → k10 < 256 → k11 < 256 → k12 < 256
+    → k13 < 256 → k14 < 256 → k15 < 256
+    → new_state (s0 ∷ s1 ∷ s2 ∷ s3 ∷ s4 ∷ s5 ∷ s6 ∷ s7 ∷ s8 ∷ s9 ∷ s10 ∷ s11 ∷ s12 ∷ s13 ∷ s14 ∷ s15 ∷ []) (k0 ∷ k1 ∷ k2 ∷ k3 ∷ k4 ∷ k5 ∷ k6 ∷ k7 ∷
+    k8 ∷ k9 ∷ k10 ∷ k11 ∷ k12 ∷ k13 ∷ k14 ∷ k15 ∷ [])
+    ≡ round (map unhidden (k0 ∷ k1 ∷ k2 ∷ k3 ∷ k4 ∷ k5 ∷ k6 ∷ k7 ∷ k8 ∷ k9 ∷ k10 ∷ k11 ∷ k12 ∷ k13 ∷ k14 ∷ k15 ∷ [])) (map unturned (s0 ∷ s1 ∷ s2 ∷
+    s3 ∷ s4 ∷ s5 ∷ s6 ∷ s7 ∷ s8 ∷ s9 ∷ s10 ∷ s11 ∷ s12 ∷ s13 ∷ s14 ∷ s15 ∷ []))
 unfolding round
-round_16 s0 s1 s2 s3 s4 s5 s6 s7 s8 s9 s10 s11 s12 s13 s14 s15 k0 k1 k2 k3 k4 k5 k6 k7 k8 k9 k10 k11 k12 k13 k14 k15 l0 l1 l2 l3 l4 l5 l6 l7 l8 l9 l10 l11 l12 l13 l14 l15 m0 m1 m2 m3 m4 m5 m6 m7 m8 m9 m10 m11 m12 m13 m14 m15 = λ i.
+round_16 s0 s1 s2 s3 s4 s5 s6 s7 s8 s9 s10 s11 s12 s13 s14 s15 k0 k1 k2 k3 k4 k5 k6 k7 k8 k9 k10 k11 k12 k13 k14 k15 l0 l1 l2 l3 l4 l5 l6 l7 l8 l9
+    l10 l11 l12 l13 l14 l15 m0 m1 m2 m3 m4 m5 m6 m7 m8 m9 m10 m11 m12 m13 m14 m15 = λ i.
     column s0 s5 s10 s15 k0 k1 k2 k3 l0 l5 l10 l15 m0 m1 m2 m3 i
     ++ column s4 s9 s14 s3 k4 k5 k6 k7 l4 l9 l14 l3 m4 m5 m6 m7 i
     ++ column s8 s13 s2 s7 k8 k9 k10 k11 l8 l13 l2 l7 m8 m9 m10 m11 i
@@ -181,12 +186,22 @@ round_is s k len low klen klow =
     let l : (i : ℕ) → i < 16 → get_or s i 0 < 256 = λ i h. Each1-get_or (λ (b : ℕ). b < 256) s i 0 (omega arith) low in
     let m : (i : ℕ) → i < 16 → get_or k i 0 < 256 = λ i h. Each1-get_or (λ (b : ℕ). b < 256) k i 0 (omega arith) klow in
     subst (λ (xs : List ℕ). new_state xs k ≡ round (map unhidden k) (map unturned xs)) (spelled 16 s len)
-    (subst (λ (ys : List ℕ). new_state (get_or s 0 0 ∷ get_or s 1 0 ∷ get_or s 2 0 ∷ get_or s 3 0 ∷ get_or s 4 0 ∷ get_or s 5 0 ∷ get_or s 6 0 ∷ get_or s 7 0 ∷ get_or s 8 0 ∷ get_or s 9 0 ∷ get_or s 10 0 ∷ get_or s 11 0 ∷ get_or s 12 0 ∷ get_or s 13 0 ∷ get_or s 14 0 ∷ get_or s 15 0 ∷ []) ys
-    ≡ round (map unhidden ys) (map unturned (get_or s 0 0 ∷ get_or s 1 0 ∷ get_or s 2 0 ∷ get_or s 3 0 ∷ get_or s 4 0 ∷ get_or s 5 0 ∷ get_or s 6 0 ∷ get_or s 7 0 ∷ get_or s 8 0 ∷ get_or s 9 0 ∷ get_or s 10 0 ∷ get_or s 11 0 ∷ get_or s 12 0 ∷ get_or s 13 0 ∷ get_or s 14 0 ∷ get_or s 15 0 ∷ []))) (spelled 16 k klen)
-    (round_16 (get_or s 0 0) (get_or s 1 0) (get_or s 2 0) (get_or s 3 0) (get_or s 4 0) (get_or s 5 0) (get_or s 6 0) (get_or s 7 0) (get_or s 8 0) (get_or s 9 0) (get_or s 10 0) (get_or s 11 0) (get_or s 12 0) (get_or s 13 0) (get_or s 14 0) (get_or s 15 0)
-    (get_or k 0 0) (get_or k 1 0) (get_or k 2 0) (get_or k 3 0) (get_or k 4 0) (get_or k 5 0) (get_or k 6 0) (get_or k 7 0) (get_or k 8 0) (get_or k 9 0) (get_or k 10 0) (get_or k 11 0) (get_or k 12 0) (get_or k 13 0) (get_or k 14 0) (get_or k 15 0)
-    (l 0 (omega arith)) (l 1 (omega arith)) (l 2 (omega arith)) (l 3 (omega arith)) (l 4 (omega arith)) (l 5 (omega arith)) (l 6 (omega arith)) (l 7 (omega arith)) (l 8 (omega arith)) (l 9 (omega arith)) (l 10 (omega arith)) (l 11 (omega arith)) (l 12 (omega arith)) (l 13 (omega arith)) (l 14 (omega arith)) (l 15 (omega arith))
-    (m 0 (omega arith)) (m 1 (omega arith)) (m 2 (omega arith)) (m 3 (omega arith)) (m 4 (omega arith)) (m 5 (omega arith)) (m 6 (omega arith)) (m 7 (omega arith)) (m 8 (omega arith)) (m 9 (omega arith)) (m 10 (omega arith)) (m 11 (omega arith)) (m 12 (omega arith)) (m 13 (omega arith)) (m 14 (omega arith)) (m 15 (omega arith))))
+    (subst (λ (ys : List ℕ). new_state (get_or s 0 0 ∷ get_or s 1 0 ∷ get_or s 2 0 ∷ get_or s 3 0 ∷ get_or s 4 0 ∷ get_or s 5 0 ∷ get_or s 6 0 ∷
+    get_or s 7 0 ∷ get_or s 8 0 ∷ get_or s 9 0 ∷ get_or s 10 0 ∷ get_or s 11 0 ∷ get_or s 12 0 ∷ get_or s 13 0 ∷ get_or s 14 0 ∷ get_or s 15 0 ∷ [])
+    ys
+    ≡ round (map unhidden ys) (map unturned (get_or s 0 0 ∷ get_or s 1 0 ∷ get_or s 2 0 ∷ get_or s 3 0 ∷ get_or s 4 0 ∷ get_or s 5 0 ∷ get_or s 6 0 ∷
+    get_or s 7 0 ∷ get_or s 8 0 ∷ get_or s 9 0 ∷ get_or s 10 0 ∷ get_or s 11 0 ∷ get_or s 12 0 ∷ get_or s 13 0 ∷ get_or s 14 0 ∷ get_or s 15 0 ∷
+    []))) (spelled 16 k klen)
+    (round_16 (get_or s 0 0) (get_or s 1 0) (get_or s 2 0) (get_or s 3 0) (get_or s 4 0) (get_or s 5 0) (get_or s 6 0) (get_or s 7 0) (get_or s 8 0)
+    (get_or s 9 0) (get_or s 10 0) (get_or s 11 0) (get_or s 12 0) (get_or s 13 0) (get_or s 14 0) (get_or s 15 0)
+    (get_or k 0 0) (get_or k 1 0) (get_or k 2 0) (get_or k 3 0) (get_or k 4 0) (get_or k 5 0) (get_or k 6 0) (get_or k 7 0) (get_or k 8 0) (get_or k
+    9 0) (get_or k 10 0) (get_or k 11 0) (get_or k 12 0) (get_or k 13 0) (get_or k 14 0) (get_or k 15 0)
+    (l 0 (omega arith)) (l 1 (omega arith)) (l 2 (omega arith)) (l 3 (omega arith)) (l 4 (omega arith)) (l 5 (omega arith)) (l 6 (omega arith)) (l 7
+    (omega arith)) (l 8 (omega arith)) (l 9 (omega arith)) (l 10 (omega arith)) (l 11 (omega arith)) (l 12 (omega arith)) (l 13 (omega arith)) (l 14
+    (omega arith)) (l 15 (omega arith))
+    (m 0 (omega arith)) (m 1 (omega arith)) (m 2 (omega arith)) (m 3 (omega arith)) (m 4 (omega arith)) (m 5 (omega arith)) (m 6 (omega arith)) (m 7
+    (omega arith)) (m 8 (omega arith)) (m 9 (omega arith)) (m 10 (omega arith)) (m 11 (omega arith)) (m 12 (omega arith)) (m 13 (omega arith)) (m 14
+    (omega arith)) (m 15 (omega arith))))
 
 -- # The key schedule
 
@@ -194,7 +209,7 @@ abbrev spread : ℕ → List ℕ
 spread c = c ∷ 0 ∷ 0 ∷ 0 ∷ c ∷ 0 ∷ 0 ∷ 0 ∷ c ∷ 0 ∷ 0 ∷ 0 ∷ c ∷ 0 ∷ 0 ∷ 0 ∷ []
 
 abbrev temp : List ℕ → ℕ → List ℕ
-temp k c = zip2 bit_xor (map (entry (map s_box k)) TURN) (spread c)
+temp k c = zip2 bit_xor (map (entry (map s_box k)) ROT_WORD) (spread c)
 
 abbrev next : List ℕ → ℕ → List ℕ
 next k c =
@@ -211,7 +226,8 @@ zeros3 : (t u : ℕ) → t ≡ u → bit_xor 0 (bit_xor 0 (bit_xor 0 t)) ≡ u
 zeros3 t u e = zeros1 (bit_xor 0 (bit_xor 0 t)) u (zeros2 t u e)
 
 next_16 : (s0 s1 s2 s3 s4 s5 s6 s7 s8 s9 s10 s11 s12 s13 s14 s15 c : ℕ)
-    → next (s0 ∷ s1 ∷ s2 ∷ s3 ∷ s4 ∷ s5 ∷ s6 ∷ s7 ∷ s8 ∷ s9 ∷ s10 ∷ s11 ∷ s12 ∷ s13 ∷ s14 ∷ s15 ∷ []) c ≡ next_round_key c (s0 ∷ s1 ∷ s2 ∷ s3 ∷ s4 ∷ s5 ∷ s6 ∷ s7 ∷ s8 ∷ s9 ∷ s10 ∷ s11 ∷ s12 ∷ s13 ∷ s14 ∷ s15 ∷ [])
+    → next (s0 ∷ s1 ∷ s2 ∷ s3 ∷ s4 ∷ s5 ∷ s6 ∷ s7 ∷ s8 ∷ s9 ∷ s10 ∷ s11 ∷ s12 ∷ s13 ∷ s14 ∷ s15 ∷ []) c ≡ next_round_key c (s0 ∷ s1 ∷ s2 ∷ s3 ∷ s4 ∷
+    s5 ∷ s6 ∷ s7 ∷ s8 ∷ s9 ∷ s10 ∷ s11 ∷ s12 ∷ s13 ∷ s14 ∷ s15 ∷ [])
 unfolding next_round_key
 next_16 s0 s1 s2 s3 s4 s5 s6 s7 s8 s9 s10 s11 s12 s13 s14 s15 c =
     let e0 : bit_xor (s_box s13) c ≡ bit_xor (s_box s13) c = refl in
@@ -239,17 +255,18 @@ next_16 s0 s1 s2 s3 s4 s5 s6 s7 s8 s9 s10 s11 s12 s13 s14 s15 c =
 pub next_is : (k : List ℕ) (c : ℕ) → length k ≡ 16 → next k c ≡ next_round_key c k
 next_is k c len =
     subst (λ (xs : List ℕ). next xs c ≡ next_round_key c xs) (spelled 16 k len)
-    (next_16 (get_or k 0 0) (get_or k 1 0) (get_or k 2 0) (get_or k 3 0) (get_or k 4 0) (get_or k 5 0) (get_or k 6 0) (get_or k 7 0) (get_or k 8 0) (get_or k 9 0) (get_or k 10 0) (get_or k 11 0) (get_or k 12 0) (get_or k 13 0) (get_or k 14 0) (get_or k 15 0) c)
+    (next_16 (get_or k 0 0) (get_or k 1 0) (get_or k 2 0) (get_or k 3 0) (get_or k 4 0) (get_or k 5 0) (get_or k 6 0) (get_or k 7 0) (get_or k 8 0)
+    (get_or k 9 0) (get_or k 10 0) (get_or k 11 0) (get_or k 12 0) (get_or k 13 0) (get_or k 14 0) (get_or k 15 0) c)
 
 -- from its steps
 pub next_of : (k boxes turned temporary one two three x y z r : List ℕ) (c : ℕ) → length k ≡ 16
-    → boxes ≡ sub_bytes k → turned ≡ map (entry boxes) TURN
+    → boxes ≡ sub_bytes k → turned ≡ map (entry boxes) ROT_WORD
     → temporary ≡ zip2 bit_xor turned (spread c)
     → one ≡ map (entry k) BY_ONE → two ≡ map (entry k) BY_TWO → three ≡ map (entry k) BY_THREE
     → x ≡ zip2 bit_xor three temporary → y ≡ zip2 bit_xor two x → z ≡ zip2 bit_xor one y → r ≡ zip2 bit_xor k z
     → r ≡ next_round_key c k
 next_of k boxes turned temporary one two three x y z r c len eb et ep e1 e2 e3 ex ey ez er =
-    let ht : turned ≡ map (entry (map s_box k)) TURN = et ∙ (λ i. map (entry (eb i)) TURN) in
+    let ht : turned ≡ map (entry (map s_box k)) ROT_WORD = et ∙ (λ i. map (entry (eb i)) ROT_WORD) in
     let hp : temporary ≡ temp k c =
     ep ∙ (λ i. zip2 bit_xor (ht i) (spread c)) in
     let hx : x ≡ zip2 bit_xor (map (entry k) BY_THREE) (temp k c) = ex ∙ (λ i. zip2 bit_xor (e3 i) (hp i)) in

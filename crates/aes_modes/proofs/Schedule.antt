@@ -17,7 +17,9 @@ pub next_round_key_is : (key k next : List ℕ) (n : ℕ) → k ≡ round_key ke
 next_round_key_is key k next n ek en = en ∙ ap (next_round_key (round_constant n)) ek ∙ round_key-more key n
 
 hidden_keys : (key h1 h2 h3 h4 h5 h6 h7 h8 h9 last : List ℕ)
-    → map unhidden h1 ≡ round_key key 1 → map unhidden h2 ≡ round_key key 2 → map unhidden h3 ≡ round_key key 3 → map unhidden h4 ≡ round_key key 4 → map unhidden h5 ≡ round_key key 5 → map unhidden h6 ≡ round_key key 6 → map unhidden h7 ≡ round_key key 7 → map unhidden h8 ≡ round_key key 8 → map unhidden h9 ≡ round_key key 9
+    → map unhidden h1 ≡ round_key key 1 → map unhidden h2 ≡ round_key key 2 → map unhidden h3 ≡ round_key key 3 → map unhidden h4 ≡ round_key key 4 →
+    map unhidden h5 ≡ round_key key 5 → map unhidden h6 ≡ round_key key 6 → map unhidden h7 ≡ round_key key 7 → map unhidden h8 ≡ round_key key 8 →
+    map unhidden h9 ≡ round_key key 9
     → (i : ℕ) → i < 9 → map unhidden (get_or (key ∷ h1 ∷ h2 ∷ h3 ∷ h4 ∷ h5 ∷ h6 ∷ h7 ∷ h8 ∷ h9 ∷ last ∷ []) (suc i) []) ≡ round_key key (suc i)
 hidden_keys key h1 h2 h3 h4 h5 h6 h7 h8 h9 last e1 e2 e3 e4 e5 e6 e7 e8 e9 zero lt = e1
 hidden_keys key h1 h2 h3 h4 h5 h6 h7 h8 h9 last e1 e2 e3 e4 e5 e6 e7 e8 e9 (suc zero) lt = e2
@@ -28,12 +30,20 @@ hidden_keys key h1 h2 h3 h4 h5 h6 h7 h8 h9 last e1 e2 e3 e4 e5 e6 e7 e8 e9 (suc 
 hidden_keys key h1 h2 h3 h4 h5 h6 h7 h8 h9 last e1 e2 e3 e4 e5 e6 e7 e8 e9 (suc (suc (suc (suc (suc (suc zero)))))) lt = e7
 hidden_keys key h1 h2 h3 h4 h5 h6 h7 h8 h9 last e1 e2 e3 e4 e5 e6 e7 e8 e9 (suc (suc (suc (suc (suc (suc (suc zero))))))) lt = e8
 hidden_keys key h1 h2 h3 h4 h5 h6 h7 h8 h9 last e1 e2 e3 e4 e5 e6 e7 e8 e9 (suc (suc (suc (suc (suc (suc (suc (suc zero)))))))) lt = e9
-hidden_keys key h1 h2 h3 h4 h5 h6 h7 h8 h9 last e1 e2 e3 e4 e5 e6 e7 e8 e9 (suc (suc (suc (suc (suc (suc (suc (suc (suc i))))))))) lt = absurd (omega (arith, lt))
+hidden_keys key h1 h2 h3 h4 h5 h6 h7 h8 h9 last e1 e2 e3 e4 e5 e6 e7 e8 e9 (suc (suc (suc (suc (suc (suc (suc (suc (suc i))))))))) lt = absurd (omega
+    (arith, lt))
 
 pub schedule : (key h1 h2 h3 h4 h5 h6 h7 h8 h9 last : List ℕ)
-    → map unhidden h1 ≡ round_key key 1 → map unhidden h2 ≡ round_key key 2 → map unhidden h3 ≡ round_key key 3 → map unhidden h4 ≡ round_key key 4 → map unhidden h5 ≡ round_key key 5 → map unhidden h6 ≡ round_key key 6 → map unhidden h7 ≡ round_key key 7 → map unhidden h8 ≡ round_key key 8 → map unhidden h9 ≡ round_key key 9 → last ≡ round_key key 10
+    → map unhidden h1 ≡ round_key key 1 → map unhidden h2 ≡ round_key key 2 → map unhidden h3 ≡ round_key key 3 → map unhidden h4 ≡ round_key key 4 →
+    map unhidden h5 ≡ round_key key 5 → map unhidden h6 ≡ round_key key 6 → map unhidden h7 ≡ round_key key 7 → map unhidden h8 ≡ round_key key 8 →
+    map unhidden h9 ≡ round_key key 9 → last ≡ round_key key 10
     → IsSchedule key (key ∷ h1 ∷ h2 ∷ h3 ∷ h4 ∷ h5 ∷ h6 ∷ h7 ∷ h8 ∷ h9 ∷ last ∷ [])
-schedule key h1 h2 h3 h4 h5 h6 h7 h8 h9 last e1 e2 e3 e4 e5 e6 e7 e8 e9 e10 = (refl, hidden_keys key h1 h2 h3 h4 h5 h6 h7 h8 h9 last e1 e2 e3 e4 e5 e6 e7 e8 e9, e10)
+schedule key h1 h2 h3 h4 h5 h6 h7 h8 h9 last e1 e2 e3 e4 e5 e6 e7 e8 e9 e10 = (
+  refl,
+  hidden_keys key h1 h2 h3 h4 h5 h6 h7 h8 h9 last e1 e2 e3 e4 e5
+      e6 e7 e8 e9,
+  e10,
+)
 
 -- a block before the first round, and after one more
 pub state_none : (key block x s k : List ℕ) → k ≡ key → x ≡ xor_bytes block k → map unturned s ≡ x

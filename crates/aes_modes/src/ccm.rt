@@ -135,7 +135,7 @@ pub fn ccm_seal(aes: &Aes, nonce: &[u8; 13], header: &[u8], text: &mut [u8], tag
     mask(aes, nonce, text);
 }
 
-/// Whether `tag` is the front of `whole`, told as [`is_same`] tells it.
+/// Whether `whole` begins with `tag`. All octets of `tag` are compared, wherever they differ first.
 #[inline(always)]
 fn is_tag(whole: &[u8; 16], tag: &[u8]) -> bool
     requires { length tag.now ≤ 16 }

@@ -1,4 +1,4 @@
-//! The cipher of FIPS 197 with 128-bit keys, a state and a round key in a register each.
+//! The cipher of FIPS 197 with 128-bit keys. A state is one register of 16 octets, and so is a round key.
 ghost use Rattle.std.specs.Prelude.{◌≡◌, ℕ, ◌+◌, ◌<◌, List, map};
 ghost use Rattle.aes_modes.specs.Cipher.{xor_bytes, round, last_round, next_round_key, encrypted};
 ghost use Rattle.aes_modes.specs.LookUps.{unturned, unhidden};
@@ -15,6 +15,7 @@ use std::simd::Simd;
 /// A contract sees the 16 octets of the key. It takes 176 octets, and making one costs about what encrypting a block does.
 #[derive(Drop)]
 pub struct Aes {
+    // The first and the last as they are, the nine between hidden (`hide`).
     keys: [[u8; 16]; 11],
 }
 
@@ -128,7 +129,7 @@ fn step(k: Simd<u8, 16>, constant: u8) -> (Simd<u8, 16>, Simd<u8, 16>)
 {
     let turned = turn(k);
     let boxes = sub_turned(turned);
-    let word = look(boxes, Simd::from_array(TURN));
+    let word = look(boxes, Simd::from_array(ROT_WORD));
     let rcon = Simd::from_array([
         constant, 0, 0, 0, constant, 0, 0, 0, constant, 0, 0, 0, constant, 0, 0, 0,
     ]);
@@ -139,7 +140,7 @@ fn step(k: Simd<u8, 16>, constant: u8) -> (Simd<u8, 16>, Simd<u8, 16>)
     (add(k, add(one, add(two, add(three, temp)))), hide(turned))
 }
 
-// Where ShiftRows and MixColumns take the octets of a column from: its own, and those of the rows after each.
+// Where ShiftRows and MixColumns take each octet from: its own row, and the three rows after it.
 const OWN: [u8; 16] = [0, 5, 10, 15, 4, 9, 14, 3, 8, 13, 2, 7, 12, 1, 6, 11];
 
 const NEXT: [u8; 16] = [5, 10, 15, 0, 9, 14, 3, 4, 13, 2, 7, 8, 1, 6, 11, 12];
@@ -148,12 +149,12 @@ const THIRD: [u8; 16] = [10, 15, 0, 5, 14, 3, 4, 9, 2, 7, 8, 13, 6, 11, 12, 1];
 
 const LAST: [u8; 16] = [15, 0, 5, 10, 3, 4, 9, 14, 7, 8, 13, 2, 11, 12, 1, 6];
 
-// RotWord of the last word, for each word.
-const TURN: [u8; 16] = [
+// RotWord of the last word, four times.
+const ROT_WORD: [u8; 16] = [
     13, 14, 15, 12, 13, 14, 15, 12, 13, 14, 15, 12, 13, 14, 15, 12,
 ];
 
-// The words before, with zeros where there are none.
+// For each word the first, the second and the third before it, and zeros where there is none.
 const BY_ONE: [u8; 16] = [128, 128, 128, 128, 0, 1, 2, 3, 4, 5, 6, 7, 8, 9, 10, 11];
 
 const BY_TWO: [u8; 16] = [

@@ -18,5 +18,6 @@ mod mac;
 pub use bad_tag::BadTag;
 pub use ccm::{ccm_open, ccm_seal};
 pub use cipher::Aes;
+pub use compare::is_same;
 pub use eax::{eax_open, eax_seal};
 pub use mac::cmac;

@@ -34,15 +34,11 @@ pub(crate) fn absorb(aes: &Aes, x: &mut [u8; 16], text: &[u8])
     *x = next;
 }
 
-/// Twice an element of GF(2^128) (section 2.3).
+/// Twice an element of GF(2^128) (section 2.3), without a branch: the top bit of a subkey is secret.
 fn double(x: u128) -> u128
     ensures { result ≡ doubled x }
 {
-    if x < 1 << 127 {
-        x << 1
-    } else {
-        (x << 1) ^ 0x87
-    }
+    (x << 1) ^ (0x87 * (x >> 127))
 }
 
 /// The subkey K1 (section 2.3).

@@ -9,7 +9,7 @@ ghost use Rattle.eap_psk.specs.Tags.{no_tags, first_tags, third_tags};
 use crate::channel::{open_channel, write_channel};
 use crate::fault::EapFault;
 use crate::keys::PskKeys;
-use crate::reading::{check_same, first_of, granting_of, third_of};
+use crate::reading::{check_code, check_same, first_of, granting_of, third_of};
 use crate::server::Agreed;
 use crate::writing::{fourth_header, granting_text, mac_p_input, mac_s_input, write_head};
 use aes_modes::cmac;
@@ -94,11 +94,7 @@ impl Peer {
         let third = third_of(packet)?;
         check_same(&third.head.rand_s.0, &self.rand_s.0, EapFault::OtherSession)?;
         let claim = mac_s_input(&self.id_s, &self.rand_p);
-        check_same(
-            &third.mac_s,
-            &cmac(keys.authentication(), claim.octets()),
-            EapFault::BadMac,
-        )?;
+        check_code(&third.mac_s, &cmac(keys.authentication(), claim.octets()))?;
         let tek = keys.transient(&self.rand_p);
         let text = open_channel(&tek, 0, &third.head.octets, &third.tag, rest_at(packet, 58))?;
         let grant = granting_of(text.octets())?;

@@ -30,6 +30,25 @@ pub(crate) fn check_same(a: &[u8], b: &[u8], fault: EapFault) -> Result<(), EapF
     Ok(())
 }
 
+// Whether a code is the right one. All octets are read and compared, wherever they differ first.
+fn is_code(code: &[u8; 16], right: &[u8; 16]) -> bool
+    ensures { result ≡ same code.now right.now }
+{
+    aes_modes::is_same(code, right)
+}
+
+// The code is the right one, or it is a bad one.
+#[tactic(auto, using(crate::proofs::Same::same_is))]
+pub(crate) fn check_code(code: &[u8; 16], right: &[u8; 16]) -> Result<(), EapFault>
+    ensures { MatchResult result (λ _. (same code.now right.now ≡ true) × (code.now ≡ right.now))
+        (λ e. (same code.now right.now ≡ false) × (e ≡ EapFault.BadMac)) }
+{
+    if !is_code(code, right) {
+        return Err(EapFault::BadMac);
+    }
+    Ok(())
+}
+
 // The fields in which the heads of messages differ.
 #[derive(Clone, Copy)]
 struct Fields {

@@ -9,7 +9,7 @@ ghost use Rattle.eap_psk.specs.Tags.{no_tags, second_tags, fourth_tags};
 use crate::channel::{open_channel, write_channel};
 use crate::fault::EapFault;
 use crate::keys::PskKeys;
-use crate::reading::{check_same, fourth_of, second_of};
+use crate::reading::{check_code, check_same, fourth_of, second_of};
 use crate::writing::{
     fourth_header, granting_text, mac_p_input, mac_s_input, third_header, write_head,
 };
@@ -93,11 +93,7 @@ impl Server {
         check_same(&second.rand_s.0, &self.rand_s.0, EapFault::OtherSession)?;
         check_same(&second.id_p.0, &self.eui.0, EapFault::OtherSession)?;
         let answer = mac_p_input(&self.eui, &self.id_s, &self.rand_s, &second.rand_p);
-        check_same(
-            &second.mac_p,
-            &cmac(keys.authentication(), answer.octets()),
-            EapFault::BadMac,
-        )?;
+        check_code(&second.mac_p, &cmac(keys.authentication(), answer.octets()))?;
         tags.opened.push(PairTag::MacP {
             eui: self.eui,
             text: answer,

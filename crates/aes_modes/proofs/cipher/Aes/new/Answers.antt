@@ -16,8 +16,11 @@ invariant_of-result c =
     let e8 : c.step-8.result.0 ≡ round_key key 8 = next_round_key_is key c.step-7.result.0 c.step-8.result.0 7 e7 c.step-8.ensures.next in
     let e9 : c.step-9.result.0 ≡ round_key key 9 = next_round_key_is key c.step-8.result.0 c.step-9.result.0 8 e8 c.step-9.ensures.next in
     let e10 : c.step-10.result.0 ≡ round_key key 10 = next_round_key_is key c.step-9.result.0 c.step-10.result.0 9 e9 c.step-10.ensures.next in
-    schedule key c.step-2.result.1 c.step-3.result.1 c.step-4.result.1 c.step-5.result.1 c.step-6.result.1 c.step-7.result.1 c.step-8.result.1 c.step-9.result.1 c.step-10.result.1 c.step-10.result.0
-    (c.step-2.ensures.hidden ∙ e1) (c.step-3.ensures.hidden ∙ e2) (c.step-4.ensures.hidden ∙ e3) (c.step-5.ensures.hidden ∙ e4) (c.step-6.ensures.hidden ∙ e5) (c.step-7.ensures.hidden ∙ e6) (c.step-8.ensures.hidden ∙ e7) (c.step-9.ensures.hidden ∙ e8) (c.step-10.ensures.hidden ∙ e9) e10
+    schedule key c.step-2.result.1 c.step-3.result.1 c.step-4.result.1 c.step-5.result.1 c.step-6.result.1 c.step-7.result.1 c.step-8.result.1
+    c.step-9.result.1 c.step-10.result.1 c.step-10.result.0
+    (c.step-2.ensures.hidden ∙ e1) (c.step-3.ensures.hidden ∙ e2) (c.step-4.ensures.hidden ∙ e3) (c.step-5.ensures.hidden ∙ e4)
+    (c.step-6.ensures.hidden ∙ e5) (c.step-7.ensures.hidden ∙ e6) (c.step-8.ensures.hidden ∙ e7) (c.step-9.ensures.hidden ∙ e8)
+    (c.step-10.ensures.hidden ∙ e9) e10
 
 pub returns : goal.returns
 returns c = refl
