@@ -1,7 +1,6 @@
 -- The coordinator is made.
-use Rattle.node_rules.specs.Memory.{Node}
 use Rattle.std.specs.Prelude.{is_ok}
-use Rattle.std.proofs.Common.{ap, ◌∙◌, refl, List, [], ◌∷◌, ◌++◌}
+use Rattle.std.proofs.Common.{ap, ◌∙◌, refl, [], ◌∷◌, ◌++◌}
 use Rattle.line_rules.specs.declared.event.StepFault.TheVariants as faults
 use Rattle.line_rules.specs.declared.event.Answer.TheVariants as said
 use Rattle.reach_rules.specs.ReachingNodes.{nothing_beside}
@@ -19,13 +18,20 @@ returns-then-has_begun c = refused faults.Setup refl _ _ _ c.requires.bounds (ha
 pub returns-then-is_err : goal.returns-then-is_err
 returns-then-is_err c =
     let w = world_of c.args.self.now in
-    out_of_memory w _ _ c.requires.bounds ((λ i. record w { nodes = went_badly _ c.make_coordinator.ensures.err c.if-is_err-2.ensures.value i; beside = c.reserve.ensures.items i }))
+    out_of_memory w _ _ c.requires.bounds (λ i. record w { beside = c.reserve.ensures.items i })
+    (ap is_ok (makes_first w c.args.eui c.args.key.now c.if-has_begun.ensures))
+
+pub returns-then-is_err-2 : goal.returns-then-is_err-2
+returns-then-is_err-2 c =
+    let w = world_of c.args.self.now in
+    out_of_memory w _ _ c.requires.bounds
+    (λ i. record w { nodes = went_badly _ c.make_coordinator.ensures.err c.if-is_err-2.ensures.value i; beside = c.reserve.ensures.items i })
     (ap is_ok (makes_first w c.args.eui c.args.key.now c.if-has_begun.ensures))
 
 pub returns : goal.returns
 returns c =
     let w = world_of c.args.self.now in
     first_made w _ c.args.eui c.args.key.now _ _ c.requires.bounds c.requires.events c.if-has_begun.ensures
-    (went_well _ c.make_coordinator.ensures.ok c.if-is_err.ensures.value) (c.happened.ensures ∙ ap (λ (l : Line). happened (world_of l) said.Made) c.set_up.ensures ∙ ap (λ (v : World). happened v said.Made) c.hold_beside.ensures)
+    (went_well _ c.make_coordinator.ensures.ok c.if-is_err-2.ensures.value) (c.happened.ensures ∙ ap (λ (l : Line). happened (world_of l) said.Made) c.set_up.ensures ∙ ap (λ (v : World). happened v said.Made) c.hold_beside.ensures)
     (ap world_of c.set_up.ensures ∙ ap (λ (v : World). set_up v) c.hold_beside.ensures
     ∙ (λ i. record (set_up w) { nodes = c.make_coordinator.new.self; beside = c.reserve.ensures.items i ++ nothing_beside ∷ [] }))

@@ -1,7 +1,6 @@
 -- A meter is made.
-use Rattle.node_rules.specs.Memory.{Node}
 use Rattle.std.specs.Prelude.{is_ok}
-use Rattle.std.proofs.Common.{◌<◌, ◌≤◌, length, ap, ◌∙◌, arith, refl, List, [], ◌∷◌, ◌++◌}
+use Rattle.std.proofs.Common.{◌<◌, ◌≤◌, length, ap, ◌∙◌, arith, refl, [], ◌∷◌, ◌++◌}
 use Rattle.line_rules.specs.declared.event.StepFault.TheVariants as faults
 use Rattle.line_rules.specs.declared.event.Answer.TheVariants as said
 use Rattle.reach_rules.specs.ReachingNodes.{nothing_beside}
@@ -32,7 +31,15 @@ pub returns-then-is_err : goal.returns-then-is_err
 returns-then-is_err c =
     let w = world_of c.args.self.now in
     let room : length w.nodes < 1000 = omega (arith, c.if-len-ge-MAX_NODES.false, c.len.ensures) in
-    out_of_memory w _ _ c.requires.bounds ((λ i. record w { nodes = went_badly _ c.make_meter.ensures.err c.if-is_err-2.ensures.value i; beside = c.reserve.ensures.items i }))
+    out_of_memory w _ _ c.requires.bounds (λ i. record w { beside = c.reserve.ensures.items i })
+    (ap is_ok (makes_meter w c.args.eui c.args.psk c.if-not-takes_setup.ensures room c.if-has.ensures))
+
+pub returns-then-is_err-2 : goal.returns-then-is_err-2
+returns-then-is_err-2 c =
+    let w = world_of c.args.self.now in
+    let room : length w.nodes < 1000 = omega (arith, c.if-len-ge-MAX_NODES.false, c.len.ensures) in
+    out_of_memory w _ _ c.requires.bounds
+    (λ i. record w { nodes = went_badly _ c.make_meter.ensures.err c.if-is_err-2.ensures.value i; beside = c.reserve.ensures.items i })
     (ap is_ok (makes_meter w c.args.eui c.args.psk c.if-not-takes_setup.ensures room c.if-has.ensures))
 
 pub returns : goal.returns
@@ -40,6 +47,6 @@ returns c =
     let w = world_of c.args.self.now in
     let room : length w.nodes < 1000 = omega (arith, c.if-len-ge-MAX_NODES.false, c.len.ensures) in
     meter_made w _ c.args.eui c.args.psk _ _ c.requires.bounds c.requires.events c.if-not-takes_setup.ensures room c.if-has.ensures
-    (went_well _ c.make_meter.ensures.ok c.if-is_err.ensures.value) (c.happened.ensures ∙ ap (λ (l : Line). happened (world_of l) said.Made) c.set_up.ensures ∙ ap (λ (v : World). happened v said.Made) c.hold_beside.ensures)
+    (went_well _ c.make_meter.ensures.ok c.if-is_err-2.ensures.value) (c.happened.ensures ∙ ap (λ (l : Line). happened (world_of l) said.Made) c.set_up.ensures ∙ ap (λ (v : World). happened v said.Made) c.hold_beside.ensures)
     (ap world_of c.set_up.ensures ∙ ap (λ (v : World). set_up v) c.hold_beside.ensures
     ∙ (λ i. record (set_up w) { nodes = c.make_meter.new.self; beside = c.reserve.ensures.items i ++ nothing_beside ∷ [] }))
