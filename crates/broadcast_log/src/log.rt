@@ -11,8 +11,8 @@ ghost use Rattle.broadcast_log.specs.Runs.{Runs};
 
 use crate::LogFault;
 use plc_base::{BadStore, Keeper, Short};
-use store_tables::{Mark, MarkTable, Numbering};
 use std::marker::Model;
+use store_tables::{Mark, MarkTable, Numbering};
 
 /// One origin: the number that was last admitted of it, and the mark that is stored, which is no lower.
 pub type OriginMark = Mark<0x0300, 32>;

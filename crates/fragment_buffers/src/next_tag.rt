@@ -5,8 +5,8 @@ ghost use Rattle.std.specs.FinMap.{get};
 ghost use Rattle.fragment_buffers.specs.NextTag.{tag_in, tag_slot, IsKept, tag_after, tag_write, take_write, tag_left};
 
 use plc_base::{BadStore, Failed, Keeper};
-use store_tables::NumberSlot;
 use std::marker::Model;
+use store_tables::NumberSlot;
 
 /// Names the pieces of each datagram that is cut by a tag of its own, even over losses of power: the next tag is always stored
 /// (the datagram tag of RFC 4944, 5.3).

@@ -11,8 +11,8 @@ ghost use Rattle.frame_counters.specs.PeerMarks.{Table, peers, IsKept, IsCovered
 use crate::PeerFault;
 use arrayvec::ArrayVec;
 use plc_base::{BadStore, Failed, Keeper, Short};
-use store_tables::{Mark, MarkTable};
 use std::marker::Model;
+use store_tables::{Mark, MarkTable};
 
 /// One sender: the counter that was last admitted of it, and the mark that is stored, which is no lower.
 pub type Peer = Mark<0x0100, 64>;

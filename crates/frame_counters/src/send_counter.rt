@@ -8,8 +8,8 @@ ghost use Rattle.frame_counters.specs.Given.{Gives};
 
 use crate::CounterFault;
 use plc_base::{BadStore, Failed, Keeper};
-use store_tables::Numbering;
 use std::marker::Model;
+use store_tables::Numbering;
 
 /// Gives out each counter once, also over losses of power: a limit is stored ahead of the counters that are given out,
 /// and a new start goes on at the stored limit (the frame counter of IEEE 802.15.4-2006, 7.6.2).

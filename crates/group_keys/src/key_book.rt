@@ -11,8 +11,8 @@ use crate::BookFault;
 use crate::fields::{HELD, flag_in, held_in, key_in, push_held};
 use byteorder::{BigEndian, ByteOrder};
 use plc_base::{BadStore, Eui, Failed, Grant, Keeper, Key, Record, Short};
-use store_tables::{SlotEntry, SlotTable};
 use std::marker::Model;
+use store_tables::{SlotEntry, SlotTable};
 
 /// What the book has of one meter.
 #[derive(Clone, Copy, Debug, PartialEq, Eq)]

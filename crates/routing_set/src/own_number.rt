@@ -7,8 +7,8 @@ ghost use Rattle.routing_set.specs.OwnNumber.{Numbering, IsKept, IsOldLimitOrKep
 
 use crate::NumberFault;
 use plc_base::{BadStore, Failed, Keeper};
-use store_tables::NumberSlot;
 use std::marker::Model;
+use store_tables::NumberSlot;
 
 /// Gives out the numbers of the route messages that a node begins, each higher than the last, also over losses of power: a
 /// limit is stored ahead, and a new start goes on at it (the sequence number of LOADng).

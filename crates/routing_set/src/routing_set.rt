@@ -17,8 +17,8 @@ use crate::floors::{FLOOR_SLOT, class_of, raise_floor, stored_floors};
 use crate::{OfferFault, Offered, Rank, Route, RoutingEntry};
 use arrayvec::ArrayVec;
 use plc_base::{BadStore, Failed, Keeper, Short};
-use store_tables::SlotTable;
 use std::marker::Model;
+use store_tables::SlotTable;
 
 /// What a node knows of ways to other addresses: at most 64 ranks, which are stored, the valid routes, and 16 floors (the
 /// Routing Set of LOADng).

@@ -4,8 +4,8 @@ ghost use Rattle.std.specs.FinMap as map;
 ghost use Rattle.store_tables.specs.Marks.{IsKept};
 
 use plc_base::{Keeper, MemKeeper, Record, Short};
-use store_tables::MarkTable;
 use std::test::Fail;
+use store_tables::MarkTable;
 
 type Marks = MarkTable<0x0100, 64>;
 
