@@ -312,9 +312,9 @@ due_of from None = None
 
 abbrev pub due : Path → Option Message → Answer → Option Reply
 due (paths.Sealed from false key) message answer = if is_reply_taken answer then due_of from message else None
-due (paths.Sealed from true key) message answer = None
-due (paths.Up from) message answer = None
-due (paths.Down from) message answer = None
+due (paths.Sealed from true key) message _ = None
+due (paths.Up from) message _ = None
+due (paths.Down from) message _ = None
 
 -- a reply that was sent begins a check
 abbrev pub replied : ℕ → Option Reply → Option Noticed
