@@ -95,11 +95,11 @@ const SPELLING: [&str; 20] = [
     "send 0 0 00 00",
     "halt 0",
     "send\0 0 0 00",
-    "checks",
-    "bcast 0 aa",
-    "scan 1",
-    "choose 1 1",
-    "path 0 1",
+    "checks 1",
+    "bcast 0",
+    "scan",
+    "choose 1 17",
+    "path 0",
 ];
 
 // Each number one above its range, or one below.
