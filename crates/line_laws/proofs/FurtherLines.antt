@@ -1,15 +1,12 @@
 -- What holds of a line of nodes holds after the events of further reach.
-use Rattle.std.proofs.Common.{zero-le, ◌≡◌, ℕ, ◌+◌, ◌≤◌, ◌<◌, Bool, true, false, List, [], ◌∷◌, ◌++◌, length, get_or, Option, Some, None, Result, Ok, Err, refl, sym, subst, arith}
-use Rattle.std.specs.Prelude.{All, AllPairs, IfSome}
+use Rattle.std.proofs.Common.{zero-le, ◌≡◌, ℕ, ◌+◌, ◌<◌, true, false, List, [], ◌∷◌, ◌++◌, length, get_or, Option, Some, None, Err, refl, sym, subst, arith}
+use Rattle.std.specs.Prelude.{IfSome}
 use Rattle.std.proofs.lemmas.List.Elements.{All-push}
 use Rattle.std.proofs.lemmas.List.Quantifiers.{all_pairs_push}
 use Rattle.pan_discovery.specs.declared.message.Discovery.{Discovery}
 use Rattle.node_rules.specs.Ciphers.{Ciphers}
-use Rattle.node_rules.specs.Drafts.{Outgoing}
 use Rattle.node_rules.specs.Memory.{Memory, Node}
-use Rattle.node_rules.specs.NodeSteps.{NodeStep, acts}
 use Rattle.node_rules.specs.Plans.{Plan}
-use Rattle.reach_rules.specs.declared.refusal.BroadcastRefusal.{BroadcastRefusal}
 use Rattle.reach_rules.specs.declared.refusal.BroadcastRefusal.TheVariants as broadcasts
 use Rattle.reach_rules.specs.declared.refusal.AskRefusal.TheVariants as asks
 use Rattle.node_rules.specs.MemoryDrafts.{in_memory}
@@ -23,19 +20,14 @@ use Rattle.reach_rules.specs.Broadcasts.{broadcast}
 use Rattle.reach_rules.specs.PathAsking.{ask_path}
 use Rattle.line_rules.specs.Answers.{discovery_word, scan_word}
 use Rattle.line_rules.specs.declared.event.Answer.{Answer}
-use Rattle.line_rules.specs.Further.{beside_at, beside_after, commanded, has_reached, broadcasts_by, asks_by, scans_by, discovers_by, has_discovered, beacon_taken, scanning, discovery_flight, discovery_flights, reaches, with_beside}
+use Rattle.line_rules.specs.Further.{beside_at, commanded, broadcasts_by, asks_by, scans_by, discovers_by, has_discovered, beacon_taken, scanning, discovery_flight, reaches, with_beside}
 use Rattle.line_rules.specs.Nonces.{CounterRises, NonceParts, nonce_parts}
 use Rattle.line_rules.specs.Steps.{ran, told}
 use Rattle.line_rules.specs.Worlds.{World, Flight, Noticed, Trace, node_at}
-use Rattle.line_laws.specs.FurtherLines.{CallsKeepAll, LineHolds, LogFits, CallsKeepTheLine, CommandsKeepTheLine, DiscoveryKeepsTheLine}
-use Rattle.line_laws.specs.Lines.{IsBelow, NodeOk, Rising, WorldOk, frontier}
+use Rattle.line_laws.specs.FurtherLines.{LineHolds, LogFits, CallsKeepTheLine, CommandsKeepTheLine, DiscoveryKeepsTheLine}
+use Rattle.line_laws.specs.Lines.{IsBelow, NodeOk, WorldOk, frontier}
 use Rattle.line_laws.specs.Owed.{KeepsRanges}
-use Rattle.line_laws.specs.Sizes.{IsMemorySized}
 use Rattle.line_laws.proofs.FurtherForms.{AnyUnits, IsFurther, ask_is, broadcast_is, command_is, further_ok}
-use Rattle.mac_frames.specs.Grammar.{IsTarget}
-use Rattle.node_rules.specs.Frames.{to_all}
-use Rattle.line_laws.proofs.FurtherSeals.{IsOne, One}
-use Rattle.line_laws.proofs.LaterKeeps.{further_keeps}
 use Rattle.line_laws.proofs.LaterMoves.{discovery_nonce}
 use Rattle.line_laws.proofs.Nodes.{DidOk, acts_ok}
 use Rattle.line_laws.proofs.Worlds.{at_place, counts_ok, told_ok, within}
@@ -144,16 +136,3 @@ module _ (ciphers : Ciphers) (fits : KeepsRanges ciphers) (r : World × Trace) (
 
 pub commands_keep : CommandsKeepTheLine
 commands_keep ciphers fits r ok runs silent number x there logs c = command_holds ciphers fits r ok runs silent number x there logs c
-
--- # All of it
-
-all_target : IsTarget to_all
-all_target = (omega arith, λ e. omega arith)
-
-pub calls_keep_all : CallsKeepAll
-calls_keep_all w number x b runs there may = (
-  λ datagram. further_keeps (Err broadcasts.Halted) (with_beside b (λ y. broadcast in_memory y datagram)) (λ m. broadcast_is AnyUnits b datagram m (λ own here e. tt)) w number x
-      (λ m is. broadcast_is IsOne b datagram m (λ own here e. One to_all _ all_target (may.broadcasts m is own datagram here e))) runs there,
-  λ target. further_keeps (Err asks.Halted) (with_beside b (λ y. ask_path in_memory y target)) (λ m. ask_is AnyUnits b target m (λ own hop here e. tt)) w number x
-      (λ m is. ask_is IsOne b target m (λ own hop here e. let one = may.asks m is own hop target here e in One hop _ one.0 one.1)) runs there,
-)

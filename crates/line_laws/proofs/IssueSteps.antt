@@ -7,7 +7,7 @@ use Rattle.std.specs.Ordering.{nat_cmp}
 use Rattle.std.specs.FinMap.{get, empty, get-empty}
 use Rattle.std.proofs.lemmas.Bool.{cases_eq, eqb-false, ltb-true, ltb-false, or_parts}
 use Rattle.std.proofs.lemmas.Option.{same_Some}
-use Rattle.store_tables.proofs.SlotTables.{slice_get-set_other, slice_get-map, slice_get-push_other}
+use Rattle.store_tables.proofs.SlotTables.{slice_get-set_other, slice_get-map, slice_get-push, slice_get-push_other}
 use Rattle.plc_base.specs.Keeper.{Records}
 use Rattle.plc_base.specs.declared.address.Eui.{Eui}
 use Rattle.plc_base.specs.declared.key.Key.{Key}
@@ -76,7 +76,6 @@ use Rattle.line_laws.proofs.CoordinatorCalls.{accept_ok, accept_failed, accepted
 use Rattle.line_laws.proofs.StoreMarks.{accept_is}
 use Rattle.line_laws.proofs.Answered.{acts_answered, depot_grants}
 use Rattle.line_laws.proofs.StepsOk.{blank_ok, begin_ok, coordinator_acts as coordinator_ok}
-use Rattle.store_tables.proofs.SlotTables.{slice_get-push}
 use Rattle.line_laws.proofs.Nodes.{DidOk, acts_ok}
 use Rattle.line_laws.proofs.Worlds.{NodeFits, FlightFits, WorldOk, at_place}
 use Rattle.line_laws.proofs.AddressPuts.{RingIn, RingWrites, Puts, counter_away}

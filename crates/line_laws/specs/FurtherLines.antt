@@ -7,24 +7,11 @@ use Rattle.reach_rules.specs.Broadcasts.{broadcast_fault}
 use Rattle.reach_rules.specs.ReachingNodes.{Beside}
 use Rattle.reach_rules.specs.Receiving.{NeighbourCommand}
 use Rattle.line_laws.specs.Keyed.{Each}
-use Rattle.line_laws.specs.Later.{Keeps, MayBeSealed}
-use Rattle.mac_frames.specs.Grammar.{IsTarget}
-use Rattle.mesh_header.specs.declared.unit.Unit.TheVariants.{Local}
-use Rattle.broadcast_log.specs.Grammar.{spelling}
-use Rattle.broadcast_log.specs.Log.{Log}
-use Rattle.path_requests.specs.declared.message.PathMessage.TheVariants.{Ask}
-use Rattle.path_requests.specs.Messages.{path_spelling}
 use Rattle.node_rules.specs.Ciphers.{network}
-use Rattle.node_rules.specs.MemoryDrafts.{in_memory}
-use Rattle.reach_rules.specs.declared.refusal.BroadcastRefusal.TheVariants as broadcasts_by
-use Rattle.reach_rules.specs.declared.refusal.AskRefusal.TheVariants as asks_of
-use Rattle.reach_rules.specs.Broadcasts.{broadcast, datagram_fault, own_broadcast}
-use Rattle.reach_rules.specs.PathAsking.{ask_path}
-use Rattle.line_rules.specs.Further.{reaches}
-use Rattle.line_rules.specs.Steps.{Step, told}
+use Rattle.line_rules.specs.Steps.{Step}
 use Rattle.line_laws.specs.Later.{IsOfLog}
 use Rattle.node_rules.specs.Ciphers.{Ciphers}
-use Rattle.node_rules.specs.Memory.{Memory, Node, address_of, station_route}
+use Rattle.node_rules.specs.Memory.{Memory, Node}
 use Rattle.line_rules.specs.Further.{beside_at, broadcasts_by, asks_by, scans_by, discovers_by, commanded, line_step}
 use Rattle.line_rules.specs.Worlds.{World, Trace, node_at, start}
 use Rattle.line_laws.specs.Lines.{FlightFits, WorldOk}
@@ -156,19 +143,3 @@ LineStepsRise =
 -- so the tables of its nodes are short, as the law of the logs asks
 abbrev pub TablesAreShort : Type 0
 TablesAreShort = (w : World) → WorldOk w → HaveShortTables w
-
--- # Up to the first forged event
-
--- What a node tells its neighbours by an ask and by a broadcast of its own may be sealed.
-pub record TellsMay (x : Node) (b : Beside) : Type 0 where
-  pub asks : (m : Memory) → x.memory ≡ Some m → (own hop target : ℕ) → address_of m.station ≡ Some own → station_route m.station target ≡ Some hop
-      → IsTarget hop × MayBeSealed (Local 5 (path_spelling (Ask target (own ∷ []))))
-  pub broadcasts : (m : Memory) → x.memory ≡ Some m → (own : ℕ) (datagram : List ℕ) → address_of m.station ≡ Some own → datagram_fault b.log datagram ≡ None
-      → MayBeSealed (Local 4 (spelling (own_broadcast own b.log datagram)))
-
--- a broadcast and an ask keep all that the laws rest on
-abbrev pub CallsKeepAll : Type 0
-CallsKeepAll =
-    (w : World) (number : ℕ) (x : Node) (b : Beside) → w.running ≡ true → node_at w number ≡ Some x → TellsMay x b
-    → ((datagram : List ℕ) → Keeps w (told network w number (reaches x b (Err broadcasts_by.Halted) (λ y. broadcast in_memory y datagram))))
-    × ((target : ℕ) → Keeps w (told network w number (reaches x b (Err asks_of.Halted) (λ y. ask_path in_memory y target))))

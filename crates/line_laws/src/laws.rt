@@ -1,5 +1,5 @@
 //! Laws of the runs: each carried by a function that does nothing.
-ghost use Rattle.line_laws.specs.FurtherLines.{CallsKeepAll, CallsKeepTheLine, CommandsKeepTheLine, CommandsFit, DiscoveryKeepsTheLine, EveryReachRunHolds, LineLogsHold, LineStepsHold, LineStepsRise, LineStepsSpell, LogsFit, TablesAreShort};
+ghost use Rattle.line_laws.specs.FurtherLines.{CallsKeepTheLine, CommandsKeepTheLine, CommandsFit, DiscoveryKeepsTheLine, EveryReachRunHolds, LineLogsHold, LineStepsHold, LineStepsRise, LineStepsSpell, LogsFit, TablesAreShort};
 ghost use Rattle.line_laws.specs.Issued.{EveryJoiningAgrees, OnlyIssuedKeys};
 ghost use Rattle.line_laws.specs.Kicked.{EveryKickedMeterStaysOut};
 ghost use Rattle.line_laws.specs.Later.{BesideKeeps, CommandsMayBeSealed, DiscoveringKeeps, JoinedNodesSeal, KeepsInTurn, OthersMayNot, PlainKeeps, PlansSplit, RunningKeeps, SealingKeeps, StartHolds, StoringKeeps, UnsentHolds};
@@ -334,10 +334,4 @@ pub fn discovery_keeps_the_line()
 #[tactic(auto)]
 pub fn commands_keep_the_line()
     ensures { CommandsKeepTheLine }
-{}
-
-/// A broadcast and an ask keep all that the laws rest on, whatever power is lost.
-#[tactic(auto)]
-pub fn further_calls_keep_all()
-    ensures { CallsKeepAll }
 {}

@@ -299,7 +299,7 @@ pub enum Answer {
     Beaconed,
     /// The way to another node was asked for.
     Traced,
-    /// The way to another node was told.
+    /// A path request was answered, at the node that had sent it.
     Path,
     /// The request comes from a neighbour that did not acknowledge a reply.
     Blacklisted,

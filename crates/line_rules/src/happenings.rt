@@ -48,7 +48,7 @@ pub struct AgentLine {
     pub total: u32,
 }
 
-/// The way to a node that was told to the node that had asked.
+/// The answer to a path request, as it comes back to the node that had sent it.
 #[derive(Debug, Drop)]
 pub struct PathLine {
     /// The node that had asked.
@@ -70,7 +70,7 @@ pub struct Happenings<'a> {
     pub bup: Option<BroadcastUp<'a>>,
     /// The agent by which a meter joins, if one was chosen.
     pub agent: Option<AgentLine>,
-    /// The way that was told, if one was.
+    /// The answer to a path request, if one came back.
     pub path: Option<PathLine>,
     /// The meter that was allowed, if one was.
     pub grant: Option<Admission>,

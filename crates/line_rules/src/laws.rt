@@ -16,7 +16,7 @@ pub fn line_steps_go_on()
     ensures { LineStepsGoOn }
 {}
 
-/// Before the first event nothing was checked or heard, and no broadcast or path was told of.
+/// Before the first event no neighbour is checked and no agent was heard, and the history has no broadcast and no path.
 #[tactic(auto)]
 pub fn it_starts_with_nothing_further()
     ensures { NothingFurther }

@@ -61,7 +61,7 @@ unfoldable pub path_text : Option PathLine → List ℕ
 path_text None = []
 path_text (Some path) = codes "path " ++ (decimal path.node ++ (walk_text path.walk ++ codes "\n"))
 
--- the broadcast that was handed up, the agent that was chosen, the way that was told
+-- the broadcast that was handed up, the agent that was chosen, the answer to a path request
 unfoldable pub further_text : Happenings → List ℕ
 further_text happened = bup_text happened.bup ++ (agent_text happened.agent ++ path_text happened.path)
 

@@ -213,7 +213,7 @@ fn push_path(text: &mut String, alloc: Global, path: &Option<PathLine>) -> Resul
     }
 }
 
-/// What further reach led to: a broadcast that was handed up, an agent that was chosen, a way that was told.
+/// The lines of further reach: the broadcast that was handed up, the agent that was chosen, the answer to a path request.
 #[tactic(auto, unfolding(crate::specs::Texts::further_text))]
 fn push_further(
     text: &mut String,
@@ -305,9 +305,9 @@ fn push_details(
 }
 
 /// Appends the lines of an event of this number, without those of its flights. First comes its answer, and then whatever there
-/// is of these: that it is forged, the datagram or the broadcast that was handed up, the agent that was chosen, the way that was
-/// told, the address of a meter that was allowed, the meter that took its grant, the meter whose joining is done, and the lines of
-/// the node that is shown.
+/// is of these: that it is forged, the datagram or the broadcast that was handed up, the agent that was chosen, the answer to a path
+/// request, the address of a meter that was allowed, the meter that took its grant, the meter whose joining is done, and the lines
+/// of the node that is shown.
 #[tactic(auto, unfolding(crate::specs::Texts::happened_text))]
 pub fn push_happened(
     text: &mut String,

@@ -450,7 +450,7 @@ fn lines_of_an_event_in_order(rt: HostRuntime) -> Result<(), Fail> {
     Ok(())
 }
 
-// An event that handed up a broadcast, by an agent that was chosen, with a way that was told.
+// An event with each line of further reach in its report.
 fn further<'a>(bup: BroadcastUp<'a>, agent: AgentLine, path: PathLine) -> Happenings<'a> {
     Happenings {
         answer: Answer::Bup,
