@@ -147,7 +147,7 @@ commands_keep ciphers fits r ok runs silent number x there logs c = command_hold
 
 -- # All of it
 
-all_target : IsTarget to_all
+pub all_target : IsTarget to_all
 all_target = (omega arith, λ e. omega arith)
 
 pub calls_keep_all : CallsKeepAll

@@ -144,3 +144,4 @@ pub mod FurtherSteps
 pub mod FurtherTellings
 pub mod FurtherLogs
 pub mod FurtherOctets
+pub mod FurtherRanges

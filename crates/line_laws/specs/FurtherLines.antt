@@ -131,6 +131,10 @@ BeaconsAreSpelled w =
     (number : ℕ) (x : Node) (m : Memory) (octets : List ℕ) (link : ℕ) (frame : Discovery) → node_at w number ≡ Some x → x.memory ≡ Some m
     → (hear_discovery x.role m.station (beside_at w number).scan octets link).sent ≡ Some frame → IsDiscovery frame
 
+-- so it is of a line that holds
+abbrev pub LinesSpellBeacons : Type 0
+LinesSpellBeacons = (w : World) → WorldOk w → BeaconsAreSpelled w
+
 -- the flights after a step are what their keys say
 abbrev pub FlightsSpelled : Ciphers → Step → Type 0
 FlightsSpelled ciphers (Ok r) = All (IsSpelled ciphers) r.0.flights
@@ -139,7 +143,7 @@ FlightsSpelled ciphers (Err fault) = Unit {0}
 -- every event keeps that each flight is what its key says: a sealed frame, a plain one, or one of discovery
 abbrev pub LineStepsSpell : Type 0
 LineStepsSpell =
-    (ciphers : Ciphers) → KeepsRanges ciphers → (w : World) → WorldOk w → All FlightFits w.flights → LogsKept w → BeaconsAreSpelled w
+    (ciphers : Ciphers) → KeepsRanges ciphers → (w : World) → WorldOk w → All FlightFits w.flights → LogsKept w
     → All (IsSpelled ciphers) w.flights → (event : Event) → IsEvent event → FlightsSpelled ciphers (line_step ciphers w event)
 
 -- no mark of a node falls
