@@ -123,7 +123,7 @@ pub record HomesFor (w : World) (entries : List Entry) : Type 0 where
 
 module _ (ciphers : Ciphers) (fits : KeepsRanges ciphers) where
   -- homes of the world after an event are homes of the world before it
-  homed_back : (home : ℕ → ℕ) (w v : World) (given more : List Issued) (k : Keyed w given) (l : Keyed v more) → length w.nodes ≤ length v.nodes
+  pub homed_back : (home : ℕ → ℕ) (w v : World) (given more : List Issued) (k : Keyed w given) (l : Keyed v more) → length w.nodes ≤ length v.nodes
       → (0 < length w.nodes → (c : Node) → node_at v 0 ≡ Some c → (b : books.Book) → IsBookKept b c.store.records → Grows k.book b) → (0 < length w.nodes → (n : ℕ) (y : Node) → n < length w.nodes → node_at v n ≡ Some y → (x : Node) × (node_at w n ≡ Some x) × (x.eui ≡ y.eui))
       → HomedAt home v → HomedAt home w
   homed_back home w v given more k l longer grows euis h = record {

@@ -145,3 +145,7 @@ pub mod FurtherTellings
 pub mod FurtherLogs
 pub mod FurtherOctets
 pub mod FurtherRanges
+pub mod FurtherSame
+pub mod FurtherKeyed
+pub mod FurtherAgrees
+pub mod FurtherGrowth
