@@ -329,16 +329,16 @@ module _ (ciphers : Ciphers) (opens : OpensWhatItSeals ciphers) (fits : KeepsRan
       (λ b is. (subst (λ (k : Accepted). AreOctets k.payload) (same_Some got b is) routes.payload, pair)) v cause
 
   -- What was handed up by octets that came to this node.
-  record UpIs (w : World) (event : Event) (u : Handed) : Type 0 where
-    number : ℕ
-    octets : List ℕ
-    cost : ℕ
-    by : ArrivesBy w event number octets cost
-    is : HandedIsOf S (home number) u.note u.octets
+  pub record UpIs (w : World) (event : Event) (u : Handed) : Type 0 where
+    pub number : ℕ
+    pub octets : List ℕ
+    pub cost : ℕ
+    pub by : ArrivesBy w event number octets cost
+    pub is : HandedIsOf S (home number) u.note u.octets
 
-  record After (w : World) (event : Event) (before : List Handed) (v : World) (up : Option Handed) : Type 0 where
-    custody : Custody ciphers live S home v (before ++ option_to_list up)
-    handed : (u : Handed) → up ≡ Some u → UpIs w event u
+  pub record After (w : World) (event : Event) (before : List Handed) (v : World) (up : Option Handed) : Type 0 where
+    pub custody : Custody ciphers live S home v (before ++ option_to_list up)
+    pub handed : (u : Handed) → up ≡ Some u → UpIs w event u
 
   module _ (w : World) (before : List Handed) (c : Custody ciphers live S home w before) where
     abbrev ByArrival : Event → Step → Type 0
@@ -359,7 +359,7 @@ module _ (ciphers : Ciphers) (opens : OpensWhatItSeals ciphers) (fits : KeepsRan
         let k = arrival_keeps ciphers opens live S (one_send home apart sent rises) (tags_differ home apart sent rises) home w before c number y there octets cost (λ got e. let j = joins number y octets cost there by got e in (keeps number y octets cost there are got e (untagged got e), record { words = λ psk role m here. arrival_words w ok flown event says number y octets cost there (came_by w event number octets cost by) got e psk m role here; short = λ psk role m here. j.short psk m role here; coordinator = j.coordinator })) honest (falls number y octets cost there by) in
         record { custody = k.0; handed = λ u e. record { number = number; octets = octets; cost = cost; by = by; is = k.1 u e } }
 
-    after_event : (ok : WorldOk w) → All FlightFits w.flights → (x : Entry) → IsEvent x.event → step ciphers w x.event ≡ Ok (x.after, x.trace) → IfSome x.trace.happened.up (λ (u : Handed). ComesTo x.event u.node) → ((s : Sending) → x.trace.sent ≡ Some s → S (w.sends + 1) (sent_as home s))
+    pub after_event : (ok : WorldOk w) → All FlightFits w.flights → (x : Entry) → IsEvent x.event → step ciphers w x.event ≡ Ok (x.after, x.trace) → IfSome x.trace.happened.up (λ (u : Handed). ComesTo x.event u.node) → ((s : Sending) → x.trace.sent ≡ Some s → S (w.sends + 1) (sent_as home s))
         → Owed ciphers live w x → (given : List Issued) → Keyed w given → home 0 ≡ 0 → HomedAt home w → HomedAt home x.after → x.trace.happened.forged ≡ false → After w x.event before x.after x.trace.happened.up
     after_event ok flown x says is up_at is_sent owed given k first homed later honest = ⊎_elim came quiet (is_brought x.event)
       where

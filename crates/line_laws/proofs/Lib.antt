@@ -148,4 +148,8 @@ pub mod FurtherRanges
 pub mod FurtherSame
 pub mod FurtherKeyed
 pub mod FurtherAgrees
+pub mod FurtherStates
 pub mod FurtherGrowth
+pub mod FurtherRoutes
+pub mod FurtherCustody
+pub mod FurtherLoops
