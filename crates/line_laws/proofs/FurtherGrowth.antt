@@ -1,6 +1,6 @@
 -- What further moves leave of addresses: no address of the book is taken back, and no flight comes to life.
-use Rattle.std.proofs.Common.{⊎_elim, ◌≡◌, ◌≢◌, ℕ, ◌+◌, ◌≤◌, ◌<◌, true, false, List, [], ◌∷◌, length, Option, Some, None, refl, sym, ap, ◌∙◌, subst, arith}
-use Rattle.std.specs.Prelude.{All, IfSome, slice_get, slice_set}
+use Rattle.std.proofs.Common.{⊎_elim, ◌≡◌, ◌≢◌, ℕ, ◌≤◌, ◌<◌, true, List, [], length, Some, None, refl, sym, ap, ◌∙◌, subst, arith}
+use Rattle.std.specs.Prelude.{slice_get}
 use Rattle.std.proofs.lemmas.Bool.{cases_eq}
 use Rattle.std.proofs.lemmas.List.{length-set}
 use Rattle.std.proofs.lemmas.Option.{same_Some}
@@ -9,22 +9,19 @@ use Rattle.group_keys.specs.KeyBook as books
 use Rattle.pan_discovery.specs.declared.message.Discovery.{Discovery}
 use Rattle.node_rules.specs.Ciphers.{Ciphers}
 use Rattle.node_rules.specs.Drafts.{Outgoing}
-use Rattle.node_rules.specs.Memory.{Memory, Node}
+use Rattle.node_rules.specs.Memory.{Node}
 use Rattle.node_rules.specs.NodeSteps.{NodeStep, acts}
-use Rattle.node_rules.specs.Plans.{Plan}
 use Rattle.line_rules.specs.Steps.{told}
-use Rattle.line_rules.specs.Worlds.{World, Flight, Issued, node_at}
+use Rattle.line_rules.specs.Worlds.{World, Issued, node_at}
 use Rattle.line_laws.specs.Keyed.{Keyed}
 use Rattle.line_laws.specs.Lines.{NodeOk, WorldOk}
 use Rattle.line_laws.specs.Live.{book_of, live}
 use Rattle.line_laws.specs.Owed.{KeepsRanges}
 use Rattle.line_laws.specs.Places.{LiveFalls}
 use Rattle.line_laws.specs.Ranked.{homes_of}
-use Rattle.line_laws.specs.Sizes.{IsMemorySized}
 use Rattle.line_laws.proofs.AddressBook.{Grows, one_book}
 use Rattle.line_laws.proofs.CustodyHomes.{homed_back}
 use Rattle.line_laws.proofs.CustodySteps.{HomedAt}
-use Rattle.line_laws.proofs.FurtherForms.{IsFurther}
 use Rattle.line_laws.proofs.FurtherKeyed.{moved_keyed}
 use Rattle.line_laws.proofs.FurtherSeals.{further_quietly}
 use Rattle.line_laws.proofs.FurtherTellings.{Besides, Carries, Flies, Moves, Stays, Turns, moved_follows, moved_ok}
@@ -42,7 +39,8 @@ told_length : {A : Type 0} (ciphers : Ciphers) (v : World) (number : ℕ) (d : N
 unfolding told
 told_length ciphers v number d = length-set v.nodes number d.node
 
-told_other : {A : Type 0} (ciphers : Ciphers) (v : World) (number other : ℕ) (d : NodeStep A) → other ≢ number → node_at (told ciphers v number d) other ≡ node_at v other
+told_other : {A : Type 0} (ciphers : Ciphers) (v : World) (number other : ℕ) (d : NodeStep A) → other ≢ number
+    → node_at (told ciphers v number d) other ≡ node_at v other
 unfolding told
 told_other ciphers v number other d ne = slice_get-set_other v.nodes number other d.node ne
 
@@ -55,24 +53,30 @@ module _ (U : List Outgoing → Type 0) (D : Discovery → Type 0) (ciphers : Ci
   moved_length v u (Turns z between y first rest) = moved_length between u rest ∙ moved_length v between first
 
   -- the book is one, where the coordinator has stored the same
-  same_book : (v u : World) (given more : List Issued) (k : Keyed v given) (l : Keyed u more) → 0 < length v.nodes → node_at u 0 ≡ node_at v 0 → Grows k.book l.book
+  same_book : (v u : World) (given more : List Issued) (k : Keyed v given) (l : Keyed u more) → 0 < length v.nodes → node_at u 0 ≡ node_at v 0
+      → Grows k.book l.book
   same_book v u given more k l some same =
       let c = at_length v.nodes 0 some in
-      let is : k.book ≡ l.book = one_book k.book l.book c.one.store.records (k.coordinator c.one c.is).book_kept (l.coordinator c.one (same ∙ c.is)).book_kept in
+      let is : k.book ≡ l.book = one_book k.book l.book c.one.store.records (k.coordinator c.one c.is).book_kept (l.coordinator c.one (same ∙ c.is)).book_kept
+      in
       subst (Grows k.book) is (λ eui a e. e)
 
   -- no address of the book is taken back
-  pub moved_grows : (v u : World) → Moves U D ciphers v u → WorldOk v → v.running ≡ true → (given more : List Issued) (k : Keyed v given) (l : Keyed u more) → 0 < length v.nodes → Grows k.book l.book
+  pub moved_grows : (v u : World) → Moves U D ciphers v u → WorldOk v → v.running ≡ true → (given more : List Issued) (k : Keyed v given) (l : Keyed u more)
+      → 0 < length v.nodes → Grows k.book l.book
   moved_grows v u (Stays z) ok runs given more k l some = same_book v v given more k l some refl
   moved_grows v u (Carries z number x A halted does there is) ok runs given more k l some = ⊎_elim
       (λ (e : number ≡ 0).
       let good = at_place NodeOk v.nodes number x there ok.nodes in
       let c = k.coordinator x (ap (slice_get v.nodes) (sym e) ∙ there) in
       let did : CoordinatorDid k.book given [] x (acts x halted does) = coordinator_acts k.book given x halted does [] good c (λ a. None) (λ m here said. refl)
-      (λ m here kept. quiet_coordinator k.book None m (does m) (further_quietly m (does m) (is m here)) (c.ring m.station.ring kept.station.ring.stored) kept.station.range.ring) in
-      let stored = (l.coordinator (acts x halted does).node (ap (λ n. node_at (told ciphers v number (acts x halted does)) n) (sym e) ∙ told_here ciphers v number x (acts x halted does) there)).book_kept in
+      (λ m here kept. quiet_coordinator k.book None m (does m) (further_quietly m (does m) (is m here)) (c.ring m.station.ring kept.station.ring.stored)
+      kept.station.range.ring) in
+      let stored = (l.coordinator (acts x halted does).node (ap (λ n. node_at (told ciphers v number (acts x halted does)) n) (sym e)
+      ∙ told_here ciphers v number x (acts x halted does) there)).book_kept in
       subst (Grows k.book) (one_book did.book l.book (acts x halted does).node.store.records did.node.book_kept stored) did.grows)
-      (λ (ne : number ≢ 0). same_book v (told ciphers v number (acts x halted does)) given more k l some (told_other ciphers v number 0 (acts x halted does) (λ e. ne (sym e))))
+      (λ (ne : number ≢ 0). same_book v (told ciphers v number (acts x halted does)) given more k l some
+      (told_other ciphers v number 0 (acts x halted does) (λ e. ne (sym e))))
       (cases_eq number 0)
   moved_grows v u (Flies z number x frame there known) ok runs given more k l some = same_book v _ given more k l some refl
   moved_grows v u (Besides z on bs) ok runs given more k l some = same_book v _ given more k l some refl
@@ -108,7 +112,8 @@ module _ (U : List Outgoing → Type 0) (D : Discovery → Type 0) (ciphers : Ci
           let oku = (moved_ok U D ciphers fits v u moves ok runs).0 in
           let same = moved_length v u moves in
           none_falls v u follows (λ some.
-          subst (λ (b : books.Book). Grows b (book_of u)) (sym (some_book v given ok k some)) (subst (Grows k.book) (sym (some_book u more oku l (omega arith))) (grows some)))
+          subst (λ (b : books.Book). Grows b (book_of u)) (sym (some_book v given ok k some)) (subst (Grows k.book) (sym (some_book u more oku l (omega arith)))
+          (grows some)))
 
       -- the homes of the world after them fit the one before
       pub moved_addressed : Addressed (homes_of l.book u) v
@@ -119,4 +124,5 @@ module _ (U : List Outgoing → Type 0) (D : Discovery → Type 0) (ciphers : Ci
 
       pub moved_homed : (home : ℕ → ℕ) → HomedAt home u → HomedAt home v
       moved_homed home h = homed_back ciphers fits home v u given more k l longer
-          (λ some c there b kept. subst (Grows k.book) (one_book l.book b c.store.records (l.coordinator c there).book_kept kept) (grows some)) (λ some. moved_euis) h
+          (λ some c there b kept. subst (Grows k.book) (one_book l.book b c.store.records (l.coordinator c there).book_kept kept) (grows some))
+          (λ some. moved_euis) h

@@ -177,7 +177,8 @@ pub record Tells (s t : Trace) : Type 0 where
 -- # Events
 
 -- Old is what is known of an event as it is without further reach
-pub data IsLineStepBy (Old : Event → Step → Type 1) (U : List Outgoing → Type 0) (D : Discovery → Type 0) (ciphers : Ciphers) (w : World) : Event → Step → Type 1 where
+pub data IsLineStepBy (Old : Event → Step → Type 1) (U : List Outgoing → Type 0) (D : Discovery → Type 0) (ciphers : Ciphers) (w : World) : Event → Step
+    → Type 1 where
   -- as without further reach
   Known : (event : Event) (s : Step) → Old event s → IsLineStepBy Old U D ciphers w event s
   -- neighbours are checked from now on
@@ -185,14 +186,17 @@ pub data IsLineStepBy (Old : Event → Step → Type 1) (U : List Outgoing → T
   -- moves alone
   Anew : (event : Event) (v : World) (t : Trace) → Moves U D ciphers (ran w) v → IsSilent t → IsLineStepBy Old U D ciphers w event (Ok (v, t))
   -- as without further reach, and then moves
-  After : (event : Event) (r : World × Trace) (v : World) (t : Trace) → Old event (Ok r) → WorldOk r.0 → r.0.running ≡ true → Moves U D ciphers r.0 v → Tells r.1 t → IsLineStepBy Old U D ciphers w event (Ok (v, t))
+  After : (event : Event) (r : World × Trace) (v : World) (t : Trace) → Old event (Ok r) → WorldOk r.0 → r.0.running ≡ true → Moves U D ciphers r.0 v
+      → Tells r.1 t → IsLineStepBy Old U D ciphers w event (Ok (v, t))
   -- the same, and it is not sent after all
-  Unsends : (event : Event) (r : World × Trace) (v : World) (t : Trace) → Old event (Ok r) → WorldOk r.0 → r.0.running ≡ true → Moves U D ciphers r.0 v → Tells r.1 t → IsLineStepBy Old U D ciphers w event (Ok (sends_nothing w (v, t)))
+  Unsends : (event : Event) (r : World × Trace) (v : World) (t : Trace) → Old event (Ok r) → WorldOk r.0 → r.0.running ≡ true → Moves U D ciphers r.0 v
+      → Tells r.1 t → IsLineStepBy Old U D ciphers w event (Ok (sends_nothing w (v, t)))
   -- a request of a listed neighbour is dropped once it is accepted
   Unbelieves : (event : Event) (number : ℕ) (x : Node) (octets : List ℕ) (got : Accepted) → node_at w number ≡ Some x → IsEvent event → Comes w event number octets → (accepting ciphers x octets).answer ≡ Ok got
       → IsLineStepBy Old U D ciphers w event (Ok (unbelieved ciphers w number (accepting ciphers x octets).node octets got))
   -- a meter joins by an agent that it heard
-  Chooses : (number k : ℕ) (x : Node) (psk : Key) → number ≢ 0 → node_at w number ≡ Some x → psk_of x ≡ Some psk → IsLineStepBy Old U D ciphers w (events.Choose number k) (Ok (chooses_by ciphers w number x k (Some psk)))
+  Chooses : (number k : ℕ) (x : Node) (psk : Key) → number ≢ 0 → node_at w number ≡ Some x → psk_of x ≡ Some psk
+      → IsLineStepBy Old U D ciphers w (events.Choose number k) (Ok (chooses_by ciphers w number x k (Some psk)))
 
 -- that it is such an event
 abbrev pub IsLineStep : (List Outgoing → Type 0) → (Discovery → Type 0) → Ciphers → World → Event → Step → Type 1
@@ -234,8 +238,10 @@ module _ (U : List Outgoing → Type 0) {A : Type 0} (x : Node) (halted : A) (do
 told_same : (s t : Trace) → t.happened.forged ≡ s.happened.forged → t.happened.up ≡ s.happened.up → t.sent ≡ s.sent → t.issued ≡ s.issued → t.taken ≡ s.taken → t.done ≡ s.done → t.made ≡ s.made → t.opened ≡ s.opened → Tells s t
 told_same s t a b c d e f g h = record { forged = a; up = b; sent = c; issued = d; taken = e; done = f; made = g; opened = h }
 
-module _ (U : List Outgoing → Type 0) (D : Discovery → Type 0) (ciphers : Ciphers) (fits : KeepsRanges ciphers) (w : World) (ok : WorldOk w) (flown_are : All FlightFits w.flights) (logs : LogsKept w) (speaks : Speaks U D ciphers w)
-    (Old : Event → Step → Type 1) (fails : (event : Event) (fault : StepFault) → Old event (Err fault)) (old : (event : Event) → IsEvent event → Old event (step ciphers w event)) where
+module _ (U : List Outgoing → Type 0) (D : Discovery → Type 0) (ciphers : Ciphers) (fits : KeepsRanges ciphers) (w : World) (ok : WorldOk w)
+    (flown_are : All FlightFits w.flights) (logs : LogsKept w) (speaks : Speaks U D ciphers w)
+    (Old : Event → Step → Type 1) (fails : (event : Event) (fault : StepFault) → Old event (Err fault)) (old : (event : Event) → IsEvent event
+    → Old event (step ciphers w event)) where
   abbrev Is : Event → Step → Type 1
   Is event s = IsLineStepBy Old U D ciphers w event s
 
@@ -341,37 +347,50 @@ module _ (U : List Outgoing → Type 0) (D : Discovery → Type 0) (ciphers : Ci
       r = (record (ran w) { clock = w.clock + seconds; nodes = map (ticked (w.clock + seconds)) w.nodes }, trace_of (happened w said.Ticked))
 
       as_before : Bool → Step
-      as_before b = if b then Ok (record (ran w) { clock = w.clock + seconds; nodes = map (ticked (w.clock + seconds)) w.nodes }, trace_of (happened w said.Ticked)) else Err faults.Setup
+      as_before b = if b then Ok (
+        record (ran w) { clock = w.clock + seconds; nodes = map (ticked (w.clock + seconds)) w.nodes },
+        trace_of (happened w said.Ticked),
+      ) else Err faults.Setup
 
       taken : (r : World × Trace) → StepGood w (Ok r) → WorldOk r.0
       taken r (Taken q good few told) = good
 
-      by_start : (b : Bool) → StepGood w (as_before b) → Old (events.Tick seconds) (as_before b) → Is (events.Tick seconds) (after_ok (λ r. (record r.0 { beside = map (tick_beside (w.clock + seconds)) w.beside }, r.1)) (as_before b))
+      by_start : (b : Bool) → StepGood w (as_before b) → Old (events.Tick seconds) (as_before b)
+          → Is (events.Tick seconds) (after_ok (λ r. (record r.0 { beside = map (tick_beside (w.clock + seconds)) w.beside }, r.1)) (as_before b))
       by_start false g known = failed _ faults.Setup
       by_start true g known =
-          After _ r (record r.0 { beside = map (tick_beside (w.clock + seconds)) w.beside }) r.1 known (taken r g) refl (Besides r.0 w.checks_on (map (tick_beside (w.clock + seconds)) w.beside)) (told_same r.1 r.1 refl refl refl refl refl refl refl refl)
+          After _ r (record r.0 { beside = map (tick_beside (w.clock + seconds)) w.beside }) r.1 known (taken r g) refl
+          (Besides r.0 w.checks_on (map (tick_beside (w.clock + seconds)) w.beside)) (told_same r.1 r.1 refl refl refl refl refl refl refl refl)
 
-  restarts_step : (number : ℕ) (x : Node) → node_at w number ≡ Some x → Old (events.Restart number) (Ok (acted ciphers w number (restarts x))) → (o : Result Beside BadStore) → restarted x.store.records ≡ o
+  restarts_step : (number : ℕ) (x : Node) → node_at w number ≡ Some x → Old (events.Restart number) (Ok (acted ciphers w number (restarts x)))
+      → (o : Result Beside BadStore) → restarted x.store.records ≡ o
       → Is (events.Restart number) (Ok (restarts_by ciphers w number x o))
   unfolding told
   restarts_step number x there known (Err bad) e = absurd (restarts_read ciphers w logs number x there bad e)
   restarts_step number x there known (Ok b) e =
       let r : World × Trace = acted ciphers w number (restarts x) in
-      After _ r (restarts_by ciphers w number x (Ok b)).0 r.1 known (told_ok ciphers fits (ran w) number x (restarts x) (steps_ran_ok ciphers fits w ok flown_are) there (restarts_ok x (at_place NodeOk w.nodes number x there ok.nodes)) (λ e. absurd (true_false e))) refl (Besides r.0 r.0.checks_on (restarts_by ciphers w number x (Ok b)).0.beside) (told_same r.1 r.1 refl refl refl refl refl refl refl refl)
+      After _ r (restarts_by ciphers w number x (Ok b)).0 r.1 known
+      (told_ok ciphers fits (ran w) number x (restarts x) (steps_ran_ok ciphers fits w ok flown_are) there
+      (restarts_ok x (at_place NodeOk w.nodes number x there ok.nodes)) (λ e. absurd (true_false e))) refl
+      (Besides r.0 r.0.checks_on (restarts_by ciphers w number x (Ok b)).0.beside) (told_same r.1 r.1 refl refl refl refl refl refl refl refl)
 
   restart_step : (number : ℕ) → IsEvent (events.Restart number) → Is (events.Restart number) (restarts_further ciphers w number)
   unfolding restarts_further restart
   restart_step number says = by_node (has_begun w) (node_at w number) refl (old (events.Restart number) says)
     where
-      by_node : (b : Bool) (o : Option Node) → node_at w number ≡ o → Old (events.Restart number) (if b then option_map_or (λ x. Ok (acted ciphers w number (restarts x))) o (Err faults.Node) else Err faults.Setup)
-          → Is (events.Restart number) (if b then option_map_or (λ x. Ok (restarts_by ciphers w number x (restarted x.store.records))) o (Err faults.Node) else Err faults.Setup)
+      by_node : (b : Bool) (o : Option Node) → node_at w number ≡ o
+          → Old (events.Restart number) (if b then option_map_or (λ x. Ok (acted ciphers w number (restarts x))) o (Err faults.Node) else Err faults.Setup)
+          → Is (events.Restart number) (if b then option_map_or (λ x. Ok (restarts_by ciphers w number x (restarted x.store.records))) o (Err faults.Node) else
+          Err faults.Setup)
       by_node false o e known = failed _ faults.Setup
       by_node true None e known = failed _ faults.Node
       by_node true (Some x) e known = restarts_step number x e known (restarted x.store.records) refl
 
   -- # Octets that come
 
-  module _ (event : Event) (number : ℕ) (x : Node) (octets : List ℕ) (cost : ℕ) (got : Accepted) (there : node_at w number ≡ Some x) (says : IsEvent event) (comes_so : Comes w event number octets) (low : cost ≤ 255) (is : (accepting ciphers x octets).answer ≡ Ok got) (good : WorldOk (heard ciphers w number (accepting ciphers x octets).node octets got cost).0)
+  module _ (event : Event) (number : ℕ) (x : Node) (octets : List ℕ) (cost : ℕ) (got : Accepted) (there : node_at w number ≡ Some x) (says : IsEvent event)
+      (comes_so : Comes w event number octets) (low : cost ≤ 255) (is : (accepting ciphers x octets).answer ≡ Ok got)
+      (good : WorldOk (heard ciphers w number (accepting ciphers x octets).node octets got cost).0)
       (before : Old event (Ok (heard ciphers w number (accepting ciphers x octets).node octets got cost))) where
     abbrev y : Node
     y = (accepting ciphers x octets).node
@@ -405,7 +424,8 @@ module _ (U : List Outgoing → Type 0) (D : Discovery → Type 0) (ciphers : Ci
     with_moves : Moves U D ciphers r.0 with_it.0
     with_moves = Besides r.0 r.0.checks_on with_it.0.beside
 
-    acknowledged_step : (reply : Reply) → due got.path (message_of got) d.answer.answer ≡ Some reply → Is event (Ok (acknowledged ciphers w number (acknowledging d.node reply) with_it))
+    acknowledged_step : (reply : Reply) → due got.path (message_of got) d.answer.answer ≡ Some reply
+        → Is event (Ok (acknowledged ciphers w number (acknowledging d.node reply) with_it))
     acknowledged_step reply owed = by_memory (is_some a.node.memory)
       where
         a : NodeStep (Result (Unit {0}) LocalRefusal)
@@ -415,7 +435,9 @@ module _ (U : List Outgoing → Type 0) (D : Discovery → Type 0) (ciphers : Ci
         v = told ciphers with_it.0 number a
 
         moves : Moves U D ciphers r.0 v
-        moves = Turns r.0 with_it.0 v with_moves (Carries with_it.0 number d.node _ (Err locals.Store) (λ m. acknowledges in_memory reply.to reply.number reply.origin m) now_there (λ m here. speaks.acknowledges event number x octets got cost reply m says comes_so there is owed here))
+        moves = Turns r.0 with_it.0 v with_moves (Carries with_it.0 number d.node _ (Err locals.Store)
+            (λ m. acknowledges in_memory reply.to reply.number reply.origin m) now_there (λ m here. speaks.acknowledges event number x octets got cost reply m
+            says comes_so there is owed here))
 
         by_memory : (t : Bool) → Is event (Ok (if t then adds_frames v with_it.1 a else sends_nothing w (v, with_it.1)))
         by_memory true = After event r v (adds_frames v with_it.1 a).1 before good goes_on moves (told_same r.1 (adds_frames v with_it.1 a).1 refl refl refl refl refl refl refl refl)
@@ -447,7 +469,8 @@ module _ (U : List Outgoing → Type 0) (D : Discovery → Type 0) (ciphers : Ci
   discovers_step event number x there octets link None here = rests _ _ (silent said.Halted)
   discovers_step event number x there octets link (Some m) here = discovered_step event number x there discovery_word (beacon_taken number (discovery_in octets) link) (hear_discovery x.role m.station (beside_at w number).scan octets link) (λ frame e. speaks.beacons number x m octets link frame there here e)
 
-  comes_step : (event : Event) (number : ℕ) (x : Node) (octets : List ℕ) (cost : ℕ) → node_at w number ≡ Some x → IsEvent event → Comes w event number octets → cost ≤ 255 → Old event (Ok (arrives ciphers w number x octets cost)) → Is event (Ok (comes ciphers w number x octets cost))
+  comes_step : (event : Event) (number : ℕ) (x : Node) (octets : List ℕ) (cost : ℕ) → node_at w number ≡ Some x → IsEvent event → Comes w event number octets
+      → cost ≤ 255 → Old event (Ok (arrives ciphers w number x octets cost)) → Is event (Ok (comes ciphers w number x octets cost))
   unfolding comes acts arrives
   comes_step event number x octets cost there says comes_so low known = by_kind (is_discovery octets)
     where
@@ -463,7 +486,9 @@ module _ (U : List Outgoing → Type 0) (D : Discovery → Type 0) (ciphers : Ci
       d : NodeStep (Result Accepted FrameRefusal)
       d = accepting ciphers x octets
 
-      by_answer : (o : Result Accepted FrameRefusal) → (accepting ciphers x octets).answer ≡ o → Old event (Ok (accepted_by ciphers w number octets cost (record d { answer = o }))) → Is event (Ok (accepted_further ciphers w number octets cost (record d { answer = o })))
+      by_answer : (o : Result Accepted FrameRefusal) → (accepting ciphers x octets).answer ≡ o
+          → Old event (Ok (accepted_by ciphers w number octets cost (record d { answer = o })))
+          → Is event (Ok (accepted_further ciphers w number octets cost (record d { answer = o })))
       by_answer (Err reason) e it = Known event _ it
       by_answer (Ok got) e it = further_step event number x octets cost got there says comes_so low e (heard_world got e) it
 
@@ -475,14 +500,19 @@ module _ (U : List Outgoing → Type 0) (D : Discovery → Type 0) (ciphers : Ci
   unfolding delivers deliver
   delivers_step flight number cost says = by_node (has_begun w) (node_at w number) refl (flight_at w flight) refl (old (events.Deliver flight number cost) says)
     where
-      by_lost : (x : Node) (f : Flight) → node_at w number ≡ Some x → flight_at w flight ≡ Some f → (b : Bool) → Old (events.Deliver flight number cost) (if b then Err faults.Flight else Ok (arrives ciphers w number x f.octets cost))
+      by_lost : (x : Node) (f : Flight) → node_at w number ≡ Some x → flight_at w flight ≡ Some f → (b : Bool)
+          → Old (events.Deliver flight number cost) (if b then Err faults.Flight else Ok (arrives ciphers w number x f.octets cost))
           → Is (events.Deliver flight number cost) (if b then Err faults.Flight else Ok (comes ciphers w number x f.octets cost))
       by_lost x f hx hf true known = failed _ faults.Flight
       by_lost x f hx hf false known = comes_step _ number x f.octets cost hx says (OfFlight flight number cost f hf) says.2.1 known
 
       by_node : (b : Bool) (o : Option Node) → node_at w number ≡ o → (p : Option Flight) → flight_at w flight ≡ p
-          → Old (events.Deliver flight number cost) (if b then option_map_or (λ x. option_map_or (λ f. if f.lost then Err faults.Flight else Ok (arrives ciphers w number x f.octets cost)) p (Err faults.Flight)) o (Err faults.Node) else Err faults.Setup)
-          → Is (events.Deliver flight number cost) (if b then option_map_or (λ x. option_map_or (λ f. if f.lost then Err faults.Flight else Ok (comes ciphers w number x f.octets cost)) p (Err faults.Flight)) o (Err faults.Node) else Err faults.Setup)
+          → Old (events.Deliver flight number cost)
+          (if b then option_map_or (λ x. option_map_or (λ f. if f.lost then Err faults.Flight else Ok (arrives ciphers w number x f.octets cost)) p
+          (Err faults.Flight)) o (Err faults.Node) else Err faults.Setup)
+          → Is (events.Deliver flight number cost) (if b then option_map_or
+          (λ x. option_map_or (λ f. if f.lost then Err faults.Flight else Ok (comes ciphers w number x f.octets cost)) p (Err faults.Flight)) o
+          (Err faults.Node) else Err faults.Setup)
       by_node false o ho p hp known = failed _ faults.Setup
       by_node true None ho p hp known = failed _ faults.Node
       by_node true (Some x) ho None hp known = failed _ faults.Flight
@@ -492,8 +522,11 @@ module _ (U : List Outgoing → Type 0) (D : Discovery → Type 0) (ciphers : Ci
   unfolding injects inject
   injects_step number cost octets says = by_node (has_begun w) (node_at w number) refl (old (events.Inject number cost octets) says)
     where
-      by_node : (b : Bool) (o : Option Node) → node_at w number ≡ o → Old (events.Inject number cost octets) (if b then option_map_or (λ x. Ok (arrives ciphers w number x octets cost)) o (Err faults.Node) else Err faults.Setup)
-          → Is (events.Inject number cost octets) (if b then option_map_or (λ x. Ok (comes ciphers w number x octets cost)) o (Err faults.Node) else Err faults.Setup)
+      by_node : (b : Bool) (o : Option Node) → node_at w number ≡ o
+          → Old (events.Inject number cost octets) (if b then option_map_or (λ x. Ok (arrives ciphers w number x octets cost)) o (Err faults.Node) else Err
+          faults.Setup)
+          → Is (events.Inject number cost octets) (if b then option_map_or (λ x. Ok (comes ciphers w number x octets cost)) o (Err faults.Node) else Err
+          faults.Setup)
       by_node false o ho known = failed _ faults.Setup
       by_node true None ho known = failed _ faults.Node
       by_node true (Some x) ho known = comes_step _ number x octets cost ho says (OfScript number cost octets) says.1.1 known
@@ -529,9 +562,11 @@ module _ (U : List Outgoing → Type 0) (D : Discovery → Type 0) (ciphers : Ci
   line_step_by (events.Choose node k) e = choose_step node k
   line_step_by (events.Path from to) e = path_step from to
 
-pub line_step_is : (U : List Outgoing → Type 0) (D : Discovery → Type 0) (ciphers : Ciphers) (fits : KeepsRanges ciphers) (w : World) (ok : WorldOk w) (flown_are : All FlightFits w.flights) (logs : LogsKept w) (speaks : Speaks U D ciphers w)
+pub line_step_is : (U : List Outgoing → Type 0) (D : Discovery → Type 0) (ciphers : Ciphers) (fits : KeepsRanges ciphers) (w : World) (ok : WorldOk w)
+    (flown_are : All FlightFits w.flights) (logs : LogsKept w) (speaks : Speaks U D ciphers w)
     (event : Event) → IsEvent event → IsLineStep U D ciphers w event (line_step ciphers w event)
-line_step_is U D ciphers fits w ok flown_are logs speaks event says = line_step_by U D ciphers fits w ok flown_are logs speaks (IsStep ciphers w) OldFails (step_is ciphers w) event says
+line_step_is U D ciphers fits w ok flown_are logs speaks event says = line_step_by U D ciphers fits w ok flown_are logs speaks (IsStep ciphers w) OldFails
+    (step_is ciphers w) event says
 
 -- # What is known of any units
 
@@ -589,7 +624,8 @@ flights_spelled : (ciphers : Ciphers) (s : Step) → AllOf ciphers (IsSpelled ci
 flights_spelled ciphers (Ok r) h = h
 flights_spelled ciphers (Err fault) h = tt
 
-pub spelled_by : (ciphers : Ciphers) → KeepsRanges ciphers → (w : World) → WorldOk w → All FlightFits w.flights → LogsKept w → BeaconsAreSpelled w → All (IsSpelled ciphers) w.flights → (event : Event) → IsEvent event → FlightsSpelled ciphers (line_step ciphers w event)
+pub spelled_by : (ciphers : Ciphers) → KeepsRanges ciphers → (w : World) → WorldOk w → All FlightFits w.flights → LogsKept w → BeaconsAreSpelled w
+    → All (IsSpelled ciphers) w.flights → (event : Event) → IsEvent event → FlightsSpelled ciphers (line_step ciphers w event)
 spelled_by ciphers fits w ok flown logs beacons all event says =
     flights_spelled ciphers (line_step ciphers w event) (every_line_flight AnyUnits IsDiscovery ciphers (IsSpelled ciphers) (spelled_well ciphers) (lost_spelled ciphers) (found_spelled ciphers) w event (line_step ciphers w event)
     (line_step_is AnyUnits IsDiscovery ciphers fits w ok flown logs (any_speaks IsDiscovery ciphers w logs (omega arith) beacons) event says) all)
