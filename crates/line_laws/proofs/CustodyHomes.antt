@@ -121,6 +121,17 @@ pub record HomesFor (w : World) (entries : List Entry) : Type 0 where
   pub first : home 0 ≡ 0
   pub along : HomedAlong home w entries
 
+-- Homes of one world.
+pub record HomesAt (w : World) : Type 0 where
+  pub home : ℕ → ℕ
+  pub apart : (i j : ℕ) → home i ≡ home j → i ≡ j
+  pub first : home 0 ≡ 0
+  pub at : HomedAt home w
+
+-- those of its book
+pub homes_at : (w : World) (given : List Issued) → Keyed w given → HomesAt w
+homes_at w given k = record { home = home_of k.book w; apart = homes_apart w given k; first = refl; at = homed_now w given k }
+
 module _ (ciphers : Ciphers) (fits : KeepsRanges ciphers) where
   -- homes of the world after an event are homes of the world before it
   pub homed_back : (home : ℕ → ℕ) (w v : World) (given more : List Issued) (k : Keyed w given) (l : Keyed v more) → length w.nodes ≤ length v.nodes

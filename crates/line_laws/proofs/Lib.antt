@@ -153,3 +153,5 @@ pub mod FurtherGrowth
 pub mod FurtherRoutes
 pub mod FurtherCustody
 pub mod FurtherLoops
+pub mod FurtherHomes
+pub mod FurtherUps

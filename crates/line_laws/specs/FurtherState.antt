@@ -1,14 +1,19 @@
 -- What holds of runs of the network with further reach, up to the first forged event: the laws of runs without it, over its steps.
-use Rattle.std.specs.Prelude.{◌≡◌, false, All, List, [], ◌∷◌, ◌++◌}
+use Rattle.std.specs.Prelude.{◌≡◌, false, List, [], ◌∷◌, None}
 use Rattle.line_rules.specs.Agreement.{Agrees, NodeHasKey}
 use Rattle.line_rules.specs.Events.{AreEvents}
 use Rattle.line_rules.specs.Runs.{Entry, events_of}
+use Rattle.line_rules.specs.Traces.{AreTracedRight, CountsRight}
 use Rattle.line_rules.specs.Worlds.{World, Issued, start}
 use Rattle.line_laws.specs.FurtherLines.{IsReachRun}
 use Rattle.line_laws.specs.Issued.{IsIssuedAfter}
 use Rattle.line_laws.specs.Keyed.{Each}
 use Rattle.line_laws.specs.Loops.{AreLoopFree}
+use Rattle.line_laws.specs.Live.{live}
+use Rattle.line_laws.specs.Places.{LiveFalls}
 use Rattle.line_laws.specs.Ranges.{WorldRanged}
+use Rattle.line_laws.specs.Tags.{TagsRise}
+use Rattle.line_laws.specs.Ups.{UpsAreSentAfter}
 
 -- so it is of every such run
 abbrev pub OfReachRuns : (List Entry → Type 0) → Type 0
@@ -43,3 +48,17 @@ EveryIssuedKeyStood = OfReachRuns (IssuedStood start)
 -- valid next hops form no loop, and no stored rank falls
 abbrev pub EveryReachRunIsLoopFree : Type 0
 EveryReachRunIsLoopFree = OfReachRuns (AreLoopFree start)
+
+-- no flight that was past, or was not there, is live after an event
+abbrev pub StayFallen : World → List Entry → Type 0
+StayFallen w [] = Unit {0}
+StayFallen w (x ∷ xs) = x.trace.happened.forged ≡ false → LiveFalls live w x.after None × StayFallen x.after xs
+
+abbrev pub NoFlightComesToLife : Type 0
+NoFlightComesToLife = OfReachRuns (StayFallen start)
+
+-- where its traces are right, and the tags of its sends rise: each datagram that is handed up was sent to that node before, and none twice
+abbrev pub EveryReachUpWasSent : Type 0
+EveryReachUpWasSent =
+    OfReachRuns (λ entries. CountsRight start entries → AreTracedRight start entries → TagsRise entries
+    → UpsAreSentAfter [] entries)

@@ -20,6 +20,6 @@ pub use laws::{
     the_last_flights_say_all, the_start_holds, unsent_holds,
 };
 pub use state_laws::{
-    every_reach_joining_agrees, every_reach_run_is_loop_free, every_reach_run_is_ranged,
-    only_issued_keys_in_reach,
+    every_reach_datagram_was_sent, every_reach_joining_agrees, every_reach_run_is_loop_free,
+    every_reach_run_is_ranged, no_reach_flight_comes_to_life, only_issued_keys_in_reach,
 };

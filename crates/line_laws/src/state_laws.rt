@@ -1,5 +1,5 @@
 //! Laws of the runs of the network with further reach, up to the first forged event: each carried by a function that does nothing.
-ghost use Rattle.line_laws.specs.FurtherState.{EveryIssuedKeyStood, EveryReachJoiningAgrees, EveryReachRunIsLoopFree, EveryReachRunIsRanged, OnlyIssuedKeysInReach};
+ghost use Rattle.line_laws.specs.FurtherState.{EveryIssuedKeyStood, EveryReachJoiningAgrees, EveryReachRunIsLoopFree, EveryReachRunIsRanged, EveryReachUpWasSent, NoFlightComesToLife, OnlyIssuedKeysInReach};
 
 /// In every run of the network with further reach, up to its first forged event, over restarts and failed writes: what every node holds is in
 /// its ranges, and what flies is letters in theirs, plain frames and frames of discovery.
@@ -27,4 +27,17 @@ pub fn every_reach_joining_agrees()
 #[tactic(auto)]
 pub fn every_reach_run_is_loop_free()
     ensures { EveryReachRunIsLoopFree }
+{}
+
+/// In every such run no flight comes to life: what no node would open any more before an event, none opens after it.
+#[tactic(auto)]
+pub fn no_reach_flight_comes_to_life()
+    ensures { NoFlightComesToLife }
+{}
+
+/// In every such run whose counts and traces are right, and in which the tags of cut datagrams rise, each datagram that is handed up was sent to
+/// that node before, with the same octets, and none is handed up twice.
+#[tactic(auto)]
+pub fn every_reach_datagram_was_sent()
+    ensures { EveryReachUpWasSent }
 {}
