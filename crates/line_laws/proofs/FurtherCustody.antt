@@ -266,15 +266,15 @@ module _ (home : ℕ → ℕ) (apart : (i j : ℕ) → home i ≡ home j → i �
   S = SentUnder home sent
 
   -- what holds after an event, and of what it hands up
-  abbrev pub Follows : Event → World → Option Handed → Type 0
-  Follows event v up = AfterOld network network_opens_again network_ranges live (λ w f e. e) home apart sent rises some w event before v up
+  abbrev pub HoldsThen : Event → World → Option Handed → Type 0
+  HoldsThen event v up = AfterOld network network_opens_again network_ranges live (λ w f e. e) home apart sent rises some w event before v up
 
   -- where no flight comes to life, homes are those after it, what it hands up comes to its node, and what it sends is of the sends
   abbrev pub Done : Event → Step → Type 0
   Done event (Ok q) =
       LiveFalls live w q.0 None → HomedAt home q.0 → IfSome q.1.happened.up (λ (u : Handed). ComesTo event u.node)
       → ((z : Sending) → q.1.sent ≡ Some z → S (w.sends + 1) (sent_as home z)) → q.1.happened.forged ≡ false
-      → Follows event q.0 q.1.happened.up
+      → HoldsThen event q.0 q.1.happened.up
   Done event (Err fault) = Unit {0}
 
   -- custody of the world before, where what was live then is live
@@ -285,7 +285,7 @@ module _ (home : ℕ → ℕ) (apart : (i j : ℕ) → home i ≡ home j → i �
   ran_held = ran_at network network_opens_again S home (live w) before w held
 
   -- nothing is handed up
-  silent : (event : Event) (v : World) (up : Option Handed) → up ≡ None → Custody network live S home v before → Follows event v up
+  silent : (event : Event) (v : World) (up : Option Handed) → up ≡ None → Custody network live S home v before → HoldsThen event v up
   silent event v up none h = record {
     custody = subst (λ o. Custody network live S home v (before ++ option_to_list o)) (sym none)
         (subst (Custody network live S home v) (sym (append-nil before)) h);
@@ -325,7 +325,7 @@ module _ (home : ℕ → ℕ) (apart : (i j : ℕ) → home i ≡ home j → i �
 
     -- as without further reach
     same_done : (q : World × Trace) → step network w event ≡ Ok q → HomedAt home q.0 → IfSome q.1.happened.up (λ (u : Handed). ComesTo event u.node)
-        → ((z : Sending) → q.1.sent ≡ Some z → S (w.sends + 1) (sent_as home z)) → q.1.happened.forged ≡ false → Follows event q.0 q.1.happened.up
+        → ((z : Sending) → q.1.sent ≡ Some z → S (w.sends + 1) (sent_as home z)) → q.1.happened.forged ≡ false → HoldsThen event q.0 q.1.happened.up
     same_done q is later up_at is_sent honest =
         let owed = owed_at w past (record { ok = ok; speaks = s; ranged = r; keyed = k }) (entry q) says is in
         after_event network network_opens_again network_ranges live (λ w f e. e) home apart sent rises some w before c ok s.flights (entry q) says is up_at
@@ -333,7 +333,7 @@ module _ (home : ℕ → ℕ) (apart : (i j : ℕ) → home i ≡ home j → i �
 
     -- and then moves
     then_done : (q : World × Trace) (v : World) (up : Option Handed) → up ≡ q.1.happened.up → Moves IsOne IsDiscovery network q.0 v
-        → Follows event q.0 q.1.happened.up
+        → HoldsThen event q.0 q.1.happened.up
         → Custody network (λ _ f. live q.0 f) S home v (before ++ option_to_list up)
     then_done q v up same moves h =
         let now : Custody network (λ _ f. live q.0 f) S home q.0 (before ++ option_to_list q.1.happened.up) =

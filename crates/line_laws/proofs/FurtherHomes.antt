@@ -1,5 +1,5 @@
 -- Homes along a run of the network with further reach, and that no flight comes to life in it before it is forged.
-use Rattle.std.proofs.Common.{◌≡◌, ℕ, ◌<◌, Bool, true, false, List, [], ◌∷◌, ◌++◌, length, None, Ok, refl, sym, ap, ◌∙◌, subst, arith}
+use Rattle.std.proofs.Common.{◌≡◌, ℕ, ◌<◌, Bool, true, false, List, [], ◌∷◌, ◌++◌, length, None, refl, sym, ◌∙◌, subst, arith}
 use Rattle.std.proofs.lemmas.List.Elements.{All-head, All-tail}
 use Rattle.group_keys.specs.KeyBook as books
 use Rattle.node_rules.specs.Ciphers.{network}
@@ -17,7 +17,7 @@ use Rattle.line_laws.proofs.CustodySteps.{HomedAt}
 use Rattle.line_laws.proofs.FurtherForms.{AnyUnits}
 use Rattle.line_laws.proofs.FurtherLoops.{book_grows, euis_stay, nodes_stay}
 use Rattle.line_laws.proofs.FurtherSame.{AnyDiscovery}
-use Rattle.line_laws.proofs.FurtherStates.{Follows, Sound, Stands, sound_on, start_sound}
+use Rattle.line_laws.proofs.FurtherStates.{LeadsTo, Sound, Stands, sound_on, start_sound}
 use Rattle.line_laws.proofs.FurtherTellings.{any_speaks, line_follows, line_step_is}
 use Rattle.line_laws.proofs.LiveRuns.{none_falls, some_book}
 use Rattle.line_laws.proofs.MarkSteps.{FollowsIn}
@@ -25,7 +25,7 @@ use Rattle.line_laws.proofs.Readings.{network_ranges}
 
 -- # One event
 
-module _ (w : World) (before : List Entry) (o : Sound w before) (x : Entry) (event : IsEvent x.event) (is : Follows w x)
+module _ (w : World) (before : List Entry) (o : Sound w before) (x : Entry) (event : IsEvent x.event) (is : LeadsTo w x)
     (honest : x.trace.happened.forged ≡ false) where
   abbrev h : Stands w
   h = o.stands

@@ -42,7 +42,7 @@ use Rattle.line_laws.proofs.FurtherGrowth.{moved_euis, moved_grows}
 use Rattle.line_laws.proofs.FurtherKeyed.{moved_keyed, old_keyed}
 use Rattle.line_laws.proofs.FurtherRoutes.{AreHomesOf, line_holds}
 use Rattle.line_laws.proofs.FurtherSame.{AnyDiscovery, OldStep, line_step_any, old_on}
-use Rattle.line_laws.proofs.FurtherStates.{Follows, Sound, Stands, sound_on, start_sound}
+use Rattle.line_laws.proofs.FurtherStates.{LeadsTo, Sound, Stands, sound_on, start_sound}
 use Rattle.line_laws.proofs.FurtherTellings.{After, Anew, Chooses, IsLineStepBy, Known, Moves, Opens, Unbelieves, Unsends}
 use Rattle.line_laws.proofs.HomeGrants.{takes_own}
 use Rattle.line_laws.proofs.Homed as homed
@@ -123,10 +123,10 @@ module _ (ciphers : Ciphers) (fits : KeepsRanges ciphers) (w : World) (ok : Worl
 -- # Runs
 
 -- each node stays
-pub nodes_stay : (w : World) (x : Entry) → Follows w x → length w.nodes ≤ length x.after.nodes
+pub nodes_stay : (w : World) (x : Entry) → LeadsTo w x → length w.nodes ≤ length x.after.nodes
 nodes_stay w x is = (line_steps network w x.after x.event x.trace is).nodes
 
-module _ (w : World) (before : List Entry) (o : Sound w before) (x : Entry) (event : IsEvent x.event) (is : Follows w x)
+module _ (w : World) (before : List Entry) (o : Sound w before) (x : Entry) (event : IsEvent x.event) (is : LeadsTo w x)
     (honest : x.trace.happened.forged ≡ false) where
   goes_here : 0 < length w.nodes → Goes network network_ranges w o.stands.ok o.stands.speaks.flights (issued before) o.keyed x.after
   goes_here = subst (LineGoesBy network network_ranges w o.stands.ok o.stands.speaks.flights (issued before) o.keyed) is
@@ -148,7 +148,7 @@ pub record Routed (w : World) (before : List Entry) : Type 0 where
   pub sound : Sound w before
   pub routes : RoutingHolds network (homes_of sound.keyed.book w) w
 
-module _ (w : World) (before : List Entry) (o : Routed w before) (x : Entry) (event : IsEvent x.event) (is : Follows w x)
+module _ (w : World) (before : List Entry) (o : Routed w before) (x : Entry) (event : IsEvent x.event) (is : LeadsTo w x)
     (honest : x.trace.happened.forged ≡ false) where
   abbrev h : Stands w
   h = o.sound.stands

@@ -26,8 +26,6 @@ use Rattle.line_laws.proofs.FurtherOctets.{line_speaks, octets_speak, Octets, Sp
 use Rattle.line_laws.proofs.FurtherRanges.{LineRangedIn, line_ranged}
 use Rattle.line_laws.proofs.FurtherSteps.{line_steps_hold}
 use Rattle.line_laws.proofs.FurtherTellings.{line_step_is}
-pub use Rattle.line_laws.proofs.FurtherCustody.{line_done}
-pub use Rattle.line_laws.proofs.FurtherRoutes.{line_holds}
 use Rattle.line_laws.proofs.IssueRuns.{IsNamed, Kept, all_of_one, kept, start_keyed, world_holds}
 use Rattle.line_laws.proofs.IssueWords.{each_append}
 use Rattle.line_laws.proofs.IssuedNamed.{StepNamed}
@@ -56,12 +54,12 @@ pub first_node : (w : World) (given : List Issued) → Keyed w given → (n : �
 first_node w given k n x there role = ⊎_elim (λ (e : n ≡ 0). e) (λ (ne : n ≢ 0). let none : ⊥ = subst IsMeter role (k.roles n x ne there) in absurd none)
     (cases_eq n 0)
 
-abbrev pub Follows : World → Entry → Type 0
-Follows w x = line_step network w x.event ≡ Ok (x.after, x.trace)
+abbrev pub LeadsTo : World → Entry → Type 0
+LeadsTo w x = line_step network w x.event ≡ Ok (x.after, x.trace)
 
 -- # One event
 
-module _ (w : World) (h : Stands w) (x : Entry) (event : IsEvent x.event) (is : Follows w x) where
+module _ (w : World) (h : Stands w) (x : Entry) (event : IsEvent x.event) (is : LeadsTo w x) where
   pub stands_on : Stands x.after
   stands_on =
       let held = subst (StepHolds w) is (line_steps_hold network network_ranges w h.ok h.speaks.flights h.logs x.event event) in
@@ -80,7 +78,7 @@ module _ (w : World) (h : Stands w) (x : Entry) (event : IsEvent x.event) (is : 
     stood_here = subst (IssuedBy network network_ranges w h.ok h.speaks.flights (first_node w given k) (λ i. NodeHasKey w 0 i.key)) is
         (line_keys_stood network network_ranges w h.ok h.speaks.flights h.logs (first_node w given k) x.event event)
 
-module _ (w : World) (before : List Entry) (o : Sound w before) (x : Entry) (event : IsEvent x.event) (is : Follows w x)
+module _ (w : World) (before : List Entry) (o : Sound w before) (x : Entry) (event : IsEvent x.event) (is : LeadsTo w x)
     (honest : x.trace.happened.forged ≡ false) where
   abbrev h : Stands w
   h = o.stands

@@ -1,5 +1,5 @@
 -- What a run of the network with further reach hands up before it is forged was sent, and nothing is handed up twice, where its traces are right.
-use Rattle.std.proofs.Common.{zero-le, ◌≡◌, ℕ, ◌+◌, ◌<◌, false, List, [], ◌∷◌, ◌++◌, length, Option, Some, None, Ok, append-nil, refl, sym, ap, ◌∙◌, subst}
+use Rattle.std.proofs.Common.{zero-le, ◌≡◌, ℕ, ◌+◌, ◌<◌, List, [], ◌∷◌, ◌++◌, length, Option, Some, None, append-nil, refl, sym, ap, ◌∙◌, subst}
 use Rattle.std.proofs.Common.{arith}
 use Rattle.std.specs.Prelude.{All, AllPairs, IfSome, is_some, slice_get}
 use Rattle.std.specs.Option.{option_to_list}
@@ -11,12 +11,11 @@ use Rattle.line_rules.specs.declared.event.Event.{Event}
 use Rattle.line_rules.specs.declared.event.Event.TheVariants as events
 use Rattle.line_rules.specs.declared.happenings.Handed.{Handed}
 use Rattle.line_rules.specs.Events.{AreEvents, IsEvent}
-use Rattle.line_rules.specs.Further.{line_step}
-use Rattle.line_rules.specs.Runs.{Entry, events_of, one_of, issued, send_at, sends as sends_of, ups as ups_of}
+use Rattle.line_rules.specs.Runs.{Entry, events_of, one_of, sends as sends_of, ups as ups_of}
 use Rattle.line_rules.specs.SafeRuns.{IsNew, WasSent}
 use Rattle.line_rules.specs.Traces.{AreTracedRight, ComesTo, CountsRight, IsSendOf, is_up}
 use Rattle.line_rules.specs.Steps.{is_taken}
-use Rattle.line_rules.specs.Worlds.{World, Flight, Sending, node_at, start}
+use Rattle.line_rules.specs.Worlds.{World, Sending, start}
 use Rattle.line_laws.specs.FurtherLines.{IsReachRun}
 use Rattle.line_laws.specs.FurtherState.{EveryReachUpWasSent}
 use Rattle.line_laws.specs.InCustody.{Custody, FlightIsOf, SentUnder, sent_as}
