@@ -182,7 +182,7 @@ line_steps_spell ciphers fits w ok flown logs all event says = spelled_by cipher
 
 -- # Whom a message goes to
 
-low_target : (a : ℕ) → a < 0xFFFE → IsTarget a
+pub low_target : (a : ℕ) → a < 0xFFFE → IsTarget a
 low_target a low = (omega arith, omega arith)
 
 walk_low : (walk : List ℕ) (k : ℕ) → list_all is_address walk ≡ true → slice_index walk k < 0xFFFE
@@ -231,7 +231,7 @@ sent_low own from next message to more low far is (inl e) = subst GoesLow e (tak
 sent_low own from next message to more low far is (inr e) = subst GoesLow e (taken_low own from next message low far is)
 
 -- the next hop of a station in range
-route_low : (l : StationMemory) (dest hop : ℕ) → IsStationRanged l → station_route l dest ≡ Some hop → hop < 0xFFFE
+pub route_low : (l : StationMemory) (dest hop : ℕ) → IsStationRanged l → station_route l dest ≡ Some hop → hop < 0xFFFE
 route_low l dest hop h e = by_ring l.ring e
   where
     by_ring : (r : ring.Ring) → option_and_then (λ (g : Granted). next_hop l dest) r ≡ Some hop → hop < 0xFFFE
@@ -268,10 +268,10 @@ broadcast_long b short =
     let two = length-append (big_bytes 4 b.number) b.octets in
     omega arith
 
-may_path : (message : PathMessage) → length (walk_of message) ≤ 16 → MayBeSealed (Local 5 (path_spelling message))
+pub may_path : (message : PathMessage) → length (walk_of message) ≤ 16 → MayBeSealed (Local 5 (path_spelling message))
 may_path message short = may_be_sealed 5 (path_spelling message) (omega arith) (omega arith) (path_long message short) (path_octets message short)
 
-may_broadcast : (b : Broadcast) → b.hops < 256 → length b.octets ≤ 360 → AreOctets b.octets → MayBeSealed (Local 4 (spelling b))
+pub may_broadcast : (b : Broadcast) → b.hops < 256 → length b.octets ≤ 360 → AreOctets b.octets → MayBeSealed (Local 4 (spelling b))
 may_broadcast b low short are = may_be_sealed 4 (spelling b) (omega arith) (omega arith) (broadcast_long b short) (broadcast_octets b low are)
 
 may_ack : (number origin : ℕ) → MayBeSealed (Local 3 (ack_spelling number origin))
@@ -371,7 +371,7 @@ command_ranged y got cost note now c e h = by_role y.role
 -- # What nodes seal
 
 -- a datagram without a fault is short
-datagram_short : (b : Beside) (datagram : List ℕ) → datagram_fault b.log datagram ≡ None → length datagram ≤ 360
+pub datagram_short : (b : Beside) (datagram : List ℕ) → datagram_fault b.log datagram ≡ None → length datagram ≤ 360
 unfolding datagram_fault
 datagram_short b datagram e = ltb-false _ _ (or_parts (length datagram == 0) _ (when_none _ _ (then_none _ _ e).0)).1
 

@@ -155,3 +155,4 @@ pub mod FurtherCustody
 pub mod FurtherLoops
 pub mod FurtherHomes
 pub mod FurtherUps
+pub mod FurtherCalls

@@ -40,7 +40,7 @@ use Rattle.pan_discovery.specs.declared.message.Discovery.{Discovery}
 use Rattle.pan_discovery.specs.Messages.{IsDiscovery}
 use Rattle.reach_rules.specs.Beacons.{hear_discovery}
 use Rattle.line_laws.specs.Live.{MarksRise}
-use Rattle.line_laws.specs.Owed.{KeepsRanges}
+use Rattle.line_laws.specs.Owed.{AreOctets, KeepsRanges}
 
 -- the line holds, and no more than 24 frames were sent
 abbrev pub LineHolds : World × Trace → Type 0
@@ -163,16 +163,9 @@ TablesAreShort = (w : World) → WorldOk w → HaveShortTables w
 
 -- # Up to the first forged event
 
--- What a node tells its neighbours by an ask and by a broadcast of its own may be sealed.
-pub record TellsMay (x : Node) (b : Beside) : Type 0 where
-  pub asks : (m : Memory) → x.memory ≡ Some m → (own hop target : ℕ) → address_of m.station ≡ Some own → station_route m.station target ≡ Some hop
-      → IsTarget hop × MayBeSealed (Local 5 (path_spelling (Ask target (own ∷ []))))
-  pub broadcasts : (m : Memory) → x.memory ≡ Some m → (own : ℕ) (datagram : List ℕ) → address_of m.station ≡ Some own → datagram_fault b.log datagram ≡ None
-      → MayBeSealed (Local 4 (spelling (own_broadcast own b.log datagram)))
-
--- a broadcast and an ask keep all that the laws rest on
+-- a broadcast of octets and an ask keep all that the laws rest on
 abbrev pub CallsKeepAll : Type 0
 CallsKeepAll =
-    (w : World) (number : ℕ) (x : Node) (b : Beside) → w.running ≡ true → node_at w number ≡ Some x → TellsMay x b
-    → ((datagram : List ℕ) → Keeps w (told network w number (reaches x b (Err broadcasts_by.Halted) (λ y. broadcast in_memory y datagram))))
+    (w : World) (number : ℕ) (x : Node) (b : Beside) → w.running ≡ true → node_at w number ≡ Some x
+    → ((datagram : List ℕ) → AreOctets datagram → Keeps w (told network w number (reaches x b (Err broadcasts_by.Halted) (λ y. broadcast in_memory y datagram))))
     × ((target : ℕ) → Keeps w (told network w number (reaches x b (Err asks_of.Halted) (λ y. ask_path in_memory y target))))

@@ -337,7 +337,7 @@ pub fn commands_keep_the_line()
     ensures { CommandsKeepTheLine }
 {}
 
-/// A broadcast and an ask keep all that the laws rest on, whatever power is lost.
+/// A broadcast of octets and an ask keep all that the laws rest on, whatever power is lost.
 #[tactic(auto)]
 pub fn further_calls_keep_all()
     ensures { CallsKeepAll }
