@@ -7,24 +7,18 @@ use Rattle.reach_rules.specs.Broadcasts.{broadcast_fault}
 use Rattle.reach_rules.specs.ReachingNodes.{Beside}
 use Rattle.reach_rules.specs.Receiving.{NeighbourCommand}
 use Rattle.line_laws.specs.Keyed.{Each}
-use Rattle.line_laws.specs.Later.{Keeps, MayBeSealed}
-use Rattle.mac_frames.specs.Grammar.{IsTarget}
-use Rattle.mesh_header.specs.declared.unit.Unit.TheVariants.{Local}
-use Rattle.broadcast_log.specs.Grammar.{spelling}
-use Rattle.broadcast_log.specs.Log.{Log}
-use Rattle.path_requests.specs.declared.message.PathMessage.TheVariants.{Ask}
-use Rattle.path_requests.specs.Messages.{path_spelling}
+use Rattle.line_laws.specs.Later.{Keeps}
 use Rattle.node_rules.specs.Ciphers.{network}
 use Rattle.node_rules.specs.MemoryDrafts.{in_memory}
 use Rattle.reach_rules.specs.declared.refusal.BroadcastRefusal.TheVariants as broadcasts_by
 use Rattle.reach_rules.specs.declared.refusal.AskRefusal.TheVariants as asks_of
-use Rattle.reach_rules.specs.Broadcasts.{broadcast, datagram_fault, own_broadcast}
+use Rattle.reach_rules.specs.Broadcasts.{broadcast}
 use Rattle.reach_rules.specs.PathAsking.{ask_path}
 use Rattle.line_rules.specs.Further.{reaches}
 use Rattle.line_rules.specs.Steps.{Step, told}
 use Rattle.line_laws.specs.Later.{IsOfLog}
 use Rattle.node_rules.specs.Ciphers.{Ciphers}
-use Rattle.node_rules.specs.Memory.{Memory, Node, address_of, station_route}
+use Rattle.node_rules.specs.Memory.{Memory, Node}
 use Rattle.line_rules.specs.Further.{beside_at, broadcasts_by, asks_by, scans_by, discovers_by, commanded, line_step}
 use Rattle.line_rules.specs.Worlds.{World, Trace, node_at, start}
 use Rattle.line_laws.specs.Lines.{FlightFits, WorldOk}
