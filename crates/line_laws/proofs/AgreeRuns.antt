@@ -23,15 +23,15 @@ was_taken : (done : Pairing) (taken : List Pairing) → Among done taken → Was
 was_taken done taken (Here rest) = record { place = 0; is = refl }
 was_taken done taken (Later y rest a) = let p = was_taken done rest a in record { place = suc p.place; is = p.is }
 
-if_taken : (o : Option Pairing) (taken : List Pairing) → IfSome o (λ p. Among p taken) → IfSome o (λ done. WasTaken done taken)
+pub if_taken : (o : Option Pairing) (taken : List Pairing) → IfSome o (λ p. Among p taken) → IfSome o (λ done. WasTaken done taken)
 if_taken None taken h = tt
 if_taken (Some p) taken h = was_taken p taken h
 
-abbrev Agreed_in : List Pairing → Step → Type 0
+abbrev pub Agreed_in : List Pairing → Step → Type 0
 Agreed_in taken (Ok r) = r.1.happened.forged ≡ false → Confirmed r.0 (taken ++ one_of r.1.taken) × IfSome r.1.done (λ p. Among p taken)
 Agreed_in taken (Err fault) = Unit {0}
 
-agreed : (w : World) (taken : List Pairing) (s : Step) → StepAgrees w taken s → Agreed_in taken s
+pub agreed : (w : World) (taken : List Pairing) (s : Step) → StepAgrees w taken s → Agreed_in taken s
 agreed w taken s (Refused fault) = tt
 agreed w taken s (Happened r f) = f
 

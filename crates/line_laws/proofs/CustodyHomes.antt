@@ -121,9 +121,20 @@ pub record HomesFor (w : World) (entries : List Entry) : Type 0 where
   pub first : home 0 ≡ 0
   pub along : HomedAlong home w entries
 
+-- Homes of one world.
+pub record HomesAt (w : World) : Type 0 where
+  pub home : ℕ → ℕ
+  pub apart : (i j : ℕ) → home i ≡ home j → i ≡ j
+  pub first : home 0 ≡ 0
+  pub at : HomedAt home w
+
+-- those of its book
+pub homes_at : (w : World) (given : List Issued) → Keyed w given → HomesAt w
+homes_at w given k = record { home = home_of k.book w; apart = homes_apart w given k; first = refl; at = homed_now w given k }
+
 module _ (ciphers : Ciphers) (fits : KeepsRanges ciphers) where
   -- homes of the world after an event are homes of the world before it
-  homed_back : (home : ℕ → ℕ) (w v : World) (given more : List Issued) (k : Keyed w given) (l : Keyed v more) → length w.nodes ≤ length v.nodes
+  pub homed_back : (home : ℕ → ℕ) (w v : World) (given more : List Issued) (k : Keyed w given) (l : Keyed v more) → length w.nodes ≤ length v.nodes
       → (0 < length w.nodes → (c : Node) → node_at v 0 ≡ Some c → (b : books.Book) → IsBookKept b c.store.records → Grows k.book b) → (0 < length w.nodes → (n : ℕ) (y : Node) → n < length w.nodes → node_at v n ≡ Some y → (x : Node) × (node_at w n ≡ Some x) × (x.eui ≡ y.eui))
       → HomedAt home v → HomedAt home w
   homed_back home w v given more k l longer grows euis h = record {

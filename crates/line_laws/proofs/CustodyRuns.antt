@@ -84,7 +84,7 @@ at_number sent note s = by_test (note == 0) refl
     by_test true t e = absurd (no_some s e)
     by_test false t e = (let ne : note ≢ 0 = eqb-false _ _ t in omega arith, e)
 
-number_at : (sent : List Sending) (k : ℕ) (s : Sending) → slice_get sent k ≡ Some s → send_at sent (k + 1) ≡ Some s
+pub number_at : (sent : List Sending) (k : ℕ) (s : Sending) → slice_get sent k ≡ Some s → send_at sent (k + 1) ≡ Some s
 number_at sent k s e = by_test ((k + 1) == 0) refl
   where
     by_test : (b : Bool) → ((k + 1) == 0) ≡ b → (if b then None else slice_get sent (k + 1 - 1)) ≡ Some s
@@ -96,7 +96,7 @@ slice_left [] ys k x e lt = absurd (omega arith)
 slice_left (z ∷ xs) ys zero x e lt = e
 slice_left (z ∷ xs) ys (suc k) x e lt = slice_left xs ys k x e (omega arith)
 
-slice_middle : {A : Type 0} (xs ys : List A) (x : A) → slice_get (xs ++ x ∷ ys) (length xs) ≡ Some x
+pub slice_middle : {A : Type 0} (xs ys : List A) (x : A) → slice_get (xs ++ x ∷ ys) (length xs) ≡ Some x
 slice_middle [] ys x = refl
 slice_middle (z ∷ xs) ys x = slice_middle xs ys x
 
@@ -329,16 +329,16 @@ module _ (ciphers : Ciphers) (opens : OpensWhatItSeals ciphers) (fits : KeepsRan
       (λ b is. (subst (λ (k : Accepted). AreOctets k.payload) (same_Some got b is) routes.payload, pair)) v cause
 
   -- What was handed up by octets that came to this node.
-  record UpIs (w : World) (event : Event) (u : Handed) : Type 0 where
-    number : ℕ
-    octets : List ℕ
-    cost : ℕ
-    by : ArrivesBy w event number octets cost
-    is : HandedIsOf S (home number) u.note u.octets
+  pub record UpIs (w : World) (event : Event) (u : Handed) : Type 0 where
+    pub number : ℕ
+    pub octets : List ℕ
+    pub cost : ℕ
+    pub by : ArrivesBy w event number octets cost
+    pub is : HandedIsOf S (home number) u.note u.octets
 
-  record After (w : World) (event : Event) (before : List Handed) (v : World) (up : Option Handed) : Type 0 where
-    custody : Custody ciphers live S home v (before ++ option_to_list up)
-    handed : (u : Handed) → up ≡ Some u → UpIs w event u
+  pub record After (w : World) (event : Event) (before : List Handed) (v : World) (up : Option Handed) : Type 0 where
+    pub custody : Custody ciphers live S home v (before ++ option_to_list up)
+    pub handed : (u : Handed) → up ≡ Some u → UpIs w event u
 
   module _ (w : World) (before : List Handed) (c : Custody ciphers live S home w before) where
     abbrev ByArrival : Event → Step → Type 0
@@ -359,7 +359,7 @@ module _ (ciphers : Ciphers) (opens : OpensWhatItSeals ciphers) (fits : KeepsRan
         let k = arrival_keeps ciphers opens live S (one_send home apart sent rises) (tags_differ home apart sent rises) home w before c number y there octets cost (λ got e. let j = joins number y octets cost there by got e in (keeps number y octets cost there are got e (untagged got e), record { words = λ psk role m here. arrival_words w ok flown event says number y octets cost there (came_by w event number octets cost by) got e psk m role here; short = λ psk role m here. j.short psk m role here; coordinator = j.coordinator })) honest (falls number y octets cost there by) in
         record { custody = k.0; handed = λ u e. record { number = number; octets = octets; cost = cost; by = by; is = k.1 u e } }
 
-    after_event : (ok : WorldOk w) → All FlightFits w.flights → (x : Entry) → IsEvent x.event → step ciphers w x.event ≡ Ok (x.after, x.trace) → IfSome x.trace.happened.up (λ (u : Handed). ComesTo x.event u.node) → ((s : Sending) → x.trace.sent ≡ Some s → S (w.sends + 1) (sent_as home s))
+    pub after_event : (ok : WorldOk w) → All FlightFits w.flights → (x : Entry) → IsEvent x.event → step ciphers w x.event ≡ Ok (x.after, x.trace) → IfSome x.trace.happened.up (λ (u : Handed). ComesTo x.event u.node) → ((s : Sending) → x.trace.sent ≡ Some s → S (w.sends + 1) (sent_as home s))
         → Owed ciphers live w x → (given : List Issued) → Keyed w given → home 0 ≡ 0 → HomedAt home w → HomedAt home x.after → x.trace.happened.forged ≡ false → After w x.event before x.after x.trace.happened.up
     after_event ok flown x says is up_at is_sent owed given k first homed later honest = ⊎_elim came quiet (is_brought x.event)
       where
@@ -387,14 +387,14 @@ module _ (ciphers : Ciphers) (opens : OpensWhatItSeals ciphers) (fits : KeepsRan
   abbrev IsNoted : Handed → Type 0
   IsNoted u = (0 < u.note) × (0 < length u.octets)
 
-  noted : (w : World) (event : Event) (u : Handed) → UpIs w event u → IsNoted u
+  pub noted : (w : World) (event : Event) (u : Handed) → UpIs w event u → IsNoted u
   noted w event u h =
       let s = h.is.is in
       let p = at_number sent u.note s.sending s.is in
       let full : 0 < length s.sending.datagram = at_place (λ (z : Sending). 0 < length z.datagram) sent (u.note - 1) s.sending p.1 some in
       (p.0, subst (λ (xs : List ℕ). 0 < length xs) (ap (λ (z : SentAs). z.octets) s.of ∙ h.is.same) full)
 
-  was_sent : (w v : World) (event : Event) (u : Handed) (before : List Handed) (sent_before rest : List Sending) → sent ≡ sent_before ++ rest → v.sends ≡ length sent_before → UpIs w event u → ComesTo event u.node → Custody ciphers live S home v (before ++ u ∷ []) → WasSent u sent_before
+  pub was_sent : (w v : World) (event : Event) (u : Handed) (before : List Handed) (sent_before rest : List Sending) → sent ≡ sent_before ++ rest → v.sends ≡ length sent_before → UpIs w event u → ComesTo event u.node → Custody ciphers live S home v (before ++ u ∷ []) → WasSent u sent_before
   was_sent w v event u before sent_before rest same count h at c =
       let s = h.is.is in
       let p = at_number sent u.note s.sending s.is in
@@ -415,12 +415,12 @@ module _ (ciphers : Ciphers) (opens : OpensWhatItSeals ciphers) (fits : KeepsRan
         octets = ap (λ (z : SentAs). z.octets) s.of ∙ h.is.same;
       }
 
-  is_new : (v : World) (u : Handed) (before : List Handed) → All IsNoted before → IsNoted u → Custody ciphers live S home v (before ++ u ∷ []) → IsNew u before
+  pub is_new : (v : World) (u : Handed) (before : List Handed) → All IsNoted before → IsNoted u → Custody ciphers live S home v (before ++ u ∷ []) → IsNew u before
   is_new v u before all one c = pairs_last before u (ups_differ ciphers live v (before ++ u ∷ []) c.places (All-push IsNoted before u all one))
 
   -- # The run
 
-  none_lists : (o : Option Sending) (p : Option Handed) (a : Answer) → is_some o ≡ is_taken a → is_some p ≡ is_up a → (u : Handed) → p ≡ Some u → o ≡ None
+  pub none_lists : (o : Option Sending) (p : Option Handed) (a : Answer) → is_some o ≡ is_taken a → is_some p ≡ is_up a → (u : Handed) → p ≡ Some u → o ≡ None
   none_lists None p a eo ep u e = refl
   none_lists (Some s) p a eo ep u e =
       let up : is_up a ≡ true = sym ep ∙ ap (λ (q : Option Handed). is_some q) e in

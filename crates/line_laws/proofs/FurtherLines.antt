@@ -27,15 +27,13 @@ use Rattle.line_rules.specs.Further.{beside_at, beside_after, commanded, has_rea
 use Rattle.line_rules.specs.Nonces.{CounterRises, NonceParts, nonce_parts}
 use Rattle.line_rules.specs.Steps.{ran, told}
 use Rattle.line_rules.specs.Worlds.{World, Flight, Noticed, Trace, node_at}
-use Rattle.line_laws.specs.FurtherLines.{CallsKeepAll, LineHolds, LogFits, CallsKeepTheLine, CommandsKeepTheLine, DiscoveryKeepsTheLine}
+use Rattle.line_laws.specs.FurtherLines.{LineHolds, LogFits, CallsKeepTheLine, CommandsKeepTheLine, DiscoveryKeepsTheLine}
 use Rattle.line_laws.specs.Lines.{IsBelow, NodeOk, Rising, WorldOk, frontier}
 use Rattle.line_laws.specs.Owed.{KeepsRanges}
 use Rattle.line_laws.specs.Sizes.{IsMemorySized}
 use Rattle.line_laws.proofs.FurtherForms.{AnyUnits, IsFurther, ask_is, broadcast_is, command_is, further_ok}
 use Rattle.mac_frames.specs.Grammar.{IsTarget}
 use Rattle.node_rules.specs.Frames.{to_all}
-use Rattle.line_laws.proofs.FurtherSeals.{IsOne, One}
-use Rattle.line_laws.proofs.LaterKeeps.{further_keeps}
 use Rattle.line_laws.proofs.LaterMoves.{discovery_nonce}
 use Rattle.line_laws.proofs.Nodes.{DidOk, acts_ok}
 use Rattle.line_laws.proofs.Worlds.{at_place, counts_ok, told_ok, within}
@@ -147,13 +145,5 @@ commands_keep ciphers fits r ok runs silent number x there logs c = command_hold
 
 -- # All of it
 
-all_target : IsTarget to_all
+pub all_target : IsTarget to_all
 all_target = (omega arith, λ e. omega arith)
-
-pub calls_keep_all : CallsKeepAll
-calls_keep_all w number x b runs there may = (
-  λ datagram. further_keeps (Err broadcasts.Halted) (with_beside b (λ y. broadcast in_memory y datagram)) (λ m. broadcast_is AnyUnits b datagram m (λ own here e. tt)) w number x
-      (λ m is. broadcast_is IsOne b datagram m (λ own here e. One to_all _ all_target (may.broadcasts m is own datagram here e))) runs there,
-  λ target. further_keeps (Err asks.Halted) (with_beside b (λ y. ask_path in_memory y target)) (λ m. ask_is AnyUnits b target m (λ own hop here e. tt)) w number x
-      (λ m is. ask_is IsOne b target m (λ own hop here e. let one = may.asks m is own hop target here e in One hop _ one.0 one.1)) runs there,
-)

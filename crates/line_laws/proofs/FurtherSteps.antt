@@ -201,28 +201,29 @@ choice_ok role m sized ciphers fits own same b k now = by_joined (meters.is_join
 
 -- # What nodes without further reach make of a command: nothing
 
-hears_nothing : (l : StationMemory) (got : Accepted) (cost note now : ℕ) (c : NeighbourCommand) → command_of got ≡ Some c → ((hear l got cost note now).frames ≡ []) × (unread (hear l got cost note now).answer ≡ None)
+pub hears_nothing : (l : StationMemory) (got : Accepted) (cost note now : ℕ) (c : NeighbourCommand) → command_of got ≡ Some c
+    → ((hear l got cost note now).frames ≡ []) × (unread (hear l got cost note now).answer ≡ None) × ((hear l got cost note now).memory ≡ l)
 unfolding resting choose_plan
 hears_nothing l got cost note now c e = by_path got.path (unit_in got.payload) e
   where
     Nothing : Hearing → Type 0
-    Nothing p = (p.frames ≡ []) × (unread p.answer ≡ None)
+    Nothing p = (p.frames ≡ []) × (unread p.answer ≡ None) × (p.memory ≡ l)
 
     by_code : (own from : ℕ) (all : Bool) (code : ℕ) (body : List ℕ) (s t : Bool) (m p : Hearing) → (if s then None else (if t then None else Some (record { from = from; to_all = all; code = code; body = body }))) ≡ Some c
         → Nothing (if s then m else (if t then p else resting l (Ok (heard_words.Local from all code body)) (Err drops.Store)))
     by_code own from all code body true t m p is = absurd (cc (is))
     by_code own from all code body false true m p is = absurd (cc (is))
-    by_code own from all code body false false m p is = (refl, refl)
+    by_code own from all code body false false m p is = (refl, refl, refl)
 
     by_address : (o : Option ℕ) (from : ℕ) (all : Bool) (unit : MeshUnit) → command_with from all (Some unit) ≡ Some c → Nothing (option_map_or (λ a. hear_sealed l a from all unit cost note now) o (drop_it l drops.BadUnit))
-    by_address None from all unit is = (refl, refl)
+    by_address None from all unit is = (refl, refl, refl)
     by_address (Some own) from all (units.Local code body) is = by_code own from all code body (code == 1) (code == 2) _ _ is
     by_address (Some own) from all (units.Whole mesh octets) is = absurd (cc (is))
     by_address (Some own) from all (units.Part mesh piece) is = absurd (cc (is))
     by_address (Some own) from all (units.Carried mesh body) is = absurd (cc (is))
 
     by_path : (p : Path) (o : Option MeshUnit) → command_on p o ≡ Some c → Nothing (hear_unit_in l p o cost note now)
-    by_path p None is = (refl, refl)
+    by_path p None is = (refl, refl, refl)
     by_path (paths.Sealed from all key) (Some unit) is = by_address (address_of l) from all unit is
     by_path (paths.Up from) (Some unit) is = absurd (cc (is))
     by_path (paths.Down from) (Some unit) is = absurd (cc (is))

@@ -58,7 +58,7 @@ each_from : (P : Issued → Type 0) (xs : List Issued) → All P xs → Each P x
 each_from P [] h = tt
 each_from P (x ∷ xs) h = (All-head P x xs h, each_from P xs (All-tail P x xs h))
 
-abbrev IsNamed : Issued → Type 0
+abbrev pub IsNamed : Issued → Type 0
 IsNamed i = IsEui i.eui
 
 abbrev issued_as : Eui → ℕ → Key → Issued

@@ -49,7 +49,7 @@ use Rattle.line_laws.proofs.Running.{start_ok, taken_good}
 use Rattle.line_laws.proofs.Tellings.{IsStep, Fails, Makes, Rests, Shows, Acts, BreaksLink, SendsFrom, AllowsMeter, Sets, SetsTwo, Provides, TurnsDown, Hears, Loses, Ticks, Restarts, Cuts, step_is}
 
 -- the meter of an issue has an EUI of 8 octets
-abbrev IssueNamed : Issued → Type 0
+abbrev pub IssueNamed : Issued → Type 0
 IssueNamed i = HasEui i.eui
 
 -- so have all of a run
@@ -99,7 +99,7 @@ module _ (ciphers : Ciphers) (y : Node) (good : NodeOk y) (got : Accepted) (cost
       by_role Coordinator = coordinator_named (acts y (Err drops.Store) plan).answer refl
       by_role (Meter psk) = subst (λ o. Each IssueNamed (issued_of o)) (sym (no_keys (acts y (Err drops.Store) (λ m. meters.hear_meter (identity ciphers y psk) m got cost note now)).answer)) tt
 
-abbrev StepNamed : Step → Type 0
+abbrev pub StepNamed : Step → Type 0
 StepNamed (Ok r) = Each IssueNamed r.1.issued
 StepNamed (Err fault) = Unit {0}
 
@@ -114,7 +114,7 @@ module _ (ciphers : Ciphers) (fits : KeepsRanges ciphers) (w : World) (ok : Worl
   sent_named from to datagram tag true r h = h
   sent_named from to datagram tag false r h = h
 
-  names : (event : Event) (s : Step) → IsStep ciphers w event s → StepNamed s
+  pub names : (event : Event) (s : Step) → IsStep ciphers w event s → StepNamed s
   names event s (Fails e fault) = tt
   names event s (Makes e x is) = tt
   names event s (Rests e quiet) = tt

@@ -144,3 +144,15 @@ pub mod FurtherSteps
 pub mod FurtherTellings
 pub mod FurtherLogs
 pub mod FurtherOctets
+pub mod FurtherRanges
+pub mod FurtherSame
+pub mod FurtherKeyed
+pub mod FurtherAgrees
+pub mod FurtherStates
+pub mod FurtherGrowth
+pub mod FurtherRoutes
+pub mod FurtherCustody
+pub mod FurtherLoops
+pub mod FurtherHomes
+pub mod FurtherUps
+pub mod FurtherCalls

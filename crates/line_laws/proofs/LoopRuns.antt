@@ -21,6 +21,7 @@ use Rattle.line_rules.specs.Events.{IsEvent, AreEvents}
 use Rattle.line_rules.specs.Laws.{GoesOn}
 use Rattle.line_rules.specs.Worlds.{World, Flight, Trace, Issued, node_at, start}
 use Rattle.line_rules.specs.Runs.{Entry, IsRun, events_of, issued}
+use Rattle.line_rules.specs.Further.{line_step}
 use Rattle.line_rules.specs.Steps.{Step, psk_of, step}
 use Rattle.line_rules.proofs.StepsOn.{steps}
 use Rattle.line_laws.specs.Owed.{KeepsRanges}
@@ -113,11 +114,16 @@ module _ (ciphers : Ciphers) (fits : KeepsRanges ciphers) (w v : World) (ok : Wo
       depot_home number x c psk g hx hc pair (subst (LeftBy ciphers w number x c psk hx hc pair) e (depot_left ciphers w number x c psk hx hc pair)) is
   depot_fits _ t e = tt
 
-abbrev HoldsBy : Homes → World → Step → Type 0
+  -- and so with further reach
+  pub line_depot_fits : (event : Event) (t : Trace) → line_step ciphers w event ≡ Ok (v, t) → DepotFits ciphers (homes_of kv.book v) w event
+  line_depot_fits (events.Depot number) t e = depot_fits (events.Depot number) t e
+  line_depot_fits _ t e = tt
+
+abbrev pub HoldsBy : Homes → World → Step → Type 0
 HoldsBy h w (Ok r) = r.1.happened.forged ≡ false → Reached network h w r.0
 HoldsBy h w (Err fault) = Unit {0}
 
-holds_by : (h : Homes) (w : World) (s : Step) → StepHolds network h w s → HoldsBy h w s
+pub holds_by : (h : Homes) (w : World) (s : Step) → StepHolds network h w s → HoldsBy h w s
 holds_by h w s (Fails fault) = tt
 holds_by h w s (Taken r holds) = holds
 
@@ -165,11 +171,14 @@ loop_free_from w before o (x ∷ xs) says run = λ honest.
     } in
     (no_loop network h x.after (addressed x.after more g.0 k2) after.holds, after.later, loop_free_from x.after (before ++ x ∷ []) sound xs (All-tail IsEvent x.event (events_of xs) says) run.3)
 
-pub start_routes : RoutingHolds network (homes_of start_keyed.book start) start
-start_routes = record {
-  ranks = record { backed = All-nil (FlightBacked network (homes_of start_keyed.book start) start); not_own = λ i x there dest own. absurd (none-some x there) };
+pub start_routed : (b : books.Book) → RoutingHolds network (homes_of b start) start
+start_routed b = record {
+  ranks = record { backed = All-nil (FlightBacked network (homes_of b start) start); not_own = λ i x there dest own. absurd (none-some x there) };
   routes = record { routes = λ i x there dest next e. absurd (none-some x there) };
 }
+
+pub start_routes : RoutingHolds network (homes_of start_keyed.book start) start
+start_routes = start_routed start_keyed.book
 
 start_sound : Sound start []
 start_sound = record { ok = start_ok; speaks = start_speaks; ranged = start_ranged; keyed = start_keyed; routes = start_routes }

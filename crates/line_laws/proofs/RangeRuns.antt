@@ -72,7 +72,7 @@ pub use Rattle.line_laws.specs.Ranges.{WorldRanged}
 pub start_ranged : WorldRanged start
 start_ranged = record { nodes = All-nil NodeRanged; flights = All-nil (IsFlight network) }
 
-told_ranged : {A : Type 0} (u : World) (number : ℕ) (d : NodeStep A) → WorldRanged u → DidRanged d → WorldRanged (told network u number d)
+pub told_ranged : {A : Type 0} (u : World) (number : ℕ) (d : NodeStep A) → WorldRanged u → DidRanged d → WorldRanged (told network u number d)
 unfolding told
 told_ranged u number d r did = record {
   nodes = All-set NodeRanged u.nodes number d.node did.station r.nodes;

@@ -7,24 +7,18 @@ use Rattle.reach_rules.specs.Broadcasts.{broadcast_fault}
 use Rattle.reach_rules.specs.ReachingNodes.{Beside}
 use Rattle.reach_rules.specs.Receiving.{NeighbourCommand}
 use Rattle.line_laws.specs.Keyed.{Each}
-use Rattle.line_laws.specs.Later.{Keeps, MayBeSealed}
-use Rattle.mac_frames.specs.Grammar.{IsTarget}
-use Rattle.mesh_header.specs.declared.unit.Unit.TheVariants.{Local}
-use Rattle.broadcast_log.specs.Grammar.{spelling}
-use Rattle.broadcast_log.specs.Log.{Log}
-use Rattle.path_requests.specs.declared.message.PathMessage.TheVariants.{Ask}
-use Rattle.path_requests.specs.Messages.{path_spelling}
+use Rattle.line_laws.specs.Later.{Keeps}
 use Rattle.node_rules.specs.Ciphers.{network}
 use Rattle.node_rules.specs.MemoryDrafts.{in_memory}
 use Rattle.reach_rules.specs.declared.refusal.BroadcastRefusal.TheVariants as broadcasts_by
 use Rattle.reach_rules.specs.declared.refusal.AskRefusal.TheVariants as asks_of
-use Rattle.reach_rules.specs.Broadcasts.{broadcast, datagram_fault, own_broadcast}
+use Rattle.reach_rules.specs.Broadcasts.{broadcast}
 use Rattle.reach_rules.specs.PathAsking.{ask_path}
 use Rattle.line_rules.specs.Further.{reaches}
 use Rattle.line_rules.specs.Steps.{Step, told}
 use Rattle.line_laws.specs.Later.{IsOfLog}
 use Rattle.node_rules.specs.Ciphers.{Ciphers}
-use Rattle.node_rules.specs.Memory.{Memory, Node, address_of, station_route}
+use Rattle.node_rules.specs.Memory.{Memory, Node}
 use Rattle.line_rules.specs.Further.{beside_at, broadcasts_by, asks_by, scans_by, discovers_by, commanded, line_step}
 use Rattle.line_rules.specs.Worlds.{World, Trace, node_at, start}
 use Rattle.line_laws.specs.Lines.{FlightFits, WorldOk}
@@ -40,7 +34,7 @@ use Rattle.pan_discovery.specs.declared.message.Discovery.{Discovery}
 use Rattle.pan_discovery.specs.Messages.{IsDiscovery}
 use Rattle.reach_rules.specs.Beacons.{hear_discovery}
 use Rattle.line_laws.specs.Live.{MarksRise}
-use Rattle.line_laws.specs.Owed.{KeepsRanges}
+use Rattle.line_laws.specs.Owed.{AreOctets, KeepsRanges}
 
 -- the line holds, and no more than 24 frames were sent
 abbrev pub LineHolds : World × Trace → Type 0
@@ -131,6 +125,10 @@ BeaconsAreSpelled w =
     (number : ℕ) (x : Node) (m : Memory) (octets : List ℕ) (link : ℕ) (frame : Discovery) → node_at w number ≡ Some x → x.memory ≡ Some m
     → (hear_discovery x.role m.station (beside_at w number).scan octets link).sent ≡ Some frame → IsDiscovery frame
 
+-- so it is of a line that holds
+abbrev pub LinesSpellBeacons : Type 0
+LinesSpellBeacons = (w : World) → WorldOk w → BeaconsAreSpelled w
+
 -- the flights after a step are what their keys say
 abbrev pub FlightsSpelled : Ciphers → Step → Type 0
 FlightsSpelled ciphers (Ok r) = All (IsSpelled ciphers) r.0.flights
@@ -139,7 +137,7 @@ FlightsSpelled ciphers (Err fault) = Unit {0}
 -- every event keeps that each flight is what its key says: a sealed frame, a plain one, or one of discovery
 abbrev pub LineStepsSpell : Type 0
 LineStepsSpell =
-    (ciphers : Ciphers) → KeepsRanges ciphers → (w : World) → WorldOk w → All FlightFits w.flights → LogsKept w → BeaconsAreSpelled w
+    (ciphers : Ciphers) → KeepsRanges ciphers → (w : World) → WorldOk w → All FlightFits w.flights → LogsKept w
     → All (IsSpelled ciphers) w.flights → (event : Event) → IsEvent event → FlightsSpelled ciphers (line_step ciphers w event)
 
 -- no mark of a node falls
@@ -159,16 +157,9 @@ TablesAreShort = (w : World) → WorldOk w → HaveShortTables w
 
 -- # Up to the first forged event
 
--- What a node tells its neighbours by an ask and by a broadcast of its own may be sealed.
-pub record TellsMay (x : Node) (b : Beside) : Type 0 where
-  pub asks : (m : Memory) → x.memory ≡ Some m → (own hop target : ℕ) → address_of m.station ≡ Some own → station_route m.station target ≡ Some hop
-      → IsTarget hop × MayBeSealed (Local 5 (path_spelling (Ask target (own ∷ []))))
-  pub broadcasts : (m : Memory) → x.memory ≡ Some m → (own : ℕ) (datagram : List ℕ) → address_of m.station ≡ Some own → datagram_fault b.log datagram ≡ None
-      → MayBeSealed (Local 4 (spelling (own_broadcast own b.log datagram)))
-
--- a broadcast and an ask keep all that the laws rest on
+-- a broadcast of octets and an ask keep all that the laws rest on
 abbrev pub CallsKeepAll : Type 0
 CallsKeepAll =
-    (w : World) (number : ℕ) (x : Node) (b : Beside) → w.running ≡ true → node_at w number ≡ Some x → TellsMay x b
-    → ((datagram : List ℕ) → Keeps w (told network w number (reaches x b (Err broadcasts_by.Halted) (λ y. broadcast in_memory y datagram))))
+    (w : World) (number : ℕ) (x : Node) (b : Beside) → w.running ≡ true → node_at w number ≡ Some x
+    → ((datagram : List ℕ) → AreOctets datagram → Keeps w (told network w number (reaches x b (Err broadcasts_by.Halted) (λ y. broadcast in_memory y datagram))))
     × ((target : ℕ) → Keeps w (told network w number (reaches x b (Err asks_of.Halted) (λ y. ask_path in_memory y target))))

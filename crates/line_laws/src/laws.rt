@@ -1,5 +1,5 @@
 //! Laws of the runs: each carried by a function that does nothing.
-ghost use Rattle.line_laws.specs.FurtherLines.{CallsKeepAll, CallsKeepTheLine, CommandsKeepTheLine, CommandsFit, DiscoveryKeepsTheLine, EveryReachRunHolds, LineLogsHold, LineStepsHold, LineStepsRise, LineStepsSpell, LogsFit, TablesAreShort};
+ghost use Rattle.line_laws.specs.FurtherLines.{CallsKeepAll, CallsKeepTheLine, CommandsKeepTheLine, CommandsFit, DiscoveryKeepsTheLine, EveryReachRunHolds, LineLogsHold, LineStepsHold, LineStepsRise, LineStepsSpell, LinesSpellBeacons, LogsFit, TablesAreShort};
 ghost use Rattle.line_laws.specs.Issued.{EveryJoiningAgrees, OnlyIssuedKeys};
 ghost use Rattle.line_laws.specs.Kicked.{EveryKickedMeterStaysOut};
 ghost use Rattle.line_laws.specs.Later.{BesideKeeps, CommandsMayBeSealed, DiscoveringKeeps, JoinedNodesSeal, KeepsInTurn, OthersMayNot, PlainKeeps, PlansSplit, RunningKeeps, SealingKeeps, StartHolds, StoringKeeps, UnsentHolds};
@@ -318,10 +318,11 @@ pub fn line_logs_hold()
 {}
 
 /// And each flight is what its key says after every event of a line with further reach, where it was before: a sealed frame under it, and
-/// without a key a plain frame or one of discovery.
+/// without a key a plain frame or one of discovery. What the nodes of a line send of discovery can be spelled.
 #[tactic(auto)]
 pub fn line_steps_spell()
-    ensures { LineStepsSpell }
+    ensures flights { LineStepsSpell }
+    ensures beacons { LinesSpellBeacons }
 {}
 
 /// And after a scan that begins, and frames of discovery that come.
@@ -336,7 +337,7 @@ pub fn commands_keep_the_line()
     ensures { CommandsKeepTheLine }
 {}
 
-/// A broadcast and an ask keep all that the laws rest on, whatever power is lost.
+/// A broadcast of octets and an ask keep all that the laws rest on, whatever power is lost.
 #[tactic(auto)]
 pub fn further_calls_keep_all()
     ensures { CallsKeepAll }

@@ -2,6 +2,7 @@
 #![tactic(auto)]
 
 mod laws;
+mod state_laws;
 
 pub use laws::{
     beside_keeps, calls_keep_the_line, commands_keep_the_line, commands_may_be_sealed,
@@ -17,4 +18,8 @@ pub use laws::{
     line_steps_spell, network_keeps_ranges, network_opens_what_it_seals, only_issued_keys,
     others_may_not, plain_keeps, plans_split, running_keeps, sealing_keeps, storing_keeps,
     the_last_flights_say_all, the_start_holds, unsent_holds,
+};
+pub use state_laws::{
+    every_reach_datagram_was_sent, every_reach_joining_agrees, every_reach_run_is_loop_free,
+    every_reach_run_is_ranged, no_reach_flight_comes_to_life, only_issued_keys_in_reach,
 };
