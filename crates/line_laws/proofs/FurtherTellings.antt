@@ -213,7 +213,7 @@ module _ (U : List Outgoing → Type 0) {A : Type 0} (x : Node) (halted : A) (do
   plan_untold m p (Rests answer failed) = (refl, refl)
   plan_untold m p (Goes answer failed ps us logs says few left) = (refl, refl)
 
-  untold : ((m : Memory) → x.memory ≡ Some m → IsFurther U m (does m)) → ((acts x halted does).made ≡ []) × ((acts x halted does).opened ≡ [])
+  pub untold : ((m : Memory) → x.memory ≡ Some m → IsFurther U m (does m)) → ((acts x halted does).made ≡ []) × ((acts x halted does).opened ≡ [])
   unfolding acts
   untold is = by_memory x.memory refl
     where
@@ -504,7 +504,7 @@ fits_at ciphers w logs number x octets got cost m there here = by_memory x.memor
     by_memory None s h = absurd (cc (s))
     by_memory (Some n) s h = logs_fit (beside_at w number) x.store.records h
 
-any_speaks : (D : Discovery → Type 0) (ciphers : Ciphers) (w : World) → LogsKept w → D (requests.Request 0)
+pub any_speaks : (D : Discovery → Type 0) (ciphers : Ciphers) (w : World) → LogsKept w → D (requests.Request 0)
     → ((number : ℕ) (x : Node) (m : Memory) (octets : List ℕ) (link : ℕ) (frame : Discovery) → node_at w number ≡ Some x → x.memory ≡ Some m → (hear_discovery x.role m.station (beside_at w number).scan octets link).sent ≡ Some frame → D frame)
     → Speaks AnyUnits D ciphers w
 any_speaks D ciphers w logs request beacons = record {

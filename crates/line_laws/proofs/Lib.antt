@@ -144,3 +144,10 @@ pub mod FurtherSteps
 pub mod FurtherTellings
 pub mod FurtherLogs
 pub mod FurtherOctets
+pub mod FurtherEvents
+pub mod FurtherSenders
+pub mod FurtherGrowth
+pub mod FurtherTags
+pub mod FurtherLive
+pub mod FurtherRight
+pub mod FurtherRestarts

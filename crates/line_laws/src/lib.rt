@@ -2,6 +2,7 @@
 #![tactic(auto)]
 
 mod laws;
+mod more_laws;
 
 pub use laws::{
     beside_keeps, calls_keep_the_line, commands_keep_the_line, commands_may_be_sealed,
@@ -17,4 +18,9 @@ pub use laws::{
     line_steps_spell, network_keeps_ranges, network_opens_what_it_seals, only_issued_keys,
     others_may_not, plain_keeps, plans_split, running_keeps, sealing_keeps, storing_keeps,
     the_last_flights_say_all, the_start_holds, unsent_holds,
+};
+pub use more_laws::{
+    line_books_grow, line_flights_fall, line_nodes_accept_once, line_restarts_are_right,
+    line_senders_are_right, line_steps_shut, line_tags_rise, line_traces_are_right,
+    reach_runs_are_sized,
 };
