@@ -1,8 +1,7 @@
 -- What the history has of an event of a line with further reach is what the report says of it, and it is forged exactly where it says so.
-use Rattle.std.proofs.Common.{◌≡◌, ◌≢◌, ◌⊎◌, inl, inr, ⊎_elim, not, ℕ, ◌+◌, ◌≤◌, Bool, true, false, List, [], ◌∷◌, ◌++◌, length, Option, Some, None, Result, Ok, Err, refl, sym, ap, ◌∙◌, subst, append-nil, arith}
-use Rattle.std.specs.Prelude.{◌↔◌, ◌||◌, ◌&&◌, ◌==◌, IfSome, is_some, if◌then◌else◌, All}
+use Rattle.std.proofs.Common.{◌≡◌, ◌⊎◌, inl, inr, ⊎_elim, not, ℕ, ◌+◌, ◌≤◌, Bool, true, false, List, [], ◌++◌, length, Option, Some, None, Result, Ok, Err, refl, sym, ap, ◌∙◌, subst, append-nil, arith}
+use Rattle.std.specs.Prelude.{◌↔◌, ◌||◌, ◌&&◌, ◌==◌, is_some, if◌then◌else◌, All}
 use Rattle.std.specs.Option.{option_map_or}
-use Rattle.std.specs.List.{list_any}
 use Rattle.std.proofs.lemmas.List.{length-append}
 use Rattle.plc_base.specs.declared.key.Key.{Key}
 use Rattle.plc_base.specs.declared.tags.PairTag.{PairTag}
@@ -10,7 +9,6 @@ use Rattle.mesh_header.specs.declared.unit.Unit.{Unit as MeshUnit}
 use Rattle.mesh_header.specs.declared.unit.Unit.TheVariants as units
 use Rattle.mesh_header.specs.Reading.{unit_in}
 use Rattle.loadng_messages.specs.declared.message.Message.{Message}
-use Rattle.pan_discovery.specs.declared.message.Discovery.{Discovery}
 use Rattle.pan_discovery.specs.Reading.{discovery_in}
 use Rattle.node_rules.specs.declared.heard.Accepted.{Accepted}
 use Rattle.node_rules.specs.declared.heard.Heard.{Heard}
@@ -31,7 +29,7 @@ use Rattle.node_rules.specs.Drafts.{choose as choose_plan, refused}
 use Rattle.node_rules.specs.Hearing.{Hearing, hear, hear_sealed, drop_it, hear_unit_in}
 use Rattle.node_rules.specs.Laws.{IsCutOff, IsWhole}
 use Rattle.node_rules.specs.Memory.{Memory, StationMemory, Node, Role, Coordinator, Meter, address_of}
-use Rattle.node_rules.specs.MemoryDrafts.{in_memory, unread}
+use Rattle.node_rules.specs.MemoryDrafts.{in_memory}
 use Rattle.node_rules.specs.NodeSteps.{NodeStep, acts, answering, left_by, stays}
 use Rattle.node_rules.specs.Plans.{Plan, carry_out, resting}
 use Rattle.node_rules.proofs.Writing.{clean}
@@ -67,12 +65,12 @@ use Rattle.line_rules.specs.declared.happenings.AgentLine.{AgentLine}
 use Rattle.line_rules.specs.declared.happenings.Happenings.{Happenings}
 use Rattle.line_rules.specs.declared.happenings.BroadcastUp.{BroadcastUp}
 use Rattle.line_rules.specs.declared.happenings.PathLine.{PathLine}
-use Rattle.line_rules.specs.Answers.{Reception, ask_word, broadcast_word, command_word, coordinator_reception, discovery_word, meter_reception, only, reach_drop_word, scan_word}
+use Rattle.line_rules.specs.Answers.{Reception, ask_word, broadcast_word, command_word, coordinator_reception, discovery_word, meter_reception, only, scan_word}
 use Rattle.line_rules.specs.Events.{IsEvent}
-use Rattle.line_rules.specs.Forgery.{AcceptsSealed, Comes, IsForged, accepting}
-use Rattle.line_rules.specs.Further.{line_step, agent_line, asked, asks_by, beacon_taken, beside_at, broadcast_sent, broadcasts_by, choice_word, chooses_by, commanded, discovers_by, discovery_flights, due, due_of, has_discovered, is_reply_taken, acknowledged, acknowledging, adds_frames, bcast, of_memory, scanning, unbelieved, scans_by, sends_nothing, with_beside}
+use Rattle.line_rules.specs.Forgery.{Comes, IsForged, accepting}
+use Rattle.line_rules.specs.Further.{line_step, agent_line, asks_by, beacon_taken, beside_at, broadcasts_by, choice_word, chooses_by, commanded, discovers_by, discovery_flights, due, due_of, has_discovered, is_reply_taken, acknowledged, acknowledging, adds_frames, bcast, of_memory, scanning, unbelieved, scans_by, sends_nothing, with_beside}
 use Rattle.line_rules.specs.Logs.{LogsKept}
-use Rattle.line_rules.specs.Steps.{Step, acted, forged_by, happened, has_begun, hears, identity, is_taken, note_by, ran, set_up, told, trace_of}
+use Rattle.line_rules.specs.Steps.{Step, acted, forged_by, happened, has_begun, identity, is_taken, note_by, ran, set_up, told, trace_of}
 use Rattle.line_rules.specs.Traces.{Adds, IsTracedRight, is_done, is_issue, is_took, is_up}
 use Rattle.line_rules.specs.Worlds.{World, Trace, Further, Noticed, nothing_further, node_at}
 use Rattle.line_rules.specs.Runs.{Entry}
@@ -81,12 +79,12 @@ use Rattle.line_laws.specs.Lines.{FlightFits, WorldOk}
 use Rattle.line_laws.specs.Owed.{KeepsRanges}
 use Rattle.line_laws.proofs.FurtherEvents.{IsFurtherStep, IsHeard, checks_so, found_none, further_step_is, heard_so, hearing, taker}
 use Rattle.line_laws.proofs.FurtherEvents.{Old, TurnsOn, Spreads, Seeks, Looks, Picks, Finds, Takes, Puts, IsUnbelieved, IsPlain, IsCommand, IsChecked, IsAnswered}
-use Rattle.line_laws.proofs.FurtherForms.{AnyUnits, IsFurther, ask_is, broadcast_is}
+use Rattle.line_laws.proofs.FurtherForms.{AnyUnits, ask_is, broadcast_is}
 use Rattle.line_laws.proofs.FurtherSenders.{known}
 use Rattle.line_laws.proofs.FurtherSteps.{ack_is, hears_nothing}
 use Rattle.line_laws.proofs.FurtherTellings.{untold}
 use Rattle.line_laws.proofs.Tellings.{Hears}
-use Rattle.line_laws.proofs.TracesRight.{Counted, Fits, Good, NoneCame, Plain, Right, acted_right, drop_fits, entry, false_true, forged_right, quiet_adds, quiet_right, ran_counted, received_right, right, still_right, told_counted, told_flights, told_made, unbrought, unforged}
+use Rattle.line_laws.proofs.TracesRight.{Good, NoneCame, Plain, Right, acted_right, drop_fits, entry, false_true, forged_right, quiet_adds, quiet_right, ran_counted, received_right, right, still_right, told_counted, told_flights, told_made, unbrought, unforged}
 use Rattle.line_laws.proofs.IssueMeters.{joins_opened}
 use Rattle.line_laws.proofs.IssueNodes.{acts_opened}
 
@@ -168,20 +166,23 @@ SaysNothing (Err reason) = Unit {0}
 SaysNothing (Ok (heard_words.Local from all code body)) = Unit {0}
 SaysNothing (Ok _) = ⊥
 
-hears_local : (l : StationMemory) (got : Accepted) (cost note now : ℕ) (c : NeighbourCommand) → command_of got ≡ Some c → SaysNothing (hear l got cost note now).answer × SaysNothing (hear l got cost note now).failed
+hears_local : (l : StationMemory) (got : Accepted) (cost note now : ℕ) (c : NeighbourCommand) → command_of got ≡ Some c
+    → SaysNothing (hear l got cost note now).answer × SaysNothing (hear l got cost note now).failed
 unfolding resting choose_plan
 hears_local l got cost note now c e = by_path got.path (unit_in got.payload) e
   where
     Nothing : Hearing → Type 0
     Nothing p = SaysNothing p.answer × SaysNothing p.failed
 
-    by_code : (own from : ℕ) (all : Bool) (code : ℕ) (body : List ℕ) (s t : Bool) (m p : Hearing) → (if s then None else (if t then None else Some (record { from = from; to_all = all; code = code; body = body }))) ≡ Some c
+    by_code : (own from : ℕ) (all : Bool) (code : ℕ) (body : List ℕ) (s t : Bool) (m p : Hearing)
+        → (if s then None else (if t then None else Some (record { from = from; to_all = all; code = code; body = body }))) ≡ Some c
         → Nothing (if s then m else (if t then p else resting l (Ok (heard_words.Local from all code body)) (Err drops.Store)))
     by_code own from all code body true t m p is = absurd (cc (is))
     by_code own from all code body false true m p is = absurd (cc (is))
     by_code own from all code body false false m p is = (tt, tt)
 
-    by_address : (o : Option ℕ) (from : ℕ) (all : Bool) (unit : MeshUnit) → command_with from all (Some unit) ≡ Some c → Nothing (option_map_or (λ a. hear_sealed l a from all unit cost note now) o (drop_it l drops.BadUnit))
+    by_address : (o : Option ℕ) (from : ℕ) (all : Bool) (unit : MeshUnit) → command_with from all (Some unit) ≡ Some c
+        → Nothing (option_map_or (λ a. hear_sealed l a from all unit cost note now) o (drop_it l drops.BadUnit))
     by_address None from all unit is = (tt, tt)
     by_address (Some own) from all (units.Local code body) is = by_code own from all code body (code == 1) (code == 2) _ _ is
     by_address (Some own) from all (units.Whole mesh octets) is = absurd (cc (is))
@@ -194,7 +195,8 @@ hears_local l got cost note now c e = by_path got.path (unit_in got.payload) e
     by_path (paths.Up from) (Some unit) is = absurd (cc (is))
     by_path (paths.Down from) (Some unit) is = absurd (cc (is))
 
-acts_says : {A : Type 0} (P : A → Type 0) (x : Node) (halted : A) (plan : Memory → Plan Memory A) → P halted → ((m : Memory) → P (plan m).answer × P (plan m).failed) → P (acts x halted plan).answer
+acts_says : {A : Type 0} (P : A → Type 0) (x : Node) (halted : A) (plan : Memory → Plan Memory A) → P halted
+    → ((m : Memory) → P (plan m).answer × P (plan m).failed) → P (acts x halted plan).answer
 unfolding acts
 acts_says P x halted plan h f = by_memory x.memory
   where
@@ -223,21 +225,27 @@ meter_says (Ok _) h = absurd h
 
 module _ (ciphers : Ciphers) (x : Node) (got : Accepted) (cost note now : ℕ) (c : NeighbourCommand) (e : command_of got ≡ Some c) where
   abbrev hears_by : Role → NodeStep Reception
-  hears_by Coordinator = answering coordinator_reception (acts x (Err drops.Store) (λ m. coordinator_rules.hear_coordinator (record { eui = x.eui; ciphers = ciphers }) m got cost note now))
+  hears_by Coordinator = answering coordinator_reception
+      (acts x (Err drops.Store) (λ m. coordinator_rules.hear_coordinator (record { eui = x.eui; ciphers = ciphers }) m got cost note now))
   hears_by (Meter psk) = answering meter_reception (acts x (Err drops.Store) (λ m. meters.hear_meter (identity ciphers x psk) m got cost note now))
 
   command_silent_word : (r : Role) → Plain (hears_by r).answer.answer
-  command_silent_word Coordinator = acts_says CoordinatorSays x (Err drops.Store) (λ m. coordinator_rules.hear_coordinator (record { eui = x.eui; ciphers = ciphers }) m got cost note now) (drop_fits drops.Store)
+  command_silent_word Coordinator = acts_says CoordinatorSays x (Err drops.Store)
+      (λ m. coordinator_rules.hear_coordinator (record { eui = x.eui; ciphers = ciphers }) m got cost note now) (drop_fits drops.Store)
       (λ m.
       let own : coordinator_rules.CoordinatorIdentity = record { eui = x.eui; ciphers = ciphers } in
       let p = hear m.station got cost note now in
       let s = hears_local m.station got cost note now c e in
-      subst (λ o. CoordinatorSays (coordinator_rules.heard_by own m now p o).answer × CoordinatorSays (coordinator_rules.heard_by own m now p o).failed) (sym (hears_nothing m.station got cost note now c e).1) (coordinator_says p.answer s.0, coordinator_says p.failed s.1))
-  command_silent_word (Meter psk) = acts_says MeterSays x (Err drops.Store) (λ m. meters.hear_meter (identity ciphers x psk) m got cost note now) (drop_fits drops.Store)
+      subst (λ o. CoordinatorSays (coordinator_rules.heard_by own m now p o).answer × CoordinatorSays (coordinator_rules.heard_by own m now p o).failed)
+      (sym (hears_nothing m.station got cost note now c e).1) (coordinator_says p.answer s.0, coordinator_says p.failed s.1))
+  command_silent_word (Meter psk) = acts_says MeterSays x (Err drops.Store) (λ m. meters.hear_meter (identity ciphers x psk) m got cost note now)
+      (drop_fits drops.Store)
       (λ m.
       let p = hear m.station got cost note now in
       let s = hears_local m.station got cost note now c e in
-      subst (λ o. MeterSays (meters.heard_by (identity ciphers x psk) m now p o).answer × MeterSays (meters.heard_by (identity ciphers x psk) m now p o).failed) (sym (hears_nothing m.station got cost note now c e).1) (meter_says p.answer s.0, meter_says p.failed s.1))
+      subst (λ o. MeterSays (meters.heard_by (identity ciphers x psk) m now p o).answer × MeterSays
+      (meters.heard_by (identity ciphers x psk) m now p o).failed) (sym (hears_nothing m.station got cost note now c e).1)
+      (meter_says p.answer s.0, meter_says p.failed s.1))
 
 -- a choice finds no pair tag right
 choice_opened : (m : Memory) (own : meters.Identity) (b : Beside) (k now : ℕ) → (with_beside b (λ y. choose_agent own y k now) m).opened ≡ []
@@ -248,7 +256,9 @@ choice_opened m own b k now = by_joined (meters.is_joined m)
     by_agent None = refl
     by_agent (Some (address, total)) = joins_opened own m address now
 
-    by_joined : (t : Bool) → (of_memory (if t then refused {H = ChosenAgent} choosing_ends (record { memory = m; beside = b }) choices.AlreadyJoined else joins_by own (record { memory = m; beside = b }) now (kth_of b.scan.agents k))).opened ≡ []
+    by_joined : (t : Bool)
+        → (of_memory (if t then refused {H = ChosenAgent} choosing_ends (record { memory = m; beside = b }) choices.AlreadyJoined else joins_by own
+        (record { memory = m; beside = b }) now (kth_of b.scan.agents k))).opened ≡ []
     by_joined true = refl
     by_joined false = by_agent (kth_of b.scan.agents k)
 
@@ -256,11 +266,14 @@ choice_opened m own b k now = by_joined (meters.is_joined m)
 
 module _ (ciphers : Ciphers) (w : World) where
   -- where something else stands beside, or is told of further reach
-  more_adds : (n : ℕ) (event : Event) (v : World) (t : Trace) (on : Bool) (bs : List Beside) (f : Further) (a : Option AgentLine) → Adds w (entry n event (v, t))
+  more_adds : (n : ℕ) (event : Event) (v : World) (t : Trace) (on : Bool) (bs : List Beside) (f : Further) (a : Option AgentLine)
+      → Adds w (entry n event (v, t))
       → Adds w (entry n event (record v { checks_on = on; beside = bs }, record t { happened = record t.happened { agent = a }; further = f }))
-  more_adds n event v t on bs f a r = record { events = r.events; sends = r.sends; ups = r.ups; forged = r.forged; done = r.done; first = r.first; flights = r.flights; made = r.made }
+  more_adds n event v t on bs f a r =
+      record { events = r.events; sends = r.sends; ups = r.ups; forged = r.forged; done = r.done; first = r.first; flights = r.flights; made = r.made }
 
-  more_told : (n : ℕ) (event : Event) (v : World) (t : Trace) (on : Bool) (bs : List Beside) (f : Further) (a : Option AgentLine) → Right ciphers w (entry n event (v, t))
+  more_told : (n : ℕ) (event : Event) (v : World) (t : Trace) (on : Bool) (bs : List Beside) (f : Further) (a : Option AgentLine)
+      → Right ciphers w (entry n event (v, t))
       → Right ciphers w (entry n event (record v { checks_on = on; beside = bs }, record t { happened = record t.happened { agent = a }; further = f }))
   more_told n event v t on bs f a r = record {
     adds = more_adds n event v t on bs f a r.adds;
@@ -289,9 +302,11 @@ module _ (ciphers : Ciphers) (w : World) where
     done : u.done ≡ v.done
 
   -- another plain word, and other flights
-  reworded : (n : ℕ) (event : Event) (v u : World) (t : Trace) (answer : Answer) (bup : Option BroadcastUp) (path : Option PathLine) (flights : ℕ) (made : List PairTag) (f : Further) → Right ciphers w (entry n event (v, t)) → Plain t.happened.answer → Plain answer
+  reworded : (n : ℕ) (event : Event) (v u : World) (t : Trace) (answer : Answer) (bup : Option BroadcastUp) (path : Option PathLine) (flights : ℕ)
+      (made : List PairTag) (f : Further) → Right ciphers w (entry n event (v, t)) → Plain t.happened.answer → Plain answer
       → AsCounted v u → length u.flights ≡ length w.flights + flights → u.made ≡ w.made ++ made
-      → Right ciphers w (entry n event (u, record t { happened = record t.happened { answer = answer; bup = bup; path = path; flights = flights }; made = made; further = f }))
+      → Right ciphers w (entry n event
+      (u, record t { happened = record t.happened { answer = answer; bup = bup; path = path; flights = flights }; made = made; further = f }))
   reworded n event v u t answer bup path flights made f r p q c flies made_is = record {
     adds = record {
       events = c.events ∙ r.adds.events;
@@ -321,41 +336,51 @@ module _ (ciphers : Ciphers) (w : World) where
 
   seeks_right : (n number to : ℕ) (x : Node) (target : Option ℕ) → Right ciphers w (entry n (events.Path number to) (asks_by ciphers w number x target))
   unfolding told
-  seeks_right n number to x None = still_right ciphers w n (events.Path number to) (ran w) said.NoAddress (refl, refl, refl, refl, refl) (unbrought ciphers w (events.Path number to) (λ b. b)) (ran_counted w) (omega arith) (sym (append-nil w.made))
+  seeks_right n number to x None = still_right ciphers w n (events.Path number to) (ran w) said.NoAddress (refl, refl, refl, refl, refl)
+      (unbrought ciphers w (events.Path number to) (λ b. b)) (ran_counted w) (omega arith) (sym (append-nil w.made))
   seeks_right n number to x (Some target) =
       let does = with_beside (beside_at w number) (λ y. ask_path in_memory y target) in
       let d = acts x (Err asks.Halted) does in
       let e = answering ask_word d in
       let none = untold AnyUnits x (Err asks.Halted) does (λ m here. ask_is AnyUnits (beside_at w number) target m (λ own hop at route. tt)) in
-      more_told n (events.Path number to) (acted ciphers w number e).0 (acted ciphers w number e).1 w.checks_on (asks_by ciphers w number x (Some target)).0.beside (asks_by ciphers w number x (Some target)).1.further None
+      more_told n (events.Path number to) (acted ciphers w number e).0 (acted ciphers w number e).1 w.checks_on
+      (asks_by ciphers w number x (Some target)).0.beside (asks_by ciphers w number x (Some target)).1.further None
       (acted_right ciphers w n (events.Path number to) number e (ask_plain d.answer) none.1 (unbrought ciphers w (events.Path number to) (λ b. b)))
 
   picks_right : (n number k : ℕ) (x : Node) (psk : Option Key) → Right ciphers w (entry n (events.Choose number k) (chooses_by ciphers w number x k psk))
   unfolding told
-  picks_right n number k x None = still_right ciphers w n (events.Choose number k) (ran w) said.NoBeacon (refl, refl, refl, refl, refl) (unbrought ciphers w (events.Choose number k) (λ b. b)) (ran_counted w) (omega arith) (sym (append-nil w.made))
+  picks_right n number k x None = still_right ciphers w n (events.Choose number k) (ran w) said.NoBeacon (refl, refl, refl, refl, refl)
+      (unbrought ciphers w (events.Choose number k) (λ b. b)) (ran_counted w) (omega arith) (sym (append-nil w.made))
   picks_right n number k x (Some psk) =
       let does = with_beside (beside_at w number) (λ y. choose_agent (identity ciphers x psk) y k w.clock) in
       let d = acts x (Err choices.Halted) does in
       let e = answering choice_word d in
       let none = acts_opened x (Err choices.Halted) does (λ m. choice_opened m (identity ciphers x psk) (beside_at w number) k w.clock) in
-      more_told n (events.Choose number k) (acted ciphers w number e).0 (acted ciphers w number e).1 w.checks_on (chooses_by ciphers w number x k (Some psk)).0.beside nothing_further (agent_line number d.answer)
+      more_told n (events.Choose number k) (acted ciphers w number e).0 (acted ciphers w number e).1 w.checks_on
+      (chooses_by ciphers w number x k (Some psk)).0.beside nothing_further (agent_line number d.answer)
       (acted_right ciphers w n (events.Choose number k) number e (choice_plain d.answer) none (unbrought ciphers w (events.Choose number k) (λ b. b)))
 
-  discovered_right : {A : Type 0} (n : ℕ) (event : Event) (number : ℕ) (word : A → Answer) (noticed : A → Option Noticed) (d : Discovering A) → Plain (word d.answer) → NoneCame ciphers w event → Right ciphers w (entry n event (has_discovered w number word noticed d))
+  discovered_right : {A : Type 0} (n : ℕ) (event : Event) (number : ℕ) (word : A → Answer) (noticed : A → Option Noticed) (d : Discovering A)
+      → Plain (word d.answer) → NoneCame ciphers w event → Right ciphers w (entry n event (has_discovered w number word noticed d))
   discovered_right n event number word noticed d plain came =
       let v : World = record (ran w) { flights = w.flights ++ discovery_flights number d.sent } in
       let h : Happenings = record (happened w (word d.answer)) { flights = length (discovery_flights number d.sent) } in
       more_told n event v (trace_of h) w.checks_on (has_discovered w number word noticed d).0.beside (has_discovered w number word noticed d).1.further None
-      (quiet_right ciphers w n event v h [] [] plain refl refl refl refl refl came (record { events = refl; sends = refl; ups = refl; forged = refl; done = refl }) refl (length-append w.flights (discovery_flights number d.sent)) (sym (append-nil w.made)))
+      (quiet_right ciphers w n event v h [] [] plain refl refl refl refl refl came
+      (record { events = refl; sends = refl; ups = refl; forged = refl; done = refl }) refl (length-append w.flights (discovery_flights number d.sent))
+      (sym (append-nil w.made)))
 
   looks_right : (n number : ℕ) (o : Option Memory) → Right ciphers w (entry n (events.Scan number) (scans_by w number o))
-  looks_right n number None = still_right ciphers w n (events.Scan number) (ran w) said.Halted (refl, refl, refl, refl, refl) (unbrought ciphers w (events.Scan number) (λ b. b)) (ran_counted w) (omega arith) (sym (append-nil w.made))
+  looks_right n number None = still_right ciphers w n (events.Scan number) (ran w) said.Halted (refl, refl, refl, refl, refl)
+      (unbrought ciphers w (events.Scan number) (λ b. b)) (ran_counted w) (omega arith) (sym (append-nil w.made))
   looks_right n number (Some m) =
       let d = begin_scan m (beside_at w number).scan in
       discovered_right n (events.Scan number) number scan_word (scanning number) d (scan_plain d.answer) (unbrought ciphers w (events.Scan number) (λ b. b))
 
-  finds_right : (n : ℕ) (event : Event) (number : ℕ) (x : Node) (octets : List ℕ) (link : ℕ) → NoneCame ciphers w event → (o : Option Memory) → Right ciphers w (entry n event (discovers_by w number x octets link o))
-  finds_right n event number x octets link came None = still_right ciphers w n event (ran w) said.Halted (refl, refl, refl, refl, refl) came (ran_counted w) (omega arith) (sym (append-nil w.made))
+  finds_right : (n : ℕ) (event : Event) (number : ℕ) (x : Node) (octets : List ℕ) (link : ℕ) → NoneCame ciphers w event → (o : Option Memory)
+      → Right ciphers w (entry n event (discovers_by w number x octets link o))
+  finds_right n event number x octets link came None = still_right ciphers w n event (ran w) said.Halted (refl, refl, refl, refl, refl) came (ran_counted w)
+      (omega arith) (sym (append-nil w.made))
   finds_right n event number x octets link came (Some m) =
       let d = hear_discovery x.role m.station (beside_at w number).scan octets link in
       discovered_right n event number discovery_word (beacon_taken number (discovery_in octets) link) d (discovery_plain d.answer) came
@@ -382,8 +407,10 @@ spread_or_not _ = inr refl
 
 -- # Octets that were accepted
 
-module _ (ciphers : Ciphers) (fits : KeepsRanges ciphers) (w : World) (ok : WorldOk w) (flown : All FlightFits w.flights) (logs : LogsKept w) (n : ℕ) (event : Event) (number : ℕ) (x : Node) (octets : List ℕ) (cost : ℕ) (got : Accepted)
-    (there : node_at w number ≡ Some x) (says : IsEvent event) (comes_so : Comes w event number octets) (low : cost ≤ 255) (is : (accepting ciphers x octets).answer ≡ Ok got) where
+module _ (ciphers : Ciphers) (fits : KeepsRanges ciphers) (w : World) (ok : WorldOk w) (flown : All FlightFits w.flights) (logs : LogsKept w) (n : ℕ)
+    (event : Event) (number : ℕ) (x : Node) (octets : List ℕ) (cost : ℕ) (got : Accepted)
+    (there : node_at w number ≡ Some x) (says : IsEvent event) (comes_so : Comes w event number octets) (low : cost ≤ 255)
+    (is : (accepting ciphers x octets).answer ≡ Ok got) where
   abbrev y : Node
   y = taker ciphers x octets
 
@@ -402,7 +429,8 @@ module _ (ciphers : Ciphers) (fits : KeepsRanges ciphers) (w : World) (ok : Worl
   unbelieved_right : Right ciphers w (entry n event (unbelieved ciphers w number y octets got))
   unbelieved_right =
       let f = forged_right ciphers w event number x octets got there comes_so is [] in
-      received_right ciphers w n event number octets (forged_by w octets got.path) (stays y (only said.Blacklisted)) comes_so (record { taken = refl; up = refl; took = refl; done = refl; keyed = refl })
+      received_right ciphers w n event number octets (forged_by w octets got.path) (stays y (only said.Blacklisted)) comes_so
+      (record { taken = refl; up = refl; took = refl; done = refl; keyed = refl })
       (λ e. f.0 (either_left _ _ e), λ h. or_nothing _ (f.1 h))
 
   commands_right : (c : NeighbourCommand) → command_of got ≡ Some c → Right ciphers w (entry n event (commanded ciphers number d.node c r))
@@ -411,13 +439,16 @@ module _ (ciphers : Ciphers) (fits : KeepsRanges ciphers) (w : World) (ok : Worl
       let halted : Result CommandHeard ReachDropped = Err (reach_drops.Known drops.Store) in
       let does = with_beside (beside_at r.0 number) (λ z. hear_command in_memory z c) in
       let a = acts d.node halted does in
-      let none = untold AnyUnits d.node halted does (λ m here. (known ciphers fits w ok flown logs).commands event number x octets got cost c m says comes_so there is e here) in
+      let none = untold AnyUnits d.node halted does
+      (λ m here. (known ciphers fits w ok flown logs).commands event number x octets got cost c m says comes_so there is e here) in
       let more : length (told ciphers r.0 number a).flights ≡ length r.0.flights + length a.frames = told_flights ciphers r.0 number a in
       let before : length r.0.flights ≡ length w.flights + r.1.happened.flights = plainly.adds.flights in
       let made : r.0.made ++ a.made ≡ w.made ++ r.1.made = ap (λ ts. r.0.made ++ ts) none.0 ∙ append-nil r.0.made ∙ plainly.adds.made in
       let t : Trace = (commanded ciphers number d.node c r).1 in
-      reworded ciphers w n event r.0 (commanded ciphers number d.node c r).0 r.1 (command_word a.answer) t.happened.bup t.happened.path (r.1.happened.flights + length a.frames) r.1.made t.further plainly
-      (command_silent_word ciphers y got cost (note_by w octets got.path) w.clock c e y.role) (command_plain a.answer) (record { events = refl; sends = refl; ups = refl; forged = refl; done = refl }) (omega arith) made
+      reworded ciphers w n event r.0 (commanded ciphers number d.node c r).0 r.1 (command_word a.answer) t.happened.bup t.happened.path
+      (r.1.happened.flights + length a.frames) r.1.made t.further plainly
+      (command_silent_word ciphers y got cost (note_by w octets got.path) w.clock c e y.role) (command_plain a.answer)
+      (record { events = refl; sends = refl; ups = refl; forged = refl; done = refl }) (omega arith) made
 
   checks_right : Right ciphers w (entry n event with_it)
   checks_right = more_told ciphers w n event r.0 r.1 r.0.checks_on with_it.0.beside with_it.1.further r.1.happened.agent plainly
@@ -448,9 +479,11 @@ module _ (ciphers : Ciphers) (fits : KeepsRanges ciphers) (w : World) (ok : Worl
           omega arith
 
       by_memory : (b : Bool) → Right ciphers w (entry n event (if b then adds_frames v with_it.1 a else sends_nothing w (v, with_it.1)))
-      by_memory true = reworded ciphers w n event r.0 v r.1 r.1.happened.answer r.1.happened.bup r.1.happened.path (r.1.happened.flights + length a.frames) r.1.made with_it.1.further plainly plain plain
+      by_memory true = reworded ciphers w n event r.0 v r.1 r.1.happened.answer r.1.happened.bup r.1.happened.path
+          (r.1.happened.flights + length a.frames) r.1.made with_it.1.further plainly plain plain
           (record { events = refl; sends = refl; ups = refl; forged = refl; done = refl }) flies made
-      by_memory false = reworded ciphers w n event r.0 (sends_nothing w (v, with_it.1)).0 r.1 said.Store r.1.happened.bup r.1.happened.path 0 [] nothing_further plainly plain (refl, refl, refl, refl, refl)
+      by_memory false = reworded ciphers w n event r.0 (sends_nothing w (v, with_it.1)).0 r.1 said.Store r.1.happened.bup r.1.happened.path 0
+          [] nothing_further plainly plain (refl, refl, refl, refl, refl)
           (record { events = refl; sends = refl; ups = refl; forged = refl; done = refl }) (omega arith) (sym (append-nil w.made))
 
   heard_right : (t : World × Trace) → IsHeard ciphers w number x octets got cost t → Right ciphers w (entry n event t)
@@ -491,8 +524,10 @@ module _ (ciphers : Ciphers) (fits : KeepsRanges ciphers) (w : World) (ok : Worl
       let v : World = told ciphers (ran w) number e in
       let h : Happenings = record (happened w (broadcast_word b.answer)) { flights = length b.frames } in
       record {
-        adds = more_adds ciphers w n event v (acted ciphers w number e).1 w.checks_on (broadcasts_by ciphers w number x datagram).0.beside (broadcasts_by ciphers w number x datagram).1.further None
-            (quiet_adds ciphers w n event v h b.made b.opened refl refl (told_counted ciphers w (ran w) number e (ran_counted w)) refl (told_flights ciphers (ran w) number e) (told_made ciphers (ran w) number e));
+        adds = more_adds ciphers w n event v (acted ciphers w number e).1 w.checks_on (broadcasts_by ciphers w number x datagram).0.beside
+            (broadcasts_by ciphers w number x datagram).1.further None
+            (quiet_adds ciphers w n event v h b.made b.opened refl refl (told_counted ciphers w (ran w) number e (ran_counted w)) refl
+            (told_flights ciphers (ran w) number e) (told_made ciphers (ran w) number e));
         traced = λ other. absurd (false_true (sym other));
         forged = unforged ciphers w event false b.opened refl none.1 (unbrought ciphers w event (λ q. q));
       }
@@ -500,15 +535,20 @@ module _ (ciphers : Ciphers) (fits : KeepsRanges ciphers) (w : World) (ok : Worl
   line_right : (n : ℕ) (event : Event) (s : Step) → IsFurtherStep ciphers w event s → GoodOn n event s
   line_right n event s (Old e t is) = old_right n e t (right ciphers w e t is n)
   line_right n event s (TurnsOn begun) =
-      as_right _ (still_right ciphers w n events.Checks (record (set_up w) { checks_on = true }) said.Set (refl, refl, refl, refl, refl) (unbrought ciphers w events.Checks (λ b. b)) (record { events = refl; sends = refl; ups = refl; forged = refl; done = refl }) (omega arith) (sym (append-nil w.made)))
+      as_right _ (still_right ciphers w n events.Checks (record (set_up w) { checks_on = true }) said.Set (refl, refl, refl, refl, refl)
+      (unbrought ciphers w events.Checks (λ b. b)) (record { events = refl; sends = refl; ups = refl; forged = refl; done = refl }) (omega arith)
+      (sym (append-nil w.made)))
   line_right n event s (Spreads number x datagram there) = spreads_right n number x datagram
   line_right n event s (Seeks number to x target there) = as_right _ (seeks_right ciphers w n number to x target)
   line_right n event s (Looks number x there) = as_right _ (looks_right ciphers w n number x.memory)
   line_right n event s (Picks number k x psk ne there e) = as_right _ (picks_right ciphers w n number k x psk)
   line_right n event s (Finds e number x octets link there says comes_so is) =
-      as_right _ (finds_right ciphers w n e number x octets link (λ own key a. found_none ciphers w e number x octets there comes_so is a.number a.node own a.got a.there a.comes a.is) x.memory)
-  line_right n event s (Takes e number x octets cost got t there says comes_so low is how) = as_right _ (heard_right ciphers fits w ok flown logs n e number x octets cost got there says comes_so low is t how)
-  line_right n event s (Puts e r bs quiet is) = as_right _ (more_told ciphers w n e r.0 r.1 r.0.checks_on bs r.1.further r.1.happened.agent (right ciphers w e (Ok r) is n))
+      as_right _ (finds_right ciphers w n e number x octets link
+      (λ own key a. found_none ciphers w e number x octets there comes_so is a.number a.node own a.got a.there a.comes a.is) x.memory)
+  line_right n event s (Takes e number x octets cost got t there says comes_so low is how) = as_right _
+      (heard_right ciphers fits w ok flown logs n e number x octets cost got there says comes_so low is t how)
+  line_right n event s (Puts e r bs quiet is) = as_right _
+      (more_told ciphers w n e r.0 r.1 r.0.checks_on bs r.1.further r.1.happened.agent (right ciphers w e (Ok r) is n))
 
   -- # What the history has
 
@@ -517,7 +557,8 @@ module _ (ciphers : Ciphers) (fits : KeepsRanges ciphers) (w : World) (ok : Worl
   TracedIn n event (Err fault) = Unit {0}
 
   -- of a broadcast
-  spreads_traced : (n number : ℕ) (x : Node) (datagram : List ℕ) → IsLineTraced w (entry n (events.Bcast number datagram) (broadcasts_by ciphers w number x datagram))
+  spreads_traced : (n number : ℕ) (x : Node) (datagram : List ℕ)
+      → IsLineTraced w (entry n (events.Bcast number datagram) (broadcasts_by ciphers w number x datagram))
   spreads_traced n number x datagram =
       let b = acts x (Err broadcasts.Halted) (with_beside (beside_at w number) (λ y. broadcast in_memory y datagram)) in
       let p = spread_word b.answer in
@@ -539,7 +580,9 @@ module _ (ciphers : Ciphers) (fits : KeepsRanges ciphers) (w : World) (ok : Worl
   unfolding bcast
   bcast_traced n number datagram = by_begun (has_begun w) (node_at w number)
     where
-      by_begun : (b : Bool) (o : Option Node) → TracedIn n (events.Bcast number datagram) (if b then option_map_or (λ x. Ok (broadcasts_by ciphers w number x datagram)) o (Err faults.Node) else Err faults.Setup)
+      by_begun : (b : Bool) (o : Option Node)
+          → TracedIn n (events.Bcast number datagram)
+          (if b then option_map_or (λ x. Ok (broadcasts_by ciphers w number x datagram)) o (Err faults.Node) else Err faults.Setup)
       by_begun false o = tt
       by_begun true None = tt
       by_begun true (Some x) = spreads_traced n number x datagram

@@ -1,6 +1,6 @@
 -- The new flights of a line with further reach have the address that their node has after the event that sent them.
-use Rattle.std.proofs.Common.{◌≡◌, ℕ, ◌+◌, ◌≤◌, ◌<◌, Bool, true, false, ⊎_elim, List, [], ◌∷◌, ◌++◌, length, map, drop, Option, Some, None, Result, Ok, Err, refl, sym, ap, ◌∙◌, subst, append-nil, arith}
-use Rattle.std.specs.Prelude.{All, IfSome, if◌then◌else◌, is_some, slice_get, slice_set}
+use Rattle.std.proofs.Common.{◌≡◌, ℕ, ◌+◌, ◌≤◌, true, ⊎_elim, List, [], ◌∷◌, ◌++◌, length, map, drop, Option, Some, None, Result, Ok, Err, refl, sym, ap, ◌∙◌, subst, append-nil}
+use Rattle.std.specs.Prelude.{All, IfSome, if◌then◌else◌, is_some}
 use Rattle.std.specs.Option.{option_and_then, option_map_or}
 use Rattle.std.proofs.Math.Seq.{drop-append_seam}
 use Rattle.std.proofs.lemmas.List.{append_assoc, map-append}
@@ -75,18 +75,24 @@ unfolding resting
 planned_address m p (Rests answer failed) = refl
 planned_address m p (Goes answer failed ps us logs says few left) = refl
 
-address_kept : {A : Type 0} (x : Node) (halted : A) (does : Memory → Plan Memory A) → ((m : Memory) → IsFurther AnyUnits m (does m)) → (n : Memory) → (acts x halted does).node.memory ≡ Some n → node_address (acts x halted does).node ≡ node_address x
+address_kept : {A : Type 0} (x : Node) (halted : A) (does : Memory → Plan Memory A) → ((m : Memory) → IsFurther AnyUnits m (does m)) → (n : Memory)
+    → (acts x halted does).node.memory ≡ Some n → node_address (acts x halted does).node ≡ node_address x
 unfolding acts
 address_kept {A = A} x halted does is n e = by_memory x.memory refl e
   where
-    by_outcome : (m : Memory) → x.memory ≡ Some m → (carry_out x.store.records x.store.cut (does m)).memory ≡ Some n → option_and_then (λ (k : Memory). address_of k.station) (carry_out x.store.records x.store.cut (does m)).memory ≡ node_address x
+    by_outcome : (m : Memory) → x.memory ≡ Some m → (carry_out x.store.records x.store.cut (does m)).memory ≡ Some n
+        → option_and_then (λ (k : Memory). address_of k.station) (carry_out x.store.records x.store.cut (does m)).memory ≡ node_address x
     by_outcome m there left = ⊎_elim
         (λ (w : IsWhole x.store.records x.store.cut (does m) (carry_out x.store.records x.store.cut (does m))).
-        ap (λ o. option_and_then (λ (k : Memory). address_of k.station) o) w.memory ∙ planned_address m (does m) (is m) ∙ sym (ap (λ o. option_and_then (λ (k : Memory). address_of k.station) o) there))
-        (λ (c : IsCutOff x.store.records x.store.cut (does m) (carry_out x.store.records x.store.cut (does m))). let gone = c.memory in absurd (cc (gone, left)))
+        ap (λ o. option_and_then (λ (k : Memory). address_of k.station) o) w.memory ∙ planned_address m (does m) (is m) ∙ sym
+        (ap (λ o. option_and_then (λ (k : Memory). address_of k.station) o) there))
+        (λ (c : IsCutOff x.store.records x.store.cut (does m) (carry_out x.store.records x.store.cut (does m))). let gone = c.memory in absurd
+        (cc (gone, left)))
         (clean x.store.records x.store.cut (does m))
 
-    by_memory : (o : Option Memory) → x.memory ≡ o → let d : NodeStep A = option_map_or (λ m. left_by x (carry_out x.store.records x.store.cut (does m))) o (stays x halted) in d.node.memory ≡ Some n → node_address d.node ≡ node_address x
+    by_memory : (o : Option Memory) → x.memory ≡ o
+        → let d : NodeStep A = option_map_or (λ m. left_by x (carry_out x.store.records x.store.cut (does m))) o (stays x halted) in d.node.memory ≡ Some n
+        → node_address d.node ≡ node_address x
     by_memory None there left = refl
     by_memory (Some m) there left = by_outcome m there left
 
@@ -102,7 +108,8 @@ module _ (ciphers : Ciphers) (fits : KeepsRanges ciphers) (w : World) (ok : Worl
   good_at : (number : ℕ) (x : Node) → node_at w number ≡ Some x → NodeOk x
   good_at number x there = at_place NodeOk w.nodes number x there ok.nodes
 
-  pub further_did : {A : Type 0} (x : Node) (halted : A) (does : Memory → Plan Memory A) → NodeOk x → ((m : Memory) → x.memory ≡ Some m → IsFurther AnyUnits m (does m)) → DidOk x (acts x halted does)
+  pub further_did : {A : Type 0} (x : Node) (halted : A) (does : Memory → Plan Memory A) → NodeOk x
+      → ((m : Memory) → x.memory ≡ Some m → IsFurther AnyUnits m (does m)) → DidOk x (acts x halted does)
   further_did x halted does good is = acts_ok x halted does good (λ m here kept sized. further_ok AnyUnits x.role m sized (does m) (is m here))
 
   pub known : Speaks AnyUnits AnyFrame ciphers w
@@ -110,16 +117,20 @@ module _ (ciphers : Ciphers) (fits : KeepsRanges ciphers) (w : World) (ok : Worl
   known = any_speaks AnyFrame ciphers w logs tt (λ number x m octets link frame there here e. tt)
 
   -- these frames fly, and the node of the number is this one
-  sent_now : (v : World) (number : ℕ) (y : Node) (fs : List Sent) → v.flights ≡ w.flights ++ map (λ frame. flight_by number (spelled ciphers frame)) fs → node_at v number ≡ Some y → NodeOk y → AreFrom (node_address y) fs → NewSenders w v
+  sent_now : (v : World) (number : ℕ) (y : Node) (fs : List Sent) → v.flights ≡ w.flights ++ map (λ frame. flight_by number (spelled ciphers frame)) fs
+      → node_at v number ≡ Some y → NodeOk y → AreFrom (node_address y) fs → NewSenders w v
   sent_now v number y fs flights here good from =
       subst (λ xs. All (HasSender v) (drop (length w.flights) xs)) (sym flights)
-      (subst (All (HasSender v)) (sym (drop-append_seam w.flights (map (λ frame. flight_by number (spelled ciphers frame)) fs))) (all_senders ciphers v number y here fs from (λ a e. address_low y a good e)))
+      (subst (All (HasSender v)) (sym (drop-append_seam w.flights (map (λ frame. flight_by number (spelled ciphers frame)) fs)))
+      (all_senders ciphers v number y here fs from (λ a e. address_low y a good e)))
 
-  discovered : (number : ℕ) (o : Option Discovery) (bs : List Beside) → NewSenders w (record (ran w) { flights = w.flights ++ discovery_flights number o; beside = bs })
+  discovered : (number : ℕ) (o : Option Discovery) (bs : List Beside)
+      → NewSenders w (record (ran w) { flights = w.flights ++ discovery_flights number o; beside = bs })
   discovered number None bs = none_new w (record (ran w) { flights = w.flights ++ []; beside = bs }) (ap length (append-nil w.flights))
   discovered number (Some frame) bs =
       let v : World = record (ran w) { flights = w.flights ++ discovery_flights number (Some frame); beside = bs } in
-      subst (All (HasSender v)) (sym (drop-append_seam w.flights (discovery_flight number frame ∷ []))) (All-cons (HasSender v) (discovery_flight number frame) [] (found_sender v number frame) (All-nil (HasSender v)))
+      subst (All (HasSender v)) (sym (drop-append_seam w.flights (discovery_flight number frame ∷ [])))
+      (All-cons (HasSender v) (discovery_flight number frame) [] (found_sender v number frame) (All-nil (HasSender v)))
 
   scans_senders : (number : ℕ) (o : Option Memory) → NewSenders w (scans_by w number o).0
   scans_senders number None = none_new w (ran w) refl
@@ -127,32 +138,38 @@ module _ (ciphers : Ciphers) (fits : KeepsRanges ciphers) (w : World) (ok : Worl
 
   finds_senders : (number : ℕ) (x : Node) (octets : List ℕ) (link : ℕ) (o : Option Memory) → NewSenders w (discovers_by w number x octets link o).0
   finds_senders number x octets link None = none_new w (ran w) refl
-  finds_senders number x octets link (Some m) = discovered number (hear_discovery x.role m.station (beside_at w number).scan octets link).sent (discovers_by w number x octets link (Some m)).0.beside
+  finds_senders number x octets link (Some m) = discovered number (hear_discovery x.role m.station (beside_at w number).scan octets link).sent
+      (discovers_by w number x octets link (Some m)).0.beside
 
   asks_senders : (number : ℕ) (x : Node) → node_at w number ≡ Some x → (target : Option ℕ) → NewSenders w (asks_by ciphers w number x target).0
   asks_senders number x there None = none_new w (ran w) refl
   asks_senders number x there (Some target) =
       let d = reaches x (beside_at w number) (Err asks.Halted) (λ z. ask_path in_memory z target) in
-      let did = further_did x (Err asks.Halted) (with_beside (beside_at w number) (λ z. ask_path in_memory z target)) (good_at number x there) (λ m here. ask_is AnyUnits (beside_at w number) target m (λ own hop e route. tt)) in
+      let did = further_did x (Err asks.Halted) (with_beside (beside_at w number) (λ z. ask_path in_memory z target)) (good_at number x there)
+      (λ m here. ask_is AnyUnits (beside_at w number) target m (λ own hop e route. tt)) in
       one_told ciphers fits w ok flown (ran w) (asks_by ciphers w number x (Some target)).0 number x d refl refl refl refl there (speaks x d did)
 
   spreads_senders : (number : ℕ) (x : Node) → node_at w number ≡ Some x → (datagram : List ℕ) → NewSenders w (broadcasts_by ciphers w number x datagram).0
   spreads_senders number x there datagram =
       let d = reaches x (beside_at w number) (Err broadcasts.Halted) (λ z. broadcast in_memory z datagram) in
-      let did = further_did x (Err broadcasts.Halted) (with_beside (beside_at w number) (λ z. broadcast in_memory z datagram)) (good_at number x there) (λ m here. broadcast_is AnyUnits (beside_at w number) datagram m (λ own e none. tt)) in
+      let did = further_did x (Err broadcasts.Halted) (with_beside (beside_at w number) (λ z. broadcast in_memory z datagram)) (good_at number x there)
+      (λ m here. broadcast_is AnyUnits (beside_at w number) datagram m (λ own e none. tt)) in
       one_told ciphers fits w ok flown (ran w) (broadcasts_by ciphers w number x datagram).0 number x d refl refl refl refl there (speaks x d did)
 
   picks_senders : (number k : ℕ) (x : Node) → node_at w number ≡ Some x → (psk : Option Key) → NewSenders w (chooses_by ciphers w number x k psk).0
   picks_senders number k x there None = none_new w (ran w) refl
   picks_senders number k x there (Some psk) =
-      let d : NodeStep (Result ChosenAgent ChooseRefusal) = reaches x (beside_at w number) (Err choices.Halted) (λ z. choose_agent (identity ciphers x psk) z k w.clock) in
-      let did : DidOk x d = acts_ok x (Err choices.Halted) (with_beside (beside_at w number) (λ z. choose_agent (identity ciphers x psk) z k w.clock)) (good_at number x there)
+      let d : NodeStep (Result ChosenAgent ChooseRefusal) = reaches x (beside_at w number) (Err choices.Halted)
+      (λ z. choose_agent (identity ciphers x psk) z k w.clock) in
+      let did : DidOk x d = acts_ok x (Err choices.Halted) (with_beside (beside_at w number) (λ z. choose_agent (identity ciphers x psk) z k w.clock))
+      (good_at number x there)
       (λ m here kept sized. choice_ok x.role m sized ciphers fits (identity ciphers x psk) refl (beside_at w number) k w.clock) in
       one_told ciphers fits w ok flown (ran w) (chooses_by ciphers w number x k (Some psk)).0 number x d refl refl refl refl there (speaks x d did)
 
   -- # Octets that were accepted
 
-  module _ (event : Event) (number : ℕ) (x : Node) (octets : List ℕ) (cost : ℕ) (got : Accepted) (there : node_at w number ≡ Some x) (says : IsEvent event) (comes_so : Comes w event number octets)
+  module _ (event : Event) (number : ℕ) (x : Node) (octets : List ℕ) (cost : ℕ) (got : Accepted) (there : node_at w number ≡ Some x) (says : IsEvent event)
+      (comes_so : Comes w event number octets)
       (is : (accepting ciphers x octets).answer ≡ Ok got) where
     abbrev y : Node
     y = taker ciphers x octets
@@ -168,8 +185,10 @@ module _ (ciphers : Ciphers) (fits : KeepsRanges ciphers) (w : World) (ok : Worl
         let are : AreOctets octets = came_octets ciphers fits w ok flown event number octets says comes_so in
         let plan : Memory → Plan Memory (Result Accepted FrameRefusal) = λ m. of_station m (accept m.station x.eui (arrived ciphers octets)) in
         let did = acts_ok x (Err frames.Halted) plan (good_at number x there) (λ m here kept sized. accept_ok ciphers fits octets are x.role m x.eui sized) in
-        let a = acts_answered x frames.Halted frames.Store plan (λ m. accept_failed ciphers fits octets are m.station _ (accept_is m.station x.eui (arrived ciphers octets))) got is in
-        let routes = accepted_routes ciphers fits octets are a.memory.station (ring_readable x a.memory (good_at number x there) a.there) _ got (accept_is a.memory.station x.eui (arrived ciphers octets)) a.is in
+        let a = acts_answered x frames.Halted frames.Store plan
+        (λ m. accept_failed ciphers fits octets are m.station _ (accept_is m.station x.eui (arrived ciphers octets))) got is in
+        let routes = accepted_routes ciphers fits octets are a.memory.station (ring_readable x a.memory (good_at number x there) a.there) _ got
+        (accept_is a.memory.station x.eui (arrived ciphers octets)) a.is in
         hears_ok ciphers fits w ok flown y got cost (note_by w octets got.path) w.clock did.node routes
 
     plainly : cost ≤ 255 → NewSenders w r.0
@@ -215,17 +234,20 @@ module _ (ciphers : Ciphers) (fits : KeepsRanges ciphers) (w : World) (ok : Worl
         did = ack_did d.node reply heard_did.node
 
         flights : v.flights ≡ w.flights ++ map (λ frame. flight_by number (spelled ciphers frame)) (d.frames ++ a.frames)
-        flights = append_assoc w.flights (flights_of ciphers number d) (flights_of ciphers number a) ∙ ap (λ fs. w.flights ++ fs) (sym (map-append (λ frame. flight_by number (spelled ciphers frame)) d.frames a.frames))
+        flights = append_assoc w.flights (flights_of ciphers number d) (flights_of ciphers number a) ∙ ap (λ fs. w.flights ++ fs)
+            (sym (map-append (λ frame. flight_by number (spelled ciphers frame)) d.frames a.frames))
 
         by_memory : (o : Option Memory) → a.node.memory ≡ o → NewSenders w (if is_some o then adds_frames v with_it.1 a else sends_nothing w (v, with_it.1)).0
         by_memory None e = none_new w (sends_nothing w (v, with_it.1)).0 refl
         by_memory (Some n) e =
             let same : node_address a.node ≡ node_address d.node = address_kept d.node (Err locals.Store) does (λ m. ack_is m reply) n e in
-            sent_now v number a.node (d.frames ++ a.frames) flights (slice_get-set with_it.0.nodes number a.node (place_within with_it.0.nodes number d.node now_there)) did.node
+            sent_now v number a.node (d.frames ++ a.frames) flights
+            (slice_get-set with_it.0.nodes number a.node (place_within with_it.0.nodes number d.node now_there)) did.node
             (from_append (node_address a.node) d.frames a.frames (subst (λ o. AreFrom o d.frames) (sym same) heard_did.from) did.from)
 
     heard_senders : (t : World × Trace) → cost ≤ 255 → IsHeard ciphers w number x octets got cost t → NewSenders w t.0
-    heard_senders t low IsUnbelieved = none_new w (unbelieved ciphers w number y octets got).0 (ap length (told_silent ciphers (ran w) number (stays y (only said.Blacklisted)) refl))
+    heard_senders t low IsUnbelieved = none_new w (unbelieved ciphers w number y octets got).0
+        (ap length (told_silent ciphers (ran w) number (stays y (only said.Blacklisted)) refl))
     heard_senders t low IsPlain = plainly low
     heard_senders t low (IsCommand c e) = commands_senders c e
     heard_senders t low IsChecked = plainly low
@@ -243,8 +265,10 @@ module _ (ciphers : Ciphers) (fits : KeepsRanges ciphers) (w : World) (ok : Worl
   line_senders event s (Looks number x there) = scans_senders number x.memory
   line_senders event s (Picks number k x psk ne there e) = picks_senders number k x there psk
   line_senders event s (Finds e number x octets link there says comes_so is) = finds_senders number x octets link x.memory
-  line_senders event s (Takes e number x octets cost got t there says comes_so low is how) = heard_senders e number x octets cost got there says comes_so is t low how
+  line_senders event s
+      (Takes e number x octets cost got t there says comes_so low is how) = heard_senders e number x octets cost got there says comes_so is t low how
   line_senders event s (Puts e r bs quiet is) = senders ciphers fits w ok flown e (Ok r) is
 
 pub line_senders_right : LineSendersAreRight
-line_senders_right ciphers fits w ok flown logs event says = line_senders ciphers fits w ok flown logs event (line_step ciphers w event) (further_step_is ciphers w logs event says)
+line_senders_right ciphers fits w ok flown logs event says = line_senders ciphers fits w ok flown logs event (line_step ciphers w event)
+    (further_step_is ciphers w logs event says)
