@@ -151,3 +151,4 @@ pub mod FurtherTags
 pub mod FurtherLive
 pub mod FurtherRight
 pub mod FurtherRestarts
+pub mod FurtherTold

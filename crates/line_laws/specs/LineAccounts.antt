@@ -1,6 +1,6 @@
 -- What holds of each event of a line with further reach, as of a line without it: for any ciphers that keep their ranges, in any world in which
 -- the line holds, what flies is octets, and the log of each node is what its store gives.
-use Rattle.std.specs.Prelude.{◌≡◌, ◌≢◌, ◌↔◌, ◌&&◌, not, ℕ, ◌<◌, Bool, true, false, All, IfSome, is_some, List, [], ◌++◌, length, drop, Some, None, Ok, Err}
+use Rattle.std.specs.Prelude.{◌≡◌, ◌≢◌, ◌↔◌, ◌&&◌, not, ℕ, ◌<◌, Bool, true, false, All, IfSome, is_some, List, [], ◌∷◌, ◌++◌, length, drop, Some, None, Ok, Err}
 use Rattle.std.specs.Option.{option_map}
 use Rattle.plc_base.specs.declared.address.Eui.{Eui}
 use Rattle.plc_base.specs.declared.key.Key.{Key}
@@ -8,7 +8,7 @@ use Rattle.mac_frames.specs.Reading.{head_in}
 use Rattle.mac_frames.specs.declared.head.MacHead.{MacHead}
 use Rattle.mac_frames.specs.declared.head.MacHead.TheVariants as heads
 use Rattle.group_keys.specs.KeyBook as books
-use Rattle.node_rules.specs.Ciphers.{Ciphers}
+use Rattle.node_rules.specs.Ciphers.{Ciphers, network}
 use Rattle.node_rules.specs.Memory.{Node, node_route}
 use Rattle.line_rules.specs.declared.event.Answer.TheVariants as said
 use Rattle.line_rules.specs.declared.event.Event.{Event}
@@ -28,7 +28,7 @@ use Rattle.line_laws.specs.FurtherLines.{IsReachRun}
 use Rattle.line_laws.specs.Keyed.{Keyed}
 use Rattle.line_rules.specs.SafeRuns.{IsAlwaysSized}
 use Rattle.line_laws.specs.Lines.{FlightFits, WorldOk}
-use Rattle.line_laws.specs.Live.{FlightsFall, admits, is_live, marks_of}
+use Rattle.line_laws.specs.Live.{FlightsFall, MarksRise, admits, is_live, marks_of}
 use Rattle.line_laws.specs.Owed.{KeepsRanges}
 use Rattle.line_laws.specs.Shut.{ShutAt}
 use Rattle.line_laws.specs.Stores.{IsBookKept}
@@ -176,3 +176,15 @@ LineRestartsAreRight =
 -- than 24 frames
 abbrev pub ReachRunsAreSized : Type 0
 ReachRunsAreSized = (entries : List Entry) → AreEvents (events_of entries) → IsReachRun start entries → IsAlwaysSized entries
+
+-- # Runs
+
+-- of each event the flights have their senders, the history is right, and no mark falls
+abbrev pub AreToldRight : World → List Entry → Type 0
+AreToldRight w [] = Unit {0}
+AreToldRight w (x ∷ xs) =
+    All (HasSender x.after) (drop (length w.flights) x.after.flights) × IsLineRight network w x × MarksRise w x.after × AreToldRight x.after xs
+
+-- so it is in every run of the network with further reach, forged or not, over restarts and failed writes
+abbrev pub EveryReachRunIsToldRight : Type 0
+EveryReachRunIsToldRight = (entries : List Entry) → AreEvents (events_of entries) → IsReachRun start entries → AreToldRight start entries

@@ -20,7 +20,7 @@ pub use laws::{
     the_last_flights_say_all, the_start_holds, unsent_holds,
 };
 pub use more_laws::{
-    line_books_grow, line_flights_fall, line_nodes_accept_once, line_restarts_are_right,
-    line_senders_are_right, line_steps_shut, line_tags_rise, line_traces_are_right,
-    reach_runs_are_sized,
+    every_reach_run_is_told_right, line_books_grow, line_flights_fall, line_nodes_accept_once,
+    line_restarts_are_right, line_senders_are_right, line_steps_shut, line_tags_rise,
+    line_traces_are_right, reach_runs_are_sized,
 };

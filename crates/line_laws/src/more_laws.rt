@@ -1,5 +1,5 @@
 //! Laws of each event of a line with further reach.
-ghost use Rattle.line_laws.specs.LineAccounts.{LineBooksGrow, LineFlightsFall, LineKicksShut, LineNodesAcceptOnce, LineRestartsAreRight, LineSendersAreRight, LineStepsShut, LineTagsRise, LineTracesRight, ReachRunsAreSized};
+ghost use Rattle.line_laws.specs.LineAccounts.{EveryReachRunIsToldRight, LineBooksGrow, LineFlightsFall, LineKicksShut, LineNodesAcceptOnce, LineRestartsAreRight, LineSendersAreRight, LineStepsShut, LineTagsRise, LineTracesRight, ReachRunsAreSized};
 
 /// The flights that an event of a line with further reach adds have in their sender field the address that their node has after it.
 #[tactic(auto)]
@@ -55,4 +55,11 @@ pub fn line_restarts_are_right()
 #[tactic(auto)]
 pub fn reach_runs_are_sized()
     ensures { ReachRunsAreSized }
+{}
+
+/// In every run of the network with further reach, forged or not, over restarts and failed writes: the flights of each event have the address
+/// of the node that sent them, the history has of it what the report says, it is told to be forged exactly where it is, and no mark falls.
+#[tactic(auto)]
+pub fn every_reach_run_is_told_right()
+    ensures { EveryReachRunIsToldRight }
 {}
