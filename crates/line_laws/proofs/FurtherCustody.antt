@@ -56,7 +56,7 @@ use Rattle.line_laws.proofs.CustodyKeeps.{PlanClean, acts_clean, join_clean}
 use Rattle.line_laws.proofs.CustodyRuns.{After as AfterOld, after_event}
 use Rattle.line_laws.proofs.CustodySteps.{HomedAt, falls_on, ran_at, told_at}
 use Rattle.line_laws.proofs.CustodyTrue.{SentIsOf}
-use Rattle.line_laws.proofs.FurtherGrowth.{moved_falls, moved_homed}
+use Rattle.line_laws.proofs.FurtherAddresses.{moved_falls, moved_homed}
 use Rattle.line_laws.proofs.FurtherKeyed.{moved_keyed, old_keyed}
 use Rattle.line_laws.proofs.FurtherRanges.{one_speaks}
 use Rattle.line_laws.proofs.FurtherSame.{OldStep, line_step_same}

@@ -1,128 +1,229 @@
--- What further moves leave of addresses: no address of the book is taken back, and no flight comes to life.
-use Rattle.std.proofs.Common.{⊎_elim, ◌≡◌, ◌≢◌, ℕ, ◌≤◌, ◌<◌, true, List, [], length, Some, None, refl, sym, ap, ◌∙◌, subst, arith}
-use Rattle.std.specs.Prelude.{slice_get}
+-- Further reach takes no address back and allows no meter: it leaves the book that the coordinator's records give.
+use Rattle.std.proofs.Common.{◌≡◌, ◌≢◌, ◌⊎◌, ⊎_elim, inl, inr, ℕ, ◌<◌, true, false, List, length, Option, Some, None, Ok, Err, refl, sym, ap, ◌∙◌, subst}
+use Rattle.std.specs.Prelude.{All, slice_get, slice_set}
+use Rattle.std.specs.Option.{option_map_or}
 use Rattle.std.proofs.lemmas.Bool.{cases_eq}
-use Rattle.std.proofs.lemmas.List.{length-set}
 use Rattle.std.proofs.lemmas.Option.{same_Some}
-use Rattle.plc_base.proofs.SlotTables.{slice_get-set_other}
+use Rattle.plc_base.proofs.SlotTables.{slice_get-set, slice_get-set_other}
+use Rattle.plc_base.specs.Keeper.{Records}
+use Rattle.plc_base.specs.declared.address.Eui.{Eui}
 use Rattle.group_keys.specs.KeyBook as books
 use Rattle.pan_discovery.specs.declared.message.Discovery.{Discovery}
+use Rattle.node_rules.specs.declared.refusal.FrameRefusal.TheVariants as frames
+use Rattle.node_rules.specs.Accepting.{accept}
 use Rattle.node_rules.specs.Ciphers.{Ciphers}
 use Rattle.node_rules.specs.Drafts.{Outgoing}
-use Rattle.node_rules.specs.Memory.{Node}
-use Rattle.node_rules.specs.NodeSteps.{NodeStep, acts}
-use Rattle.line_rules.specs.Steps.{told}
-use Rattle.line_rules.specs.Worlds.{World, Issued, node_at}
+use Rattle.node_rules.specs.Frames.{arrived}
+use Rattle.node_rules.specs.Memory.{Memory, Coordinator, Node}
+use Rattle.node_rules.specs.NodeSteps.{NodeStep, acts, left_by, of_station, stays}
+use Rattle.node_rules.specs.Plans.{Outcome, Plan, carry_out}
+use Rattle.reach_rules.specs.declared.refusal.ChooseRefusal.TheVariants as choices
+use Rattle.reach_rules.specs.Beacons.{choose_agent}
+use Rattle.line_rules.specs.Agreement.{is_allow_of}
+use Rattle.line_rules.specs.declared.event.Answer.TheVariants as said
+use Rattle.line_rules.specs.declared.event.Event.{Event}
+use Rattle.line_rules.specs.declared.event.Event.TheVariants as events
+use Rattle.line_rules.specs.Answers.{only}
+use Rattle.line_rules.specs.Events.{IsEvent}
+use Rattle.line_rules.specs.Forgery.{Comes, accepting}
+use Rattle.line_rules.specs.Further.{line_step, chooses_by, unbelieved, beside_at, reaches}
+use Rattle.line_rules.specs.Logs.{LogsKept}
+use Rattle.line_rules.specs.Steps.{Step, ran, told, identity}
+use Rattle.line_rules.specs.Worlds.{World, Trace, Issued, node_at}
+use Rattle.line_laws.specs.LineAccounts.{BooksIn, LineBooksGrow, LineStepsShut, ShutIn}
+use Rattle.line_laws.specs.Lines.{FlightFits, NodeOk, WorldOk}
 use Rattle.line_laws.specs.Keyed.{Keyed}
-use Rattle.line_laws.specs.Lines.{NodeOk, WorldOk}
-use Rattle.line_laws.specs.Live.{book_of, live}
 use Rattle.line_laws.specs.Owed.{KeepsRanges}
-use Rattle.line_laws.specs.Places.{LiveFalls}
-use Rattle.line_laws.specs.Ranked.{homes_of}
-use Rattle.line_laws.proofs.AddressBook.{Grows, one_book}
-use Rattle.line_laws.proofs.CustodyHomes.{homed_back}
-use Rattle.line_laws.proofs.CustodySteps.{HomedAt}
-use Rattle.line_laws.proofs.FurtherKeyed.{moved_keyed}
+use Rattle.line_laws.specs.Shut.{Shut, ShutAt}
+use Rattle.line_laws.specs.Stores.{IsBookKept, IsKept}
+use Rattle.line_laws.proofs.AddressBook.{Grown, Grows, one_book}
+use Rattle.line_laws.proofs.BookGrowth.{Goes, goes, self_goes}
+use Rattle.line_laws.proofs.FlightFolds.{came_octets}
+use Rattle.line_laws.proofs.FurtherForms.{AnyUnits}
 use Rattle.line_laws.proofs.FurtherSeals.{further_quietly}
-use Rattle.line_laws.proofs.FurtherTellings.{Besides, Carries, Flies, Moves, Stays, Turns, moved_follows, moved_ok}
-use Rattle.line_laws.proofs.Homed.{Addressed}
-use Rattle.line_laws.proofs.Homed as homed
-use Rattle.line_laws.proofs.Homes.{addressed_before, at_length, homes_grow}
-use Rattle.line_laws.proofs.IssueCalls.{quiet_coordinator}
-use Rattle.line_laws.proofs.IssueNodes.{CoordinatorDid, coordinator_acts}
-use Rattle.line_laws.proofs.IssueWorlds.{told_here}
-use Rattle.line_laws.proofs.LiveRuns.{none_falls, some_book}
-use Rattle.line_laws.proofs.MarkSteps.{Follows, same_follows}
-use Rattle.line_laws.proofs.Worlds.{at_place}
+use Rattle.line_laws.proofs.FurtherSenders.{AnyFrame, known}
+use Rattle.line_laws.proofs.FurtherTellings.{IsLineStep, Moves, line_follows, line_step_is, moved_ok}
+use Rattle.line_laws.proofs.FurtherTellings.{Known, Opens, Anew, After, Unsends, Unbelieves, Chooses, Stays, Carries, Flies, Besides, Turns}
+use Rattle.line_laws.proofs.Homes.{at_length}
+use Rattle.line_laws.proofs.IssueCalls.{accept_quietly}
+use Rattle.line_laws.proofs.Keeping.{Leads, Left, carried}
+use Rattle.line_laws.proofs.MarkSteps.{FollowsIn}
+use Rattle.line_laws.proofs.ShutSteps.{event_shut, other_shut}
+use Rattle.line_laws.proofs.ShutSteps.{ShutBy as ShutBefore}
+use Rattle.line_laws.proofs.StepsOk.{ran_ok}
+use Rattle.line_laws.proofs.Tellings.{IsStep}
+use Rattle.line_laws.proofs.Worlds.{at_place, within as place_within}
 
-told_length : {A : Type 0} (ciphers : Ciphers) (v : World) (number : ℕ) (d : NodeStep A) → length (told ciphers v number d).nodes ≡ length v.nodes
-unfolding told
-told_length ciphers v number d = length-set v.nodes number d.node
+-- # One node
 
-told_other : {A : Type 0} (ciphers : Ciphers) (v : World) (number other : ℕ) (d : NodeStep A) → other ≢ number
-    → node_at (told ciphers v number d) other ≡ node_at v other
-unfolding told
-told_other ciphers v number other d ne = slice_get-set_other v.nodes number other d.node ne
+-- the book that the records of a node give has this
+abbrev BookHas : (books.Book → Type 0) → Node → Type 0
+BookHas V y = (b : books.Book) → IsBookKept b y.store.records → V b
 
-module _ (U : List Outgoing → Type 0) (D : Discovery → Type 0) (ciphers : Ciphers) (fits : KeepsRanges ciphers) where
-  pub moved_length : (v u : World) → Moves U D ciphers v u → length u.nodes ≡ length v.nodes
-  moved_length v u (Stays z) = refl
-  moved_length v u (Carries z number x A halted does there is) = told_length ciphers v number (acts x halted does)
-  moved_length v u (Flies z number x frame there known) = refl
-  moved_length v u (Besides z on bs) = refl
-  moved_length v u (Turns z between y first rest) = moved_length between u rest ∙ moved_length v between first
+module _ (V : books.Book → Type 0) where
+  acts_has : {A : Type 0} (x : Node) (halted : A) (plan : Memory → Plan Memory A) → NodeOk x → x.role ≡ Coordinator → BookHas V x
+      → ((m : Memory) → x.memory ≡ Some m → Leads (Grown V) m (plan m).puts (plan m).memory) → BookHas V (acts x halted plan).node
+  unfolding acts
+  acts_has {A = A} x halted plan ok role has f = by_memory x.memory refl (subst (λ r. Left (IsKept r) x.store.records x.memory) role ok.kept)
+    where
+      by_left : (r : Records) (q : Option Memory) → Left (Grown V) r q → (b : books.Book) → IsBookKept b r → V b
+      by_left r None k b kept = subst V (one_book k.memory.book b r k.kept.kept.book kept) k.kept.grows
+      by_left r (Some n) k b kept = subst V (one_book n.book b r k.kept.book kept) k.grows
 
-  -- the book is one, where the coordinator has stored the same
-  same_book : (v u : World) (given more : List Issued) (k : Keyed v given) (l : Keyed u more) → 0 < length v.nodes → node_at u 0 ≡ node_at v 0
-      → Grows k.book l.book
-  same_book v u given more k l some same =
-      let c = at_length v.nodes 0 some in
-      let is : k.book ≡ l.book = one_book k.book l.book c.one.store.records (k.coordinator c.one c.is).book_kept (l.coordinator c.one (same ∙ c.is)).book_kept
-      in
-      subst (Grows k.book) is (λ eui a e. e)
+      by_memory : (q : Option Memory) → x.memory ≡ q → Left (IsKept Coordinator) x.store.records q
+          → BookHas V (option_map_or (λ m. left_by x (carry_out x.store.records x.store.cut (plan m))) q (stays x halted)).node
+      by_memory None e kept = has
+      by_memory (Some m) e kept =
+          let o : Outcome Memory A = carry_out x.store.records x.store.cut (plan m) in
+          by_left o.records o.memory (carried (Grown V) x.store.records x.store.cut (plan m) m (record { kept = kept; grows = has m.book kept.book }) (f m e))
 
-  -- no address of the book is taken back
-  pub moved_grows : (v u : World) → Moves U D ciphers v u → WorldOk v → v.running ≡ true → (given more : List Issued) (k : Keyed v given) (l : Keyed u more)
-      → 0 < length v.nodes → Grows k.book l.book
-  moved_grows v u (Stays z) ok runs given more k l some = same_book v v given more k l some refl
-  moved_grows v u (Carries z number x A halted does there is) ok runs given more k l some = ⊎_elim
+  -- # The coordinator of a line
+
+  abbrev FirstHas : World → Type 0
+  FirstHas v = (c : Node) → node_at v 0 ≡ Some c → BookHas V c
+
+  same_has : (u v : World) → v.nodes ≡ u.nodes → FirstHas u → FirstHas v
+  same_has u v e has c there = has c (sym (ap (λ ns. slice_get ns 0) e) ∙ there)
+
+  told_has : {A : Type 0} (u v : World) (number : ℕ) (x : Node) (d : NodeStep A) → FirstHas u → v.nodes ≡ slice_set u.nodes number d.node
+      → node_at u number ≡ Some x → (number ≡ 0 → BookHas V d.node) → FirstHas v
+  told_has u v number x d has nodes there book c is = ⊎_elim
       (λ (e : number ≡ 0).
-      let good = at_place NodeOk v.nodes number x there ok.nodes in
-      let c = k.coordinator x (ap (slice_get v.nodes) (sym e) ∙ there) in
-      let did : CoordinatorDid k.book given [] x (acts x halted does) = coordinator_acts k.book given x halted does [] good c (λ a. None) (λ m here said. refl)
-      (λ m here kept. quiet_coordinator k.book None m (does m) (further_quietly m (does m) (is m here)) (c.ring m.station.ring kept.station.ring.stored)
-      kept.station.range.ring) in
-      let stored = (l.coordinator (acts x halted does).node (ap (λ n. node_at (told ciphers v number (acts x halted does)) n) (sym e)
-      ∙ told_here ciphers v number x (acts x halted does) there)).book_kept in
-      subst (Grows k.book) (one_book did.book l.book (acts x halted does).node.store.records did.node.book_kept stored) did.grows)
-      (λ (ne : number ≢ 0). same_book v (told ciphers v number (acts x halted does)) given more k l some
-      (told_other ciphers v number 0 (acts x halted does) (λ e. ne (sym e))))
+      let same : d.node ≡ c = same_Some _ _
+      (sym (slice_get-set u.nodes number d.node (place_within u.nodes number x there)) ∙ sym (ap (λ ns. slice_get ns number) nodes) ∙ ap
+      (node_at v) e ∙ is) in
+      subst (BookHas V) same (book e))
+      (λ (ne : number ≢ 0). has c (sym (slice_get-set_other u.nodes number 0 d.node (λ e. ne (sym e))) ∙ sym (ap (λ ns. slice_get ns 0) nodes) ∙ is))
       (cases_eq number 0)
-  moved_grows v u (Flies z number x frame there known) ok runs given more k l some = same_book v _ given more k l some refl
-  moved_grows v u (Besides z on bs) ok runs given more k l some = same_book v _ given more k l some refl
-  moved_grows v u (Turns z between y first rest) ok runs given more k l some =
-      let m = moved_ok U D ciphers fits v between first ok runs in
-      let kb = moved_keyed U D ciphers fits v between first ok runs given k in
-      let one = moved_grows v between first ok runs given given k kb some in
-      let same = moved_length v between first in
-      let two = moved_grows between u rest m.0 m.1 given more kb l (omega arith) in
-      λ eui a e. two eui a (one eui a e)
 
-  module _ (v u : World) (moves : Moves U D ciphers v u) (ok : WorldOk v) (runs : v.running ≡ true) where
-    follows : Follows v u
-    follows = moved_follows U D ciphers fits v v u (same_follows v v refl) moves ok runs
+  module _ (ciphers : Ciphers) (fits : KeepsRanges ciphers) (U : List Outgoing → Type 0) (D : Discovery → Type 0) where
+    told_nodes : {A : Type 0} (u : World) (number : ℕ) (d : NodeStep A) → (told ciphers u number d).nodes ≡ slice_set u.nodes number d.node
+    unfolding told
+    told_nodes u number d = refl
 
-    -- each node was there before
-    pub moved_euis : (n : ℕ) (y : Node) → n < length v.nodes → node_at u n ≡ Some y → (x : Node) × (node_at v n ≡ Some x) × (x.eui ≡ y.eui)
-    moved_euis n y inside there =
-        let x = at_length v.nodes n inside in
-        let l = follows.at n x.one x.is in
-        (x.one, x.is, sym l.eui ∙ ap (λ (z : Node). z.eui) (same_Some _ _ (sym l.there ∙ there)))
+    first_acts : {A : Type 0} (u : World) → WorldOk u → FirstHas u → (number : ℕ) (x : Node) (halted : A) (plan : Memory → Plan Memory A)
+        → node_at u number ≡ Some x
+        → ((m : Memory) → x.memory ≡ Some m → Leads (Grown V) m (plan m).puts (plan m).memory) → number ≡ 0 → BookHas V (acts x halted plan).node
+    first_acts u ok has number x halted plan there f first =
+        let at : node_at u 0 ≡ Some x = ap (slice_get u.nodes) (sym first) ∙ there in
+        acts_has x halted plan (at_place NodeOk u.nodes number x there ok.nodes) (ok.first x at) (has x at) f
 
-    module _ (given more : List Issued) (k : Keyed v given) (l : Keyed u more) where
-      grows : 0 < length v.nodes → Grows k.book l.book
-      grows some = moved_grows v u moves ok runs given more k l some
+    moved_has : (v u : World) → Moves U D ciphers v u → WorldOk v → v.running ≡ true → FirstHas v → FirstHas u
+    moved_has v u (Stays z) ok runs has = has
+    moved_has v u (Carries z number x A halted does there is) ok runs has =
+        told_has v (told ciphers v number (acts x halted does)) number x (acts x halted does) has (told_nodes v number (acts x halted does)) there
+        (first_acts v ok has number x halted does there (λ m here. (further_quietly m (does m) (is m here)).leads V))
+    moved_has v u (Flies z number x frame there known) ok runs has = λ c at. has c at
+    moved_has v u (Besides z on bs) ok runs has = λ c at. has c at
+    moved_has v u (Turns z between y first rest) ok runs has =
+        let m = moved_ok U D ciphers fits v between first ok runs in
+        moved_has between u rest m.0 m.1 (moved_has v between first ok runs has)
 
-      longer : length v.nodes ≤ length u.nodes
-      longer = let same = moved_length v u moves in omega arith
+    abbrev HasIn : Step → Type 0
+    HasIn (Ok r) = FirstHas r.0
+    HasIn (Err fault) = Unit {0}
 
-      -- no flight comes to life
-      pub moved_falls : LiveFalls live v u None
-      moved_falls =
-          let oku = (moved_ok U D ciphers fits v u moves ok runs).0 in
-          let same = moved_length v u moves in
-          none_falls v u follows (λ some.
-          subst (λ (b : books.Book). Grows b (book_of u)) (sym (some_book v given ok k some)) (subst (Grows k.book) (sym (some_book u more oku l (omega arith)))
-          (grows some)))
+    -- an event of the line, where events without further reach keep it
+    module _ (w : World) (ok : WorldOk w) (flown : All FlightFits w.flights) (has : FirstHas w) where
+      ran_good : WorldOk (ran w)
+      ran_good = ran_ok ciphers fits w ok flown
 
-      -- the homes of the world after them fit the one before
-      pub moved_addressed : Addressed (homes_of l.book u) v
-      moved_addressed = addressed_before v u given more ok (moved_ok U D ciphers fits v u moves ok runs).0 k l longer grows (λ some. moved_euis)
+      abbrev Kept : Event → Type 1
+      Kept event = (r : World × Trace) → IsStep ciphers w event (Ok r) → FirstHas r.0
 
-      pub moved_homes : homed.Grows (homes_of k.book v) (homes_of l.book u)
-      moved_homes = homes_grow v u given more ok (moved_ok U D ciphers fits v u moves ok runs).0 k l longer grows (λ some. moved_euis)
+      known_has : (event : Event) → Kept event → (s : Step) → IsStep ciphers w event s → HasIn s
+      known_has event old (Ok r) is = old r is
+      known_has event old (Err fault) is = tt
 
-      pub moved_homed : (home : ℕ → ℕ) → HomedAt home u → HomedAt home v
-      moved_homed home h = homed_back ciphers fits home v u given more k l longer
-          (λ some c there b kept. subst (Grows k.book) (one_book l.book b c.store.records (l.coordinator c there).book_kept kept) (grows some))
-          (λ some. moved_euis) h
+      accepted_has : (event : Event) (number : ℕ) (x : Node) (octets : List ℕ) → node_at w number ≡ Some x → IsEvent event → Comes w event number octets
+          → number ≡ 0 → BookHas V (accepting ciphers x octets).node
+      accepted_has event number x octets there says comes first =
+          let are = came_octets ciphers fits w ok flown event number octets says comes in
+          first_acts w ok has number x (Err frames.Halted) (λ m. of_station m (accept m.station x.eui (arrived ciphers octets))) there
+          (λ m here. (accept_quietly ciphers fits octets are m x.eui).leads V) first
+
+      line_has : (event : Event) → Kept event → (s : Step) → IsLineStep U D ciphers w event s → HasIn s
+      line_has event old s (Known e t is) = known_has e old t is
+      line_has event old s (Opens begun) = λ c at. has c at
+      line_has event old s (Anew e v t moves silent) = moved_has (ran w) v moves ran_good refl (λ c at. has c at)
+      line_has event old s (After e r v t is good runs moves tells) = moved_has r.0 v moves good runs (old r is)
+      line_has event old s (Unsends e r v t is good runs moves tells) = let h = moved_has r.0 v moves good runs (old r is) in λ c at. h c at
+      line_has event old s (Unbelieves e number x octets got there says comes is) =
+          let d = stays (accepting ciphers x octets).node (only said.Blacklisted) in
+          told_has w (unbelieved ciphers w number (accepting ciphers x octets).node octets got).0 number x d has (told_nodes (ran w) number d) there
+          (accepted_has e number x octets there says comes)
+      line_has event old s (Chooses number k x psk ne there e) =
+          let d = reaches x (beside_at w number) (Err choices.Halted) (λ y. choose_agent (identity ciphers x psk) y k w.clock) in
+          told_has w (chooses_by ciphers w number x k (Some psk)).0 number x d has (told_nodes (ran w) number d) there (λ first. absurd (ne first))
+
+-- # Addresses stay
+
+module _ (ciphers : Ciphers) (fits : KeepsRanges ciphers) (w : World) (ok : WorldOk w) (flown : All FlightFits w.flights) (logs : LogsKept w) where
+  pub any_line : (event : Event) → IsEvent event → IsLineStep AnyUnits AnyFrame ciphers w event (line_step ciphers w event)
+  any_line event says = line_step_is AnyUnits AnyFrame ciphers fits w ok flown logs (known ciphers fits w ok flown logs) event says
+
+  module _ (given : List Issued) (k : Keyed w given) where
+    -- a later world
+    abbrev pub GoesIn : Step → Type 0
+    GoesIn (Ok r) = 0 < length w.nodes → Goes ciphers fits w ok flown given k r.0
+    GoesIn (Err fault) = Unit {0}
+
+    goes_by : (event : Event) (s : Step) → IsEvent event → IsLineStep AnyUnits AnyFrame ciphers w event s → FollowsIn ciphers fits w ok flown s → GoesIn s
+    goes_by event (Err fault) says is follow = tt
+    goes_by event (Ok r) says is follow = λ some. record {
+      grows = line_has (Grows k.book) ciphers fits AnyUnits AnyFrame w ok flown (self_goes ciphers fits w ok flown given k).grows event
+          (λ t step. (goes ciphers fits w ok flown given k event (Ok t) step some).grows) (Ok r) is;
+      euis = λ n y inside there.
+          let x = at_length w.nodes n inside in
+          let l = follow.at n x.one x.is in
+          (x.one, x.is, sym l.eui ∙ ap (λ (z : Node). z.eui) (same_Some _ _ (sym l.there ∙ there)));
+    }
+
+    pub line_goes : (event : Event) → IsEvent event → GoesIn (line_step ciphers w event)
+    line_goes event says = goes_by event (line_step ciphers w event) says (any_line event says)
+        (line_follows AnyUnits AnyFrame ciphers fits w ok flown event (line_step ciphers w event) (any_line event says))
+
+    books_in : (s : Step) → GoesIn s → BooksIn k.book w s
+    books_in (Ok r) h = λ some. let g = h some in record { grows = g.grows; euis = g.euis }
+    books_in (Err fault) h = tt
+
+pub line_books_grow : LineBooksGrow
+line_books_grow ciphers fits w ok flown logs given k event says = books_in ciphers fits w ok flown logs given k (line_step ciphers w event)
+    (line_goes ciphers fits w ok flown logs given k event says)
+
+-- # A meter stays shut out
+
+allow_or_not : (event : Event) → ((n : ℕ) × (event ≡ events.Allow n)) ⊎ ((n : ℕ) → event ≡ events.Allow n → ⊥)
+allow_or_not (events.Allow n) = inl (n, refl)
+allow_or_not _ = inr (λ n e. cc (e))
+
+module _ (eui : Eui) (ciphers : Ciphers) (fits : KeepsRanges ciphers) (w : World) (ok : WorldOk w) (flown : All FlightFits w.flights) (logs : LogsKept w)
+    (shut : ShutAt eui w)
+    (number : ℕ) (z : Node) (running : w.running ≡ true) (there : node_at w number ≡ Some z) (named : z.eui ≡ eui)
+    (apart : (i j : ℕ) (x y : Node) → node_at w i ≡ Some x → node_at w j ≡ Some y → books.eui_number x.eui ≡ books.eui_number y.eui → i ≡ j) where
+  shut_in : (s : Step) → HasIn (Shut eui) ciphers fits AnyUnits AnyFrame s → ShutIn eui s
+  shut_in (Ok r) h = h
+  shut_in (Err fault) h = tt
+
+  not_allowed : (event : Event) → IsEvent event → ((n : ℕ) → event ≡ events.Allow n → ⊥) → is_allow_of number event ≡ false
+      → ShutIn eui (line_step ciphers w event)
+  not_allowed event says other e = shut_in (line_step ciphers w event) (line_has (Shut eui) ciphers fits AnyUnits AnyFrame w ok flown shut event
+      (λ r is. other_shut eui ciphers fits w ok flown shut event r is number z other e running there named apart) (line_step ciphers w event)
+      (any_line ciphers fits w ok flown logs event says))
+
+  allows_other : (s : Step) → ShutBefore eui s → ShutIn eui s
+  allows_other (Ok r) h = h
+  allows_other (Err fault) h = tt
+
+  pub line_shut : (event : Event) → IsEvent event → is_allow_of number event ≡ false → ShutIn eui (line_step ciphers w event)
+  line_shut event says e = ⊎_elim
+      (λ (a : (n : ℕ) × (event ≡ events.Allow n)).
+      subst (λ (k : Event). ShutIn eui (line_step ciphers w k)) (sym a.1)
+      (allows_other _ (event_shut eui ciphers fits w ok flown shut (events.Allow a.0) number z (subst IsEvent a.1 says)
+      (subst (λ (k : Event). is_allow_of number k ≡ false) a.1 e) running there named apart)))
+      (λ (other : (n : ℕ) → event ≡ events.Allow n → ⊥). not_allowed event says other e)
+      (allow_or_not event)
+
+pub line_steps_shut : LineStepsShut
+line_steps_shut eui ciphers fits w ok flown logs shut event number z says e running there named apart =
+    line_shut eui ciphers fits w ok flown logs shut number z running there named apart event says e

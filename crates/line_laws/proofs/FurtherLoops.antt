@@ -38,7 +38,7 @@ use Rattle.line_laws.proofs.AgreeSteps.{acts_eui}
 use Rattle.line_laws.proofs.BookGrowth.{Goes, goes, quiet_grows, self_goes, told_goes}
 use Rattle.line_laws.proofs.FlightFolds.{came_octets}
 use Rattle.line_laws.proofs.FurtherForms.{AnyUnits}
-use Rattle.line_laws.proofs.FurtherGrowth.{moved_euis, moved_grows}
+use Rattle.line_laws.proofs.FurtherAddresses.{moved_euis, moved_grows}
 use Rattle.line_laws.proofs.FurtherKeyed.{moved_keyed, old_keyed}
 use Rattle.line_laws.proofs.FurtherRoutes.{AreHomesOf, line_holds}
 use Rattle.line_laws.proofs.FurtherSame.{AnyDiscovery, OldStep, line_step_any, old_on}

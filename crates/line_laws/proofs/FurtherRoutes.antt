@@ -42,7 +42,7 @@ use Rattle.line_laws.specs.Ranges.{NodeRanged, WorldRanged}
 use Rattle.line_laws.specs.Ranked.{At, FlightBacked, Homes, IsNearer, IsPlain, Own, RoutingHolds, homes_of}
 use Rattle.group_keys.specs.KeyBook as books
 use Rattle.line_laws.proofs.AddressBook.{one_book}
-use Rattle.line_laws.proofs.FurtherGrowth.{moved_addressed, moved_length}
+use Rattle.line_laws.proofs.FurtherAddresses.{moved_addressed, moved_length}
 use Rattle.line_laws.proofs.FurtherKeyed.{moved_keyed, old_keyed}
 use Rattle.line_laws.proofs.Homes.{addressed, at_length}
 use Rattle.line_laws.proofs.FurtherRanges.{choice_ranged, moved_ranged, one_speaks}

@@ -178,7 +178,7 @@ ack_few x reply = acts_little x (Err locals.Store) (λ m. acknowledges in_memory
 node_sized : (x : Node) (m : Memory) → NodeOk x → x.memory ≡ Some m → IsMemorySized m
 node_sized x m ok here = subst (λ o. IfSome o IsMemorySized) here ok.sized
 
-ack_did : (x : Node) (reply : Reply) → NodeOk x → DidOk x (acknowledging x reply)
+pub ack_did : (x : Node) (reply : Reply) → NodeOk x → DidOk x (acknowledging x reply)
 ack_did x reply ok = acts_ok x (Err locals.Store) (λ m. acknowledges in_memory reply.to reply.number reply.origin m) ok (λ m here kept sized. further_ok AnyUnits x.role m sized _ (ack_is m reply))
 
 -- a choice is a joining, or nothing
@@ -234,7 +234,7 @@ module _ (ciphers : Ciphers) (x : Node) (got : Accepted) (cost note now : ℕ) w
   hears_as Coordinator = answering coordinator_reception (acts x (Err drops.Store) (λ m. coordinator_rules.hear_coordinator (record { eui = x.eui; ciphers = ciphers }) m got cost note now))
   hears_as (Meter psk) = answering meter_reception (acts x (Err drops.Store) (λ m. meters.hear_meter (identity ciphers x psk) m got cost note now))
 
-  command_silent : (c : NeighbourCommand) → command_of got ≡ Some c → (r : Role) → (hears_as r).frames ≡ []
+  pub command_silent : (c : NeighbourCommand) → command_of got ≡ Some c → (r : Role) → (hears_as r).frames ≡ []
   command_silent c e Coordinator = acts_quiet x (Err drops.Store) (λ m. coordinator_rules.hear_coordinator (record { eui = x.eui; ciphers = ciphers }) m got cost note now)
       (λ m. let n = hears_nothing m.station got cost note now c e in subst (λ o. (coordinator_rules.heard_by (record { eui = x.eui; ciphers = ciphers }) m now (hear m.station got cost note now) o).frames ≡ []) (sym n.1) n.0)
   command_silent c e (Meter psk) = acts_quiet x (Err drops.Store) (λ m. meters.hear_meter (identity ciphers x psk) m got cost note now)

@@ -223,7 +223,7 @@ module _ (U : List Outgoing → Type 0) {A : Type 0} (x : Node) (halted : A) (do
   plan_untold m p (Rests answer failed) = (refl, refl)
   plan_untold m p (Goes answer failed ps us logs says few left) = (refl, refl)
 
-  untold : ((m : Memory) → x.memory ≡ Some m → IsFurther U m (does m)) → ((acts x halted does).made ≡ []) × ((acts x halted does).opened ≡ [])
+  pub untold : ((m : Memory) → x.memory ≡ Some m → IsFurther U m (does m)) → ((acts x halted does).made ≡ []) × ((acts x halted does).opened ≡ [])
   unfolding acts
   untold is = by_memory x.memory refl
     where

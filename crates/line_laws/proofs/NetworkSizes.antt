@@ -57,10 +57,10 @@ nodes_within : (xs : List Node) → All NodeOk xs → All NodeSpeaks xs → All 
 nodes_within [] ok s = All-nil NodeWithin
 nodes_within (x ∷ xs) ok s = All-cons NodeWithin x xs (node_within x (All-head NodeOk x xs ok) (All-head NodeSpeaks x xs s)) (nodes_within xs (All-tail NodeOk x xs ok) (All-tail NodeSpeaks x xs s))
 
-world_within : (w : World) → WorldOk w → WorldSpeaks w → IsSized w
+pub world_within : (w : World) → WorldOk w → WorldSpeaks w → IsSized w
 world_within w ok s = record { nodes = ok.count; memories = nodes_within w.nodes ok.nodes s.nodes }
 
-abbrev EntrySized : Entry → Type 0
+abbrev pub EntrySized : Entry → Type 0
 EntrySized x = IsSized x.after × (x.trace.happened.flights ≤ 24)
 
 pub every_size : EveryNetworkRunIsSized

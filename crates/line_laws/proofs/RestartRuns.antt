@@ -27,7 +27,7 @@ use Rattle.line_laws.proofs.RouteNodes.{restarted_none}
 use Rattle.line_laws.proofs.Running.{start_ok, taken_good}
 use Rattle.line_laws.proofs.Worlds.{at_place}
 
-no_routes : (x : Node) → NodeOk x → (dest : ℕ) → node_route (restarts x).node dest ≡ None
+pub no_routes : (x : Node) → NodeOk x → (dest : ℕ) → node_route (restarts x).node dest ≡ None
 no_routes x ok dest = by_route (node_route (restarts x).node dest) refl
   where
     by_route : (o : Option ℕ) → node_route (restarts x).node dest ≡ o → o ≡ None

@@ -91,7 +91,7 @@ every_run ciphers fits entries r fly = sized_from ciphers fits start start_ok (A
 
 -- # Restarts
 
-restart_answers : (x : Node) → NodeOk x → (restarts x).answer ≡ said.Restarted
+pub restart_answers : (x : Node) → NodeOk x → (restarts x).answer ≡ said.Restarted
 restart_answers x ok =
     let a = read_again x.role x.store.records x.memory ok.kept in
     ap restart_word a.is

@@ -24,3 +24,4 @@ pub mod Shut
 pub mod Later
 pub mod FurtherLines
 pub mod FurtherState
+pub mod LineAccounts

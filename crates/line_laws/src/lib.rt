@@ -3,6 +3,7 @@
 
 mod laws;
 mod state_laws;
+mod more_laws;
 
 pub use laws::{
     beside_keeps, calls_keep_the_line, commands_keep_the_line, commands_may_be_sealed,
@@ -22,4 +23,9 @@ pub use laws::{
 pub use state_laws::{
     every_reach_datagram_was_sent, every_reach_joining_agrees, every_reach_run_is_loop_free,
     every_reach_run_is_ranged, no_reach_flight_comes_to_life, only_issued_keys_in_reach,
+};
+pub use more_laws::{
+    every_reach_run_is_told_right, line_books_grow, line_flights_fall, line_nodes_accept_once,
+    line_restarts_are_right, line_senders_are_right, line_steps_shut, line_tags_rise,
+    line_traces_are_right, reach_runs_are_sized,
 };
