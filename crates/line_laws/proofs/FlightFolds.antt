@@ -160,7 +160,7 @@ module _ (ciphers : Ciphers) where
       subst (λ xs. All (HasSender v) (drop (length w.flights) xs)) (sym flights) (subst (All (HasSender v)) (sym (drop-append_seam w.flights (flights_of ciphers number d))) all)
 
   -- nothing was sent
-  told_silent : {A : Type 0} (u : World) (number : ℕ) (d : NodeStep A) → d.frames ≡ [] → (told ciphers u number d).flights ≡ u.flights
+  pub told_silent : {A : Type 0} (u : World) (number : ℕ) (d : NodeStep A) → d.frames ≡ [] → (told ciphers u number d).flights ≡ u.flights
   unfolding told
   told_silent u number d none = ap (λ fs. u.flights ++ map (λ frame. flight_by number (spelled ciphers frame)) fs) none ∙ append-nil u.flights
 

@@ -251,7 +251,7 @@ module _ (w : World) (ok : WorldOk w) (s : WorldSpeaks w) (logs : LogsKept w) wh
   choice_speaks : (number : ℕ) (x : Node) (psk : Key) → node_at w number ≡ Some x → psk_of x ≡ Some psk → (m : Memory) → x.memory ≡ Some m → MemorySpeaks m → (b : Beside) (k : ℕ) → PlanSpeaks (with_beside b (λ y. choose_agent (identity network x psk) y k w.clock) m)
   choice_speaks number x psk there pair m here h b k = chosen_speaks m b (identity network x psk) k w.clock h (λ agent. joins_speaks x.eui psk (at_place NodeFits w.nodes number x there ok.fits).eui (pair_of w ok s number x m psk there here pair) m h (ring_readable x m (at_place NodeOk w.nodes number x there ok.nodes) here) w.clock agent)
 
-  line_speaks : (event : Event) (st : Step) → IsLineStep Octets Spelled network w event st → SpeaksIn w ok s st
+  pub line_speaks : (event : Event) (st : Step) → IsLineStep Octets Spelled network w event st → SpeaksIn w ok s st
   line_speaks event st (Known e t is) = event_speaks w ok s event st is
   line_speaks event st (Opens begun) = record { nodes = s.nodes; flights = s.flights }
   line_speaks event st (Anew e v t moves silent) = moved_speaks (ran w) v moves (steps_ran_ok network network_ranges w ok s.flights) refl ran_octets
@@ -269,7 +269,7 @@ module _ (w : World) (ok : WorldOk w) (s : WorldSpeaks w) (logs : LogsKept w) wh
       record { nodes = t.nodes; flights = t.flights }
 
   -- what nodes seal is octets
-  octets_speak : Speaks Octets Spelled network w
+  pub octets_speak : Speaks Octets Spelled network w
   octets_speak = record {
     broadcasts = λ number x m datagram are there here. broadcast_is Octets (beside_at w number) datagram m (λ own e none. one_octets to_all 4 _ (omega arith) (broadcast_octets (own_broadcast own (beside_at w number).log datagram) (omega arith) are.2));
     asks = λ number x m target there here. ask_is Octets (beside_at w number) target m (λ own hop e route. one_octets hop 5 _ (omega arith) (path_octets (Ask target (own ∷ [])) (omega arith)));

@@ -144,3 +144,11 @@ pub mod FurtherSteps
 pub mod FurtherTellings
 pub mod FurtherLogs
 pub mod FurtherOctets
+pub mod ReachSteps
+pub mod ReachHistory
+pub mod ReachLogs
+pub mod OldUnits
+pub mod FlightsSay
+pub mod CommandsCome
+pub mod SendsSay
+pub mod WalkRuns

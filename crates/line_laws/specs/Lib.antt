@@ -23,3 +23,4 @@ pub mod Agreed
 pub mod Shut
 pub mod Later
 pub mod FurtherLines
+pub mod Reach

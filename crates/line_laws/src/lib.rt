@@ -2,6 +2,7 @@
 #![tactic(auto)]
 
 mod laws;
+mod reach_laws;
 
 pub use laws::{
     beside_keeps, calls_keep_the_line, commands_keep_the_line, commands_may_be_sealed,
@@ -18,3 +19,4 @@ pub use laws::{
     others_may_not, plain_keeps, plans_split, running_keeps, sealing_keeps, storing_keeps,
     the_last_flights_say_all, the_start_holds, unsent_holds,
 };
+pub use reach_laws::{every_history_is_kept, every_log_is_kept, every_walk_was_taken};
