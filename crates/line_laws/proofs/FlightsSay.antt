@@ -61,7 +61,8 @@ use Rattle.line_laws.proofs.Tellings.{IsStep, Fails, Makes, Rests, Shows, Acts, 
 module _ (P : ℕ → MeshUnit → Type 0) where
   -- What is said of the unit of a flight, and of the address that it goes to.
   pub record FlightSays (f : Flight) : Type 0 where
-    pub says : (key : Key) (a : Arrived) (payload : List ℕ) (u : MeshUnit) → f.key ≡ Some key → arrived network f.octets ≡ Some a → a.opened key ≡ Some payload → unit_in payload ≡ Some u → P (to_of a.head) u
+    pub says : (key : Key) (a : Arrived) (payload : List ℕ) (u : MeshUnit) → f.key ≡ Some key → arrived network f.octets ≡ Some a → a.opened key ≡ Some payload
+        → unit_in payload ≡ Some u → P (to_of a.head) u
 
   -- of a frame that is sent
   abbrev pub FrameSays : Sent → Type 0
@@ -77,7 +78,8 @@ module _ (P : ℕ → MeshUnit → Type 0) where
         let came : Arrived = arrived_with network (head_of l) (header (head_of l)) body in
         let same : came ≡ a = same_Some came a (sym (letter_arrives network network_opens_again l fits) ∙ is) in
         let keys : l.key ≡ key = same_Some l.key key k in
-        let payloads : spelling l.unit ≡ payload = same_Some (spelling l.unit) payload (sym (letter_opens network network_opens_again l fits) ∙ ap came.opened keys ∙ ap (λ (x : Arrived). x.opened key) same ∙ opened) in
+        let payloads : spelling l.unit ≡ payload = same_Some (spelling l.unit) payload
+        (sym (letter_opens network network_opens_again l fits) ∙ ap came.opened keys ∙ ap (λ (x : Arrived). x.opened key) same ∙ opened) in
         let units : l.unit ≡ u = same_Some l.unit u (sym (letter_unit network network_opens_again l fits) ∙ ap unit_in payloads ∙ read) in
         subst (λ (x : Arrived). P (to_of x.head) u) same (subst (P l.to) units p);
   }
@@ -99,14 +101,18 @@ module _ (P : ℕ → MeshUnit → Type 0) where
 
   frames_fly : (number : ℕ) (fs : List Sent) → All IsSent fs → All FrameSays fs → All FlightSays (map (λ frame. flight_by number (spelled network frame)) fs)
   frames_fly number [] fits all = All-nil FlightSays
-  frames_fly number (f ∷ fs) fits all = All-cons FlightSays (flight_by number (spelled network f)) _ (frame_flies number f (All-head IsSent f fs fits) (All-head FrameSays f fs all)) (frames_fly number fs (All-tail IsSent f fs fits) (All-tail FrameSays f fs all))
+  frames_fly number (f ∷ fs) fits all = All-cons FlightSays (flight_by number (spelled network f)) _
+      (frame_flies number f (All-head IsSent f fs fits) (All-head FrameSays f fs all))
+      (frames_fly number fs (All-tail IsSent f fs fits) (All-tail FrameSays f fs all))
 
   -- one node told what it did
-  pub told_says : {A : Type 0} (u : World) (number : ℕ) (d : NodeStep A) → All IsSent d.frames → All FrameSays d.frames → All FlightSays u.flights → All FlightSays (told network u number d).flights
+  pub told_says : {A : Type 0} (u : World) (number : ℕ) (d : NodeStep A) → All IsSent d.frames → All FrameSays d.frames → All FlightSays u.flights
+      → All FlightSays (told network u number d).flights
   unfolding told
   told_says u number d fits all before = All-append FlightSays u.flights (flights_of network number d) before (frames_fly number d.frames fits all)
 
-  pub told_silently : {A : Type 0} (u : World) (number : ℕ) (d : NodeStep A) → d.frames ≡ [] → All FlightSays u.flights → All FlightSays (told network u number d).flights
+  pub told_silently : {A : Type 0} (u : World) (number : ℕ) (d : NodeStep A) → d.frames ≡ [] → All FlightSays u.flights
+      → All FlightSays (told network u number d).flights
   told_silently u number d none before = subst (All FlightSays) (sym (told_silent network u number d none)) before
 
   -- # Without further reach
@@ -117,7 +123,8 @@ module _ (P : ℕ → MeshUnit → Type 0) where
     old_says (Up agent from message) h = tt
     old_says (Down from message) h = tt
 
-    pub told_as_before : {A : Type 0} (u : World) (number : ℕ) (d : NodeStep A) → All IsSent d.frames → All IsOldFrame d.frames → All FlightSays u.flights → All FlightSays (told network u number d).flights
+    pub told_as_before : {A : Type 0} (u : World) (number : ℕ) (d : NodeStep A) → All IsSent d.frames → All IsOldFrame d.frames → All FlightSays u.flights
+        → All FlightSays (told network u number d).flights
     told_as_before u number d fits all before = told_says u number d fits (All-weaker IsOldFrame FrameSays old_says d.frames all) before
 
     module _ (w : World) (ok : WorldOk w) (s : WorldSpeaks w) (r : WorldRanged w) where
@@ -126,17 +133,21 @@ module _ (P : ℕ → MeshUnit → Type 0) where
       SaysIn (Err fault) = Unit {0}
 
       -- what was heard of octets that were accepted
-      pub heard_says : (number : ℕ) (x : Node) (octets : List ℕ) (cost : ℕ) (got : Accepted) (event : Event) → node_at w number ≡ Some x → IsEvent event → Comes w event number octets → (accepting network x octets).answer ≡ Ok got → forged_by w octets got.path ≡ false
+      pub heard_says : (number : ℕ) (x : Node) (octets : List ℕ) (cost : ℕ) (got : Accepted) (event : Event) → node_at w number ≡ Some x → IsEvent event
+          → Comes w event number octets → (accepting network x octets).answer ≡ Ok got → forged_by w octets got.path ≡ false
           → All FlightSays w.flights → All FlightSays (heard network w number (accepting network x octets).node octets got cost).0.flights
       heard_says number x octets cost got event there says comes is honest before =
           let d = hears network (accepting network x octets).node got cost (note_by w octets got.path) w.clock in
-          told_as_before (ran w) number d (heard_did w ok s r number x octets cost got there (came_octets network network_ranges w ok s.flights event number octets says comes) is honest).frames
+          told_as_before (ran w) number d (heard_did w ok s r number x octets cost got there
+          (came_octets network network_ranges w ok s.flights event number octets says comes) is honest).frames
           (hears_old network w got cost (note_by w octets got.path) w.clock (accepting network x octets).node) before
 
-      sending_says : (from to : ℕ) (datagram : List ℕ) (x : Node) (d : NodeStep Answer) → All FlightSays (told network (ran w) from d).flights → All FlightSays (sending network w from to datagram (tag_of x) d).0.flights
+      sending_says : (from to : ℕ) (datagram : List ℕ) (x : Node) (d : NodeStep Answer) → All FlightSays (told network (ran w) from d).flights
+          → All FlightSays (sending network w from to datagram (tag_of x) d).0.flights
       sending_says from to datagram x d h = by_taken (is_taken d.answer) h
         where
-          by_taken : (b : Bool) → All FlightSays (told network (ran w) from d).flights → All FlightSays (sent_if w from to datagram (tag_of x) b (acted network w from d)).0.flights
+          by_taken : (b : Bool) → All FlightSays (told network (ran w) from d).flights
+              → All FlightSays (sent_if w from to datagram (tag_of x) b (acted network w from d)).0.flights
           by_taken true k = k
           by_taken false k = k
 
@@ -153,35 +164,49 @@ module _ (P : ℕ → MeshUnit → Type 0) where
       old_flights event st (Rests e quiet) = λ honest before. before
       old_flights event st (Shows number x) = λ honest before. before
       old_flights event st (Acts e number x A halts plan reads there call word asked) = λ honest before.
-          told_as_before (ran w) number (answering reads (acts x halts plan)) (call_ranged w ok s r number x A halts plan there call).frames (call_old network w number x A halts plan call) before
+          told_as_before (ran w) number (answering reads (acts x halts plan)) (call_ranged w ok s r number x A halts plan there call).frames
+          (call_old network w number x A halts plan call) before
       old_flights event st (BreaksLink number next x a there call) = λ honest before.
           let plan : Memory → Plan Memory Answer = λ m. changing said.Broken (with_station (calls.broke a m.station) m) in
-          told_as_before (ran w) number (acts x said.Halted plan) (call_ranged w ok s r number x Answer said.Halted plan there call).frames (call_old network w number x Answer said.Halted plan call) before
+          told_as_before (ran w) number (acts x said.Halted plan) (call_ranged w ok s r number x Answer said.Halted plan there call).frames
+          (call_old network w number x Answer said.Halted plan call) before
       old_flights event st (SendsFrom from to datagram x a there call asked) = λ honest before.
           let plan : Memory → Plan Memory (Result SentHow SendRefusal) = λ m. of_station m (calls.send m.station a datagram (w.sends + 1) w.clock) in
           sending_says from to datagram x (answering sent_word (acts x (Err sends.Halted) plan))
-          (told_as_before (ran w) from (answering sent_word (acts x (Err sends.Halted) plan)) (call_ranged w ok s r from x _ (Err sends.Halted) plan there call).frames (call_old network w from x _ (Err sends.Halted) plan call) before)
+          (told_as_before (ran w) from (answering sent_word (acts x (Err sends.Halted) plan))
+          (call_ranged w ok s r from x _ (Err sends.Halted) plan there call).frames (call_old network w from x _ (Err sends.Halted) plan call) before)
       old_flights event st (AllowsMeter number y c psk there call meter) = λ honest before.
           let plan : Memory → Plan Memory (Result ℕ CoordinatorRefusal) = λ m. coordinator_rules.allow m y.eui psk in
-          told_as_before (ran w) 0 (acts c (Err orders.Halted) plan) (call_ranged w ok s r 0 c _ (Err orders.Halted) plan there call).frames (call_old network w 0 c _ (Err orders.Halted) plan call) before
+          told_as_before (ran w) 0 (acts c (Err orders.Halted) plan) (call_ranged w ok s r 0 c _ (Err orders.Halted) plan there call).frames
+          (call_old network w 0 c _ (Err orders.Halted) plan call) before
       old_flights event st (Sets e quiet number x plan there open_is is) = λ honest before.
           let call = preset_call network w number x plan open_is is in
-          told_as_before (set_up w) number (acts x (Ok tt) (λ m. of_station m (plan m.station))) (call_ranged w ok s r number x _ (Ok tt) (λ m. of_station m (plan m.station)) there call).frames (call_old network w number x _ (Ok tt) (λ m. of_station m (plan m.station)) call) before
+          told_as_before (set_up w) number (acts x (Ok tt) (λ m. of_station m (plan m.station)))
+          (call_ranged w ok s r number x _ (Ok tt) (λ m. of_station m (plan m.station)) there call).frames
+          (call_old network w number x _ (Ok tt) (λ m. of_station m (plan m.station)) call) before
       old_flights event st (SetsTwo e quiet a b cost x y p q hx hy apart open_is first second fresh far) = λ honest before.
-          told_silently (told network (set_up w) a (offered_near x q cost w.clock)) b (offered_near y p cost w.clock) (near_frames y p) (told_silently (set_up w) a (offered_near x q cost w.clock) (near_frames x q) before)
+          told_silently (told network (set_up w) a (offered_near x q cost w.clock)) b (offered_near y p cost w.clock) (near_frames y p)
+          (told_silently (set_up w) a (offered_near x q cost w.clock) (near_frames x q) before)
         where
           near_frames : (z : Node) (to : ℕ) → (offered_near z to cost w.clock).frames ≡ []
           near_frames z to = acts_quiet z (Ok tt) (λ m. of_station m (calls.preset_near m.station to cost w.clock)) (λ m. near_quiet m.station to cost w.clock)
       old_flights event st (Provides number x c psk g d ne open_is hx hc pair same is) = λ honest before.
-          let quiet : d.frames ≡ [] = ap (λ (z : NodeStep (Result Granted CoordinatorRefusal)). z.frames) same ∙ acts_quiet c (Err orders.Halted) (λ m. coordinator_rules.depot m x.eui psk) (λ m. depot_quiet m x.eui psk) in
-          told_silently (told network (set_up w) 0 d) number (acts x (Ok tt) (λ m. meters.provision m g)) (acts_quiet x (Ok tt) (λ m. meters.provision m g) (λ m. install_quiet m.station g)) (told_silently (set_up w) 0 d quiet before)
+          let quiet : d.frames ≡ [] = ap (λ (z : NodeStep (Result Granted CoordinatorRefusal)). z.frames) same ∙ acts_quiet c (Err orders.Halted)
+          (λ m. coordinator_rules.depot m x.eui psk) (λ m. depot_quiet m x.eui psk) in
+          told_silently (told network (set_up w) 0 d) number (acts x (Ok tt) (λ m. meters.provision m g))
+          (acts_quiet x (Ok tt) (λ m. meters.provision m g) (λ m. install_quiet m.station g)) (told_silently (set_up w) 0 d quiet before)
       old_flights event st (TurnsDown e number x octets reason d there says comes same is) = λ honest before.
-          let quiet : d.frames ≡ [] = ap (λ (z : NodeStep (Result Accepted FrameRefusal)). z.frames) same ∙ acts_quiet x (Err frames.Halted) (λ m. of_station m (accept m.station x.eui (arrived network octets))) (λ m. accept_quiet m.station _ _ (accept_is m.station x.eui (arrived network octets))) in
+          let quiet : d.frames ≡ [] = ap (λ (z : NodeStep (Result Accepted FrameRefusal)). z.frames) same ∙ acts_quiet x (Err frames.Halted)
+          (λ m. of_station m (accept m.station x.eui (arrived network octets)))
+          (λ m. accept_quiet m.station _ _ (accept_is m.station x.eui (arrived network octets))) in
           told_silently (ran w) number d quiet before
-      old_flights event st (Hears e number x octets cost got there says comes low is) = λ honest before. heard_says number x octets cost got e there says comes is (or_parts _ _ honest).0 before
+      old_flights event st (Hears e number x octets cost got there says comes low is) = λ honest before. heard_says number x octets cost got e there says comes
+          is (or_parts _ _ honest).0 before
       old_flights event st (Loses number f there) = λ honest before.
-          All-set FlightSays w.flights (number - 1) (record f { lost = true }) (lost_says f (at_place FlightSays w.flights (number - 1) f (flight_there number f there) before)) before
+          All-set FlightSays w.flights (number - 1) (record f { lost = true })
+          (lost_says f (at_place FlightSays w.flights (number - 1) f (flight_there number f there) before)) before
       old_flights event st (Ticks seconds) = λ honest before. before
       old_flights event st (Restarts number x there) = λ honest before. told_silently (ran w) number (restarts x) refl before
       old_flights event st (Cuts number nth keeps_new x there) = λ honest before.
-          told_silently (ran w) number (stays (record x { store = record x.store { cut = Some (record { nth = nth; keeps_new = keeps_new }) } }) said.Set) refl before
+          told_silently (ran w) number (stays (record x { store = record x.store { cut = Some (record { nth = nth; keeps_new = keeps_new }) } }) said.Set) refl
+          before

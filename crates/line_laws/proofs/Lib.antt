@@ -152,3 +152,6 @@ pub mod FlightsSay
 pub mod CommandsCome
 pub mod SendsSay
 pub mod WalkRuns
+pub mod MarkedLogs
+pub mod MarkedWorlds
+pub mod BroadcastRuns

@@ -88,13 +88,15 @@ load_old own to hop note (Datagram octets tag) = by_size (nat_le (length octets)
     pieces [] = All-nil IsOldOut
     pieces (p ∷ ps) = All-cons IsOldOut _ _ (record { unit = tt }) (pieces ps)
 
-    by_size : (b : Bool) → All IsOldOut (all_go hop note (if b then units.Whole (own_mesh own to) octets ∷ [] else map (λ piece. units.Part (own_mesh own to) piece) (cut octets tag)))
+    by_size : (b : Bool) → All IsOldOut (all_go hop note (if b then units.Whole (own_mesh own to) octets ∷ [] else map
+        (λ piece. units.Part (own_mesh own to) piece) (cut octets tag)))
     by_size true = All-cons IsOldOut _ [] (record { unit = tt }) (All-nil IsOldOut)
     by_size false = pieces (cut octets tag)
 
 bodies_old : (own hop : ℕ) (bodies : List Body) → All IsOldOut (flat_map (λ b. all_go hop b.note (units_of own b.to b.load)) bodies)
 bodies_old own hop [] = All-nil IsOldOut
-bodies_old own hop (b ∷ bodies) = All-append IsOldOut (all_go hop b.note (units_of own b.to b.load)) _ (load_old own b.to hop b.note b.load) (bodies_old own hop bodies)
+bodies_old own hop (b ∷ bodies) = All-append IsOldOut (all_go hop b.note (units_of own b.to b.load)) _ (load_old own b.to hop b.note b.load)
+    (bodies_old own hop bodies)
 
 module _ (W : RingWord → Type 0) (g : Given) where
   made_old : (s d : Draft StationMemory) → Made W g s d → All IsOldOut s.units → All IsOldOut d.units
@@ -107,9 +109,11 @@ module _ (W : RingWord → Type 0) (g : Given) where
   made_old s d (Idles e made) us = made_old s e made us
   made_old s d (Loses lost by e made) us = made_old s e made us
   made_old s d (Goes to unit note e made said alone) us = All-push IsOldOut e.units _ (made_old s e made us) (record { unit = said_old to unit note said })
-  made_old s d (Sends own hop to note load e made here there short carried alone) us = All-append IsOldOut e.units _ (made_old s e made us) (load_old own to hop note load)
+  made_old s d (Sends own hop to note load e made here there short carried alone) us = All-append IsOldOut e.units _ (made_old s e made us)
+      (load_old own to hop note load)
   made_old s d (Waits to note load now e made none room short carried alone) us = made_old s e made us
-  made_old s d (Leaves own dest hop rank e made here o) us = All-append IsOldOut e.units _ (made_old s e made us) (bodies_old own hop (filter (waits_for dest) e.memory.waiting))
+  made_old s d (Leaves own dest hop rank e made here o) us = All-append IsOldOut e.units _ (made_old s e made us)
+      (bodies_old own hop (filter (waits_for dest) e.memory.waiting))
 
   -- the plain frames stay
   made_plain : (s d : Draft StationMemory) → Made W g s d → d.plain ≡ s.plain
@@ -135,21 +139,32 @@ module _ (W : RingWord → Type 0) (L : Granted → Type 0) (P : Eui → Key →
   made_in_old : (d : Draft Memory) → MadeIn W L P E g m d → IsOldDraft d
   unfolding empty_draft on_station with_memory_by with_pair_tags coordinators.with_book_entry goes_up goes_down
   made_in_old d Begins = record { units = All-nil IsOldOut; plain = All-nil IsOldFrame }
-  made_in_old d (Station e made) = record { units = made_old W g (empty_draft m.station) e made (All-nil IsOldOut); plain = rw (made_plain W g (empty_draft m.station) e made) (All-nil IsOldFrame) }
+  made_in_old d (Station e made) = record {
+    units = made_old W g (empty_draft m.station) e made (All-nil IsOldOut);
+    plain = rw
+        (made_plain W g (empty_draft m.station) e made) (All-nil IsOldFrame);
+  }
   made_in_old d (OnStation word e made step) =
       let r = made_in_old e made in
-      record { units = made_old W _ (station_part e) (word (station_part e)) step r.units; plain = rw (made_plain W _ (station_part e) (word (station_part e)) step) r.plain }
+      record {
+        units = made_old W _ (station_part e) (word (station_part e)) step r.units;
+        plain = rw
+            (made_plain W _ (station_part e) (word (station_part e)) step) r.plain;
+      }
   made_in_old d (Remembers change e made beside) = let r = made_in_old e made in record { units = r.units; plain = r.plain }
   made_in_old d (Tags made opened e x) = let r = made_in_old e x in record { units = r.units; plain = r.plain }
   made_in_old d (Enters x e made change) = let r = made_in_old e made in record { units = r.units; plain = r.plain }
-  made_in_old d (UpIn agent own message e made) = let r = made_in_old e made in record { units = r.units; plain = All-push IsOldFrame e.plain (Up agent own message) r.plain tt }
-  made_in_old d (DownIn own message e made) = let r = made_in_old e made in record { units = r.units; plain = All-push IsOldFrame e.plain (Down own message) r.plain tt }
+  made_in_old d (UpIn agent own message e made) = let r = made_in_old e made in record
+      { units = r.units; plain = All-push IsOldFrame e.plain (Up agent own message) r.plain tt }
+  made_in_old d (DownIn own message e made) = let r = made_in_old e made in record
+      { units = r.units; plain = All-push IsOldFrame e.plain (Down own message) r.plain tt }
 
 -- # Frames
 
 letters_old : (g : Granted) (key : Key) (first : ℕ) (us : List Outgoing) → All IsOldOut us → All IsOldFrame (letters g key first us)
 letters_old g key first [] all = All-nil IsOldFrame
-letters_old g key first (o ∷ rest) all = All-cons IsOldFrame _ _ (All-head IsOldOut o rest all).unit (letters_old g key (first + 1) rest (All-tail IsOldOut o rest all))
+letters_old g key first (o ∷ rest) all = All-cons IsOldFrame _ _ (All-head IsOldOut o rest all).unit
+    (letters_old g key (first + 1) rest (All-tail IsOldOut o rest all))
 
 sealed_old : (r : ring.Ring) (first : ℕ) (us : List Outgoing) → All IsOldOut us → All IsOldFrame (sealed_by r first us)
 sealed_old None first us all = All-nil IsOldFrame
@@ -160,7 +175,9 @@ sealed_old (Some g) first us all = by_key (sealing_key g)
     by_key (Some key) = letters_old g key first us all
 
 module _ (W : RingWord → Type 0) (L : Granted → Type 0) (P : Eui → Key → Type 0) (E : Eui → Type 0) (g : Given) (m : Memory) where
-  plan_old : {H F : Type 0} (ends : Ends F) (K : Memory → H → Type 0) (D : Draft Memory → H → Type 0) → ((d : Draft Memory) (answer : H) → D d answer → MadeIn W L P E g m d) → (p : Plan Memory (Result H F)) → Planned in_memory ends m K D p → All IsOldFrame p.frames
+  plan_old : {H F : Type 0} (ends : Ends F) (K : Memory → H → Type 0) (D : Draft Memory → H → Type 0)
+      → ((d : Draft Memory) (answer : H) → D d answer → MadeIn W L P E g m d) → (p : Plan Memory (Result H F)) → Planned in_memory ends m K D p
+      → All IsOldFrame p.frames
   unfolding resting
   plan_old ends K D made p (Refuses reason) = All-nil IsOldFrame
   plan_old ends K D made p (Keeps n answer k) = All-nil IsOldFrame
@@ -168,14 +185,16 @@ module _ (W : RingWord → Type 0) (L : Granted → Type 0) (P : Eui → Key →
       let r = made_in_old W L P E g m d (made d answer done) in
       All-append IsOldFrame d.plain _ r.plain (sealed_old d.memory.station.ring d.memory.station.counter.next d.units r.units)
 
-acts_old : {A : Type 0} (x : Node) (halted : A) (plan : Memory → Plan Memory A) → ((m : Memory) → All IsOldFrame (plan m).frames) → All IsOldFrame (acts x halted plan).frames
+acts_old : {A : Type 0} (x : Node) (halted : A) (plan : Memory → Plan Memory A) → ((m : Memory) → All IsOldFrame (plan m).frames)
+    → All IsOldFrame (acts x halted plan).frames
 unfolding acts
 acts_old {A} x halted plan f = by_memory x.memory
   where
     by_outcome : (m : Memory) → All IsOldFrame (carry_out x.store.records x.store.cut (plan m)).frames
     by_outcome m = ⊎_elim
         (λ (w : IsWhole x.store.records x.store.cut (plan m) (carry_out x.store.records x.store.cut (plan m))). subst (All IsOldFrame) (sym w.frames) (f m))
-        (λ (c : IsCutOff x.store.records x.store.cut (plan m) (carry_out x.store.records x.store.cut (plan m))). subst (All IsOldFrame) (sym c.frames) (All-nil IsOldFrame))
+        (λ (c : IsCutOff x.store.records x.store.cut (plan m) (carry_out x.store.records x.store.cut (plan m))). subst (All IsOldFrame) (sym c.frames)
+        (All-nil IsOldFrame))
         (clean x.store.records x.store.cut (plan m))
 
     by_memory : (o : Option Memory) → All IsOldFrame (option_map_or (λ m. left_by x (carry_out x.store.records x.store.cut (plan m))) o (stays x halted)).frames
@@ -198,29 +217,40 @@ AnyEui eui = Unit {0}
 
 send_old : (m : Memory) (to : ℕ) (datagram : List ℕ) (note now : ℕ) → All IsOldFrame (of_station m (calls.send m.station to datagram note now)).frames
 unfolding resting
-send_old m to datagram note now = plan_old AnyWord NoGrant NoPair NoEui (call_given 0 note now) m calls.sending_ends Nothing (λ d a. MadeIn AnyWord NoGrant NoPair NoEui (call_given 0 note now) m d × Few m.station d) (λ d a x. x.0) _ (over _ (send_is AnyWord (call_given 0 note now) m.station to datagram (λ some short. tt)))
+send_old m to datagram note now = plan_old AnyWord NoGrant NoPair NoEui (call_given 0 note now) m calls.sending_ends Nothing
+    (λ d a. MadeIn AnyWord NoGrant NoPair NoEui (call_given 0 note now) m d × Few m.station d) (λ d a x. x.0) _
+    (over _ (send_is AnyWord (call_given 0 note now) m.station to datagram (λ some short. tt)))
   where
-    over : {H F : Type 0} {ends : Ends F} (p : Plan StationMemory (Result H F)) → Planned alone ends m.station Nothing (λ d (a : H). Made AnyWord (call_given 0 note now) (empty_draft m.station) d × Few m.station d) p
+    over : {H F : Type 0} {ends : Ends F} (p : Plan StationMemory (Result H F))
+        → Planned alone ends m.station Nothing (λ d (a : H). Made AnyWord (call_given 0 note now) (empty_draft m.station) d × Few m.station d) p
         → Planned in_memory ends m Nothing (λ d (a : H). MadeIn AnyWord NoGrant NoPair NoEui (call_given 0 note now) m d × Few m.station d) (of_station m p)
     over p (Refuses reason) = Refuses reason
     over p (Keeps n answer k) = absurd k
     over p (Ended d answer done left) = Ended (whole m d) answer (Station d done.0, record { few = done.1.few }) left
 
 random_old : (m : Memory) (value : Rand) → All IsOldFrame (give_random m value).frames
-random_old m value = plan_old AnyWord NoGrant NoPair NoEui (call_given 0 0 0) m given_ends Nothing (MadeBy AnyWord NoGrant NoPair NoEui (call_given 0 0 0) m AnyAnswer) (λ d answer y. y.0) _ (random_is AnyWord NoGrant NoPair NoEui (call_given 0 0 0) m value)
+random_old m value = plan_old AnyWord NoGrant NoPair NoEui (call_given 0 0 0) m given_ends Nothing
+    (MadeBy AnyWord NoGrant NoPair NoEui (call_given 0 0 0) m AnyAnswer) (λ d answer y. y.0) _
+    (random_is AnyWord NoGrant NoPair NoEui (call_given 0 0 0) m value)
 
 join_old : (x : meters.Identity) (m : Memory) (agent now : ℕ) → All IsOldFrame (meters.join x m agent now).frames
-join_old x m agent now = plan_old _ NoGrant NoPair NoEui (call_given 0 0 now) m meters.joining_ends Nothing (MadeBy _ NoGrant NoPair NoEui (call_given 0 0 now) m AnyAnswer) (λ d answer y. y.0) _ (joins_is NoGrant NoPair NoEui (call_given 0 0 now) x m agent)
+join_old x m agent now = plan_old _ NoGrant NoPair NoEui (call_given 0 0 now) m meters.joining_ends Nothing
+    (MadeBy _ NoGrant NoPair NoEui (call_given 0 0 now) m AnyAnswer) (λ d answer y. y.0) _ (joins_is NoGrant NoPair NoEui (call_given 0 0 now) x m agent)
 
 leave_old : (x : meters.Identity) (m : Memory) → All IsOldFrame (meters.leave m).frames
-leave_old x m = plan_old _ NoGrant NoPair NoEui (call_given 0 0 0) m meters.leaving_ends Nothing (MadeBy _ NoGrant NoPair NoEui (call_given 0 0 0) m AnyAnswer) (λ d answer y. y.0) _ (leaves_is NoGrant NoPair NoEui (call_given 0 0 0) x m)
+leave_old x m = plan_old _ NoGrant NoPair NoEui (call_given 0 0 0) m meters.leaving_ends Nothing (MadeBy _ NoGrant NoPair NoEui (call_given 0 0 0) m AnyAnswer)
+    (λ d answer y. y.0) _ (leaves_is NoGrant NoPair NoEui (call_given 0 0 0) x m)
 
 module _ (own : coordinators.CoordinatorIdentity) (m : Memory) (now : ℕ) where
-  says_any : (to : ℕ) → IsReached (call_given 0 0 now) m to → (join : JoinMessage) → IsSaidDown AnyEui own m join → AnyWord (Carry to 0 (Command (command_of join)))
+  says_any : (to : ℕ) → IsReached (call_given 0 0 now) m to → (join : JoinMessage) → IsSaidDown AnyEui own m join
+      → AnyWord (Carry to 0 (Command (command_of join)))
   says_any to there join said = tt
 
-  order_old : {H : Type 0} (p : Plan Memory (Result H CoordinatorRefusal)) → Planned in_memory coordinators.orders m Nothing (MadeBy AnyWord (IsGranted m) AnyPair AnyEui (call_given 0 0 now) m AnyAnswer) p → All IsOldFrame p.frames
-  order_old p s = plan_old AnyWord (λ granted. IsGranted m granted) AnyPair AnyEui (call_given 0 0 now) m coordinators.orders Nothing (MadeBy AnyWord (IsGranted m) AnyPair AnyEui (call_given 0 0 now) m AnyAnswer) (λ d answer x. x.0) p s
+  order_old : {H : Type 0} (p : Plan Memory (Result H CoordinatorRefusal))
+      → Planned in_memory coordinators.orders m Nothing (MadeBy AnyWord (IsGranted m) AnyPair AnyEui (call_given 0 0 now) m AnyAnswer) p
+      → All IsOldFrame p.frames
+  order_old p s = plan_old AnyWord (λ granted. IsGranted m granted) AnyPair AnyEui (call_given 0 0 now) m coordinators.orders Nothing
+      (MadeBy AnyWord (IsGranted m) AnyPair AnyEui (call_given 0 0 now) m AnyAnswer) (λ d answer x. x.0) p s
 
   rekey_old : (index : ℕ) (key : Key) → All IsOldFrame (coordinators.rekey m index key).frames
   rekey_old index key = order_old _ (rekey_is AnyWord AnyPair AnyEui (call_given 0 0 now) own m says_any index key tt)
@@ -241,7 +271,8 @@ module _ (ciphers : Ciphers) (w : World) where
   abbrev own_of : Node → coordinators.CoordinatorIdentity
   own_of c = record { eui = c.eui; ciphers = ciphers }
 
-  pub call_old : (number : ℕ) (x : Node) (A : Type 0) (halted : A) (plan : Memory → Plan Memory A) → old.IsCall ciphers w number x A halted plan → All IsOldFrame (acts x halted plan).frames
+  pub call_old : (number : ℕ) (x : Node) (A : Type 0) (halted : A) (plan : Memory → Plan Memory A) → old.IsCall ciphers w number x A halted plan
+      → All IsOldFrame (acts x halted plan).frames
   unfolding resting
   call_old number x A halted plan (old.Gives value are) = acts_old x _ _ (λ m. random_old m value)
   call_old number x A halted plan (old.Joins psk a ne pair other) = acts_old x _ _ (λ m. join_old (identity ciphers x psk) m a w.clock)
@@ -251,7 +282,8 @@ module _ (ciphers : Ciphers) (w : World) where
   call_old number x A halted plan (old.Nears a cost open_is other low) = none_old _ (acts_quiet x _ _ (λ m. near_quiet m.station a cost w.clock))
   call_old number x A halted plan (old.Counts value open_is low) = none_old _ (acts_quiet x _ _ (λ m. counter_quiet m.station value))
   call_old number x A halted plan (old.Numbers value open_is some low) = none_old _ (acts_quiet x _ _ (λ m. number_quiet m.station value))
-  call_old number x A halted plan (old.Accepts octets event says comes) = none_old _ (acts_quiet x _ _ (λ m. accept_quiet m.station _ _ (accept_is m.station x.eui (arrived ciphers octets))))
+  call_old number x A halted plan (old.Accepts octets event says comes) = none_old _
+      (acts_quiet x _ _ (λ m. accept_quiet m.station _ _ (accept_is m.station x.eui (arrived ciphers octets))))
   call_old number x A halted plan (old.Provisions psk c g ne pair at is) = none_old _ (acts_quiet x _ _ (λ m. install_quiet m.station g))
   call_old number x A halted plan (old.Depots meter y psk first open_is at pair) = none_old _ (acts_quiet x _ _ (λ m. depot_quiet m y.eui psk))
   call_old number x A halted plan (old.Allows meter y psk first at pair) = none_old _ (acts_quiet x _ _ (λ m. allow_quiet m y.eui psk))
@@ -264,7 +296,8 @@ module _ (ciphers : Ciphers) (w : World) where
   -- what is heard
   module _ (got : Accepted) (cost note now : ℕ) where
     meter_old : (x : meters.Identity) (m : Memory) → All IsOldFrame (meters.hear_meter x m got cost note now).frames
-    meter_old x m = plan_old _ NoGrant NoPair NoEui (heard_given got cost note now) m dropped _ _ (λ d answer y. y.0) _ (meter_is NoGrant NoPair NoEui (heard_given got cost note now) x m got refl)
+    meter_old x m = plan_old _ NoGrant NoPair NoEui (heard_given got cost note now) m dropped _ _ (λ d answer y. y.0) _
+        (meter_is NoGrant NoPair NoEui (heard_given got cost note now) x m got refl)
 
     coordinator_old : (own : coordinators.CoordinatorIdentity) (m : Memory) → All IsOldFrame (coordinators.hear_coordinator own m got cost note now).frames
     coordinator_old own m = plan_old AnyWord (λ granted. IsGranted m granted) AnyPair AnyEui (heard_given got cost note now) m dropped _ _ (λ d answer x. x.0) _
@@ -278,8 +311,10 @@ module _ (ciphers : Ciphers) (w : World) where
         hears_as (Meter psk) = answering meter_reception (acts x (Err drops.Store) (λ m. meters.hear_meter (identity ciphers x psk) m got cost note now))
 
         by_role : (r : Role) → All IsOldFrame (hears_as r).frames
-        by_role Coordinator = acts_old x (Err drops.Store) (λ m. coordinators.hear_coordinator (own_of x) m got cost note now) (λ m. coordinator_old (own_of x) m)
-        by_role (Meter psk) = acts_old x (Err drops.Store) (λ m. meters.hear_meter (identity ciphers x psk) m got cost note now) (λ m. meter_old (identity ciphers x psk) m)
+        by_role Coordinator = acts_old x (Err drops.Store) (λ m. coordinators.hear_coordinator (own_of x) m got cost note now)
+            (λ m. coordinator_old (own_of x) m)
+        by_role (Meter psk) = acts_old x (Err drops.Store) (λ m. meters.hear_meter (identity ciphers x psk) m got cost note now)
+            (λ m. meter_old (identity ciphers x psk) m)
 
 -- a meter that joins by an agent
 pub joins_old : (x : meters.Identity) (m : Memory) (agent now : ℕ) → All IsOldFrame (meters.join x m agent now).frames

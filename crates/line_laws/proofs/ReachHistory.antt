@@ -91,14 +91,18 @@ use Rattle.line_laws.proofs.Tellings as old
 
 -- what a node holds after this event, if it held what a history says before
 pub record LeadsAt (number : ℕ) (w : World) (x : Entry) : Type 0 where
-  pub checks : (past : checking.History) → (beside_at w number).checks ≡ checking.after_history past → (beside_at x.after number).checks ≡ checking.after_history (check_step number x past)
-  pub scan : (past : scanning.History) → (beside_at w number).scan ≡ scanning.after_history past → (beside_at x.after number).scan ≡ scanning.after_history (scan_step number x past)
+  pub checks : (past : checking.History) → (beside_at w number).checks ≡ checking.after_history past
+      → (beside_at x.after number).checks ≡ checking.after_history (check_step number x past)
+  pub scan : (past : scanning.History) → (beside_at w number).scan ≡ scanning.after_history past
+      → (beside_at x.after number).scan ≡ scanning.after_history (scan_step number x past)
 
-check_more : (number : ℕ) (past : checking.History) (before : List Entry) (x : Entry) → check_history number past (before ++ x ∷ []) ≡ check_step number x (check_history number past before)
+check_more : (number : ℕ) (past : checking.History) (before : List Entry) (x : Entry)
+    → check_history number past (before ++ x ∷ []) ≡ check_step number x (check_history number past before)
 check_more number past [] x = refl
 check_more number past (y ∷ before) x = check_more number (check_step number y past) before x
 
-scan_more : (number : ℕ) (past : scanning.History) (before : List Entry) (x : Entry) → scan_history number past (before ++ x ∷ []) ≡ scan_step number x (scan_history number past before)
+scan_more : (number : ℕ) (past : scanning.History) (before : List Entry) (x : Entry)
+    → scan_history number past (before ++ x ∷ []) ≡ scan_step number x (scan_history number past before)
 scan_more number past [] x = refl
 scan_more number past (y ∷ before) x = scan_more number (scan_step number y past) before x
 
@@ -184,16 +188,20 @@ same_notes number now b c checks scan = record { checks = λ past e. checks ∙ 
 self_is : (n : ℕ) → (n == n) ≡ true
 self_is n = eq-eqb n n refl
 
-reply_notes : (number now : ℕ) (b : Beside) (r : Reply) → Notes number now b (record b { checks = checks_after b.checks (Some r) now }) (Some (Replied number r.to r.number r.origin))
+reply_notes : (number now : ℕ) (b : Beside) (r : Reply) → Notes number now b (record b { checks = checks_after b.checks (Some r) now })
+    (Some (Replied number r.to r.number r.origin))
 reply_notes number now b r = record {
-  checks = λ past e. rw (self_is number) (ap (λ s. checks_after s (Some r) now) e ∙ sym (check_lemmas.one_more_entry past (checking.Reply r.to r.number r.origin now)));
+  checks = λ past e. rw (self_is number) (ap (λ s. checks_after s (Some r) now) e ∙ sym
+      (check_lemmas.one_more_entry past (checking.Reply r.to r.number r.origin now)));
   scan = λ past e. e;
   is = refl;
 }
 
-ack_notes : (number now : ℕ) (b : Beside) (from count origin : ℕ) → Notes number now b (record b { checks = acked_after b.checks from count origin }) (Some (Acknowledged number from count origin))
+ack_notes : (number now : ℕ) (b : Beside) (from count origin : ℕ) → Notes number now b (record b { checks = acked_after b.checks from count origin })
+    (Some (Acknowledged number from count origin))
 ack_notes number now b from count origin = record {
-  checks = λ past e. rw (self_is number) (ap (λ s. acked_after s from count origin) e ∙ sym (check_lemmas.one_more_entry past (checking.Acknowledgement from count origin)));
+  checks = λ past e. rw (self_is number) (ap (λ s. acked_after s from count origin) e ∙ sym
+      (check_lemmas.one_more_entry past (checking.Acknowledgement from count origin)));
   scan = λ past e. e;
   is = refl;
 }
@@ -205,7 +213,8 @@ begin_notes number now b = record {
   is = refl;
 }
 
-beacon_notes : (number now : ℕ) (b : Beside) (from cost link : ℕ) → Notes number now b (record b { scan = taken_after b.scan from cost link }) (Some (HeardOf number from cost link))
+beacon_notes : (number now : ℕ) (b : Beside) (from cost link : ℕ) → Notes number now b (record b { scan = taken_after b.scan from cost link })
+    (Some (HeardOf number from cost link))
 beacon_notes number now b from cost link = record {
   checks = λ past e. e;
   scan = λ past e. rw (self_is number) (ap (λ s. taken_after s from cost link) e ∙ sym (scan_lemmas.one_more_entry past (scanning.Beacon from cost link)));
@@ -228,13 +237,16 @@ module _ (w : World) (x : Entry) (other : IsOther x.event) where
   }
 
   -- one node noticed something
-  at_one : (number : ℕ) (c : Beside) → number < length w.beside → x.after.beside ≡ slice_set w.beside number c → Notes number x.after.clock (beside_at w number) c x.trace.further.noticed → (n : ℕ) → LeadsAt n w x
+  at_one : (number : ℕ) (c : Beside) → number < length w.beside → x.after.beside ≡ slice_set w.beside number c
+      → Notes number x.after.clock (beside_at w number) c x.trace.further.noticed → (n : ℕ) → LeadsAt n w x
   at_one number c within is notes n = by_number (n == number) refl
     where
       own : n ≡ number → LeadsAt n w x
       own e = subst (λ k. LeadsAt k w x) (sym e) (record {
-        checks = λ past held. rw (other.1 number, other.0) (ap (λ bs. (aside bs number).checks) is ∙ ap (λ (b : Beside). b.checks) (aside_set w.beside number c within) ∙ notes.checks past held);
-        scan = λ past held. rw (other.1 number) (ap (λ bs. (aside bs number).scan) is ∙ ap (λ (b : Beside). b.scan) (aside_set w.beside number c within) ∙ notes.scan past held);
+        checks = λ past held. rw (other.1 number, other.0) (ap (λ bs. (aside bs number).checks) is ∙ ap (λ (b : Beside). b.checks)
+            (aside_set w.beside number c within) ∙ notes.checks past held);
+        scan = λ past held. rw (other.1 number) (ap (λ bs. (aside bs number).scan) is ∙ ap (λ (b : Beside). b.scan) (aside_set w.beside number c within) ∙
+            notes.scan past held);
       })
 
       others : n ≢ number → LeadsAt n w x
@@ -276,16 +288,19 @@ plan_notes {A} number now x b halted plan noted down up = by_memory x.memory ref
         p : Plan (Reaching Memory) A
         p = plan (record { memory = m; beside = b })
 
-        by_whole : (o : Written) → let out : Outcome Memory A = outcome_of o (with_beside b plan m) in Notes number now b (if is_some out.memory then p.memory.beside else without_log b) (noted out.answer)
+        by_whole : (o : Written) → let out : Outcome Memory A = outcome_of o (with_beside b plan m) in Notes number now b
+            (if is_some out.memory then p.memory.beside else without_log b) (noted out.answer)
         by_whole o = by_done o.whole
           where
-            by_done : (t : Bool) → let out : Outcome Memory A = (if t then finished o (with_beside b plan m) else cut_off o (with_beside b plan m)) in Notes number now b (if is_some out.memory then p.memory.beside else without_log b) (noted out.answer)
+            by_done : (t : Bool) → let out : Outcome Memory A = (if t then finished o (with_beside b plan m) else cut_off o (with_beside b plan m)) in Notes
+                number now b (if is_some out.memory then p.memory.beside else without_log b) (noted out.answer)
             by_done true = (up m e).whole
             by_done false = (up m e).cut
 
 module _ (number now : ℕ) (b : Beside) where
   -- a plan that leaves checks and scan, and of whose answer nothing is noticed
-  quiet_notes : {A : Type 0} (noted : A → Option Noticed) (p : Plan (Reaching Memory) A) → p.memory.beside.checks ≡ b.checks → p.memory.beside.scan ≡ b.scan → noted p.answer ≡ None → noted p.failed ≡ None → PlanNotes number now b noted p
+  quiet_notes : {A : Type 0} (noted : A → Option Noticed) (p : Plan (Reaching Memory) A) → p.memory.beside.checks ≡ b.checks → p.memory.beside.scan ≡ b.scan
+      → noted p.answer ≡ None → noted p.failed ≡ None → PlanNotes number now b noted p
   quiet_notes noted p checks scan answer failed = record {
     whole = subst (Notes number now b p.memory.beside) (sym answer) (same_notes number now b p.memory.beside checks scan);
     cut = subst (Notes number now b (without_log b)) (sym failed) (same_notes number now b (without_log b) refl refl);
@@ -295,11 +310,13 @@ module _ (number now : ℕ) (b : Beside) where
     abbrev y : Reaching Memory
     y = record { memory = m; beside = b }
 
-    refused_notes : {H E : Type 0} (noted : Result H E → Option Noticed) (ends : Ends E) (reason : E) → ((e : E) → noted (Err e) ≡ None) → PlanNotes number now b noted (refused ends y reason)
+    refused_notes : {H E : Type 0} (noted : Result H E → Option Noticed) (ends : Ends E) (reason : E) → ((e : E) → noted (Err e) ≡ None)
+        → PlanNotes number now b noted (refused ends y reason)
     unfolding resting
     refused_notes noted ends reason none = quiet_notes noted (refused ends y reason) refl refl (none reason) (none ends.store)
 
-    sealed_notes : {H E : Type 0} (noted : Result H E → Option Noticed) (ends : Ends E) (d : Draft (Reaching Memory)) (answer : H) → d.memory.beside.checks ≡ b.checks → d.memory.beside.scan ≡ b.scan → noted (Ok answer) ≡ None → ((e : E) → noted (Err e) ≡ None)
+    sealed_notes : {H E : Type 0} (noted : Result H E → Option Noticed) (ends : Ends E) (d : Draft (Reaching Memory)) (answer : H)
+        → d.memory.beside.checks ≡ b.checks → d.memory.beside.scan ≡ b.scan → noted (Ok answer) ≡ None → ((e : E) → noted (Err e) ≡ None)
         → PlanNotes number now b noted (sealed (in_reach in_memory) ends y d answer)
     unfolding sealed
     sealed_notes {H} {E} noted ends d answer checks scan some none = by_test (nat_lt (counters_left m.station) (length d.units))
@@ -314,17 +331,21 @@ module _ (number now : ℕ) (b : Beside) where
     broadcast_notes datagram = by_address (address_of m.station)
       where
         sent : ℕ → Plan (Reaching Memory) (Result (Unit {0}) BroadcastRefusal)
-        sent own = sealed (in_reach in_memory) broadcast_ends y (tells_neighbours to_all 4 (spelling (own_broadcast own b.log datagram)) (with_broadcast_number (empty_draft y))) tt
+        sent own = sealed (in_reach in_memory) broadcast_ends y (tells_neighbours to_all 4 (spelling (own_broadcast own b.log datagram))
+            (with_broadcast_number (empty_draft y))) tt
 
         by_fault : (own : ℕ) (o : Option BroadcastRefusal) → PlanNotes number now b (λ _. None) (checked_plan broadcast_ends y o (sent own))
         by_fault own (Some reason) = refused_notes (λ _. None) broadcast_ends reason (λ e. refl)
-        by_fault own None = sealed_notes (λ _. None) broadcast_ends (tells_neighbours to_all 4 (spelling (own_broadcast own b.log datagram)) (with_broadcast_number (empty_draft y))) tt refl refl refl (λ e. refl)
+        by_fault own None = sealed_notes (λ _. None) broadcast_ends (tells_neighbours to_all 4 (spelling (own_broadcast own b.log datagram))
+            (with_broadcast_number (empty_draft y))) tt refl refl refl (λ e. refl)
 
-        by_address : (o : Option ℕ) → PlanNotes number now b (λ _. None) (option_map_or (λ own. broadcast_from in_memory y own datagram) o (refused broadcast_ends y broadcast_faults.NotJoined))
+        by_address : (o : Option ℕ) → PlanNotes number now b (λ _. None)
+            (option_map_or (λ own. broadcast_from in_memory y own datagram) o (refused broadcast_ends y broadcast_faults.NotJoined))
         by_address None = refused_notes (λ _. None) broadcast_ends broadcast_faults.NotJoined (λ e. refl)
         by_address (Some own) = by_fault own (datagram_fault b.log datagram)
 
-    choose_notes : {A : Type 0} (noted : A → Option Noticed) (t : Bool) (p q : Plan (Reaching Memory) A) → PlanNotes number now b noted p → PlanNotes number now b noted q → PlanNotes number now b noted (choose_plan t p q)
+    choose_notes : {A : Type 0} (noted : A → Option Noticed) (t : Bool) (p q : Plan (Reaching Memory) A) → PlanNotes number now b noted p
+        → PlanNotes number now b noted q → PlanNotes number now b noted (choose_plan t p q)
     unfolding choose_plan
     choose_notes noted true p q f g = f
     choose_notes noted false p q f g = g
@@ -336,15 +357,19 @@ module _ (number now : ℕ) (b : Beside) where
       where
         by_route : (own : ℕ) (o : Option ℕ) → PlanNotes number now b (λ _. None) (asks_over in_memory y own target o)
         by_route own None = refused_notes (λ _. None) ask_ends ask_faults.NoRoute (λ e. refl)
-        by_route own (Some hop) = sealed_notes (λ _. None) ask_ends (tells_neighbours hop 5 (path_spelling (Ask target (own ∷ []))) (empty_draft y)) tt refl refl refl (λ e. refl)
+        by_route own (Some hop) = sealed_notes (λ _. None) ask_ends (tells_neighbours hop 5 (path_spelling (Ask target (own ∷ []))) (empty_draft y)) tt refl
+            refl refl (λ e. refl)
 
-        by_address : (o : Option ℕ) → PlanNotes number now b (λ _. None) (option_map_or (λ own. asks_from in_memory y own target) o (refused ask_ends y ask_faults.NotJoined))
+        by_address : (o : Option ℕ) → PlanNotes number now b (λ _. None)
+            (option_map_or (λ own. asks_from in_memory y own target) o (refused ask_ends y ask_faults.NotJoined))
         by_address None = refused_notes (λ _. None) ask_ends ask_faults.NotJoined (λ e. refl)
-        by_address (Some own) = choose_notes (λ _. None) (target == own) _ _ (refused_notes (λ _. None) ask_ends ask_faults.ToSelf (λ e. refl)) (by_route own (station_route m.station target))
+        by_address (Some own) = choose_notes (λ _. None) (target == own) _ _ (refused_notes (λ _. None) ask_ends ask_faults.ToSelf (λ e. refl))
+            (by_route own (station_route m.station target))
 
     -- a choice of an agent
     agent_notes : (own : meters.Identity) (k clock : ℕ) → PlanNotes number now b (λ _. None) (choose_agent own y k clock)
-    agent_notes own k clock = choose_notes (λ _. None) (meters.is_joined m) _ _ (refused_notes (λ _. None) choosing_ends choices.AlreadyJoined (λ e. refl)) (by_agent (kth_of b.scan.agents k))
+    agent_notes own k clock = choose_notes (λ _. None) (meters.is_joined m) _ _ (refused_notes (λ _. None) choosing_ends choices.AlreadyJoined (λ e. refl))
+        (by_agent (kth_of b.scan.agents k))
       where
         by_agent : (o : Option (ℕ × ℕ)) → PlanNotes number now b (λ _. None) (joins_by own y clock o)
         by_agent None = refused_notes (λ _. None) choosing_ends choices.NoBeacon (λ e. refl)
@@ -372,8 +397,10 @@ module _ (number now : ℕ) (b : Beside) where
       follows_notes : (o : Result PathStep PathRefusal) → PlanNotes number now b noted (follows_path in_memory y o)
       unfolding resting tells_neighbours empty_draft
       follows_notes (Err reason) = dropped (path_word reason)
-      follows_notes (Ok (Forward to message)) = sealed_notes noted reach_ends (tells_neighbours to 5 (path_spelling message) (empty_draft y)) heard_of.Relayed refl refl refl (λ e. refl)
-      follows_notes (Ok (Answers to message)) = sealed_notes noted reach_ends (tells_neighbours to 5 (path_spelling message) (empty_draft y)) heard_of.Answered refl refl refl (λ e. refl)
+      follows_notes (Ok (Forward to message)) = sealed_notes noted reach_ends (tells_neighbours to 5 (path_spelling message) (empty_draft y)) heard_of.Relayed
+          refl refl refl (λ e. refl)
+      follows_notes (Ok (Answers to message)) = sealed_notes noted reach_ends (tells_neighbours to 5 (path_spelling message) (empty_draft y)) heard_of.Answered
+          refl refl refl (λ e. refl)
       follows_notes (Ok (Done walk)) = quiet_notes noted _ refl refl refl refl
 
       path_notes : (own : ℕ) (o : Option PathMessage) → PlanNotes number now b noted (hear_path_in in_memory y own c.from o)
@@ -387,9 +414,11 @@ module _ (number now : ℕ) (b : Beside) where
           marked : Draft (Reaching Memory)
           marked = with_broadcast_mark d.origin d.number (empty_draft y)
 
-          by_hops : (t : Bool) → PlanNotes number now b noted (sealed (in_reach in_memory) reach_ends y (if t then marked else tells_neighbours to_all 4 (spelling (hop_less d)) marked) (heard_of.Broadcast d.origin d.number d.octets))
+          by_hops : (t : Bool) → PlanNotes number now b noted (sealed (in_reach in_memory) reach_ends y
+              (if t then marked else tells_neighbours to_all 4 (spelling (hop_less d)) marked) (heard_of.Broadcast d.origin d.number d.octets))
           by_hops true = sealed_notes noted reach_ends marked (heard_of.Broadcast d.origin d.number d.octets) refl refl refl (λ e. refl)
-          by_hops false = sealed_notes noted reach_ends (tells_neighbours to_all 4 (spelling (hop_less d)) marked) (heard_of.Broadcast d.origin d.number d.octets) refl refl refl (λ e. refl)
+          by_hops false = sealed_notes noted reach_ends (tells_neighbours to_all 4 (spelling (hop_less d)) marked)
+              (heard_of.Broadcast d.origin d.number d.octets) refl refl refl (λ e. refl)
 
       broadcast_in_notes : (own : ℕ) (o : Option Broadcast) → PlanNotes number now b noted (hear_broadcast_in in_memory y own o)
       unfolding checked_plan
@@ -406,7 +435,8 @@ module _ (number now : ℕ) (b : Beside) where
           bad : PlanNotes number now b noted (drop_it y (reach_drops.Known drops.BadUnit))
           bad = dropped (reach_drops.Known drops.BadUnit)
 
-          by_address : (o : Option ℕ) → PlanNotes number now b noted (option_map_or (λ own. hear_command_at in_memory y own c) o (drop_it y (reach_drops.Known drops.BadUnit)))
+          by_address : (o : Option ℕ) → PlanNotes number now b noted (option_map_or (λ own. hear_command_at in_memory y own c) o
+              (drop_it y (reach_drops.Known drops.BadUnit)))
           by_address None = bad
           by_address (Some own) = choose_notes noted (c.code == 3) _ _ (choose_notes noted c.to_all _ _ bad (ack_in_notes (ack_in c.body) refl))
               (choose_notes noted (c.code == 4) _ _ (choose_notes noted c.to_all _ _ (broadcast_in_notes own (broadcast_in c.body)) bad)
@@ -420,16 +450,19 @@ ScanNotes number now b noted d = Notes number now b (record b { scan = d.scan })
 
 module _ (number now : ℕ) (b : Beside) where
   scan_stays : {A : Type 0} (noted : A → Option Noticed) (answer : A) → noted answer ≡ None → ScanNotes number now b noted (stays_scan b.scan answer)
-  scan_stays noted answer none = subst (Notes number now b (record b { scan = b.scan })) (sym none) (same_notes number now b (record b { scan = b.scan }) refl refl)
+  scan_stays noted answer none = subst (Notes number now b (record b { scan = b.scan })) (sym none)
+      (same_notes number now b (record b { scan = b.scan }) refl refl)
 
   begins : (m : Memory) → ScanNotes number now b (scanning_of number) (begin_scan m b.scan)
   begins m = by_joined (meters.is_joined m)
     where
-      by_joined : (t : Bool) → ScanNotes number now b (scanning_of number) (if t then stays_scan b.scan (Err scan_faults.AlreadyJoined) else record { answer = Ok (tt {0}); scan = begun; sent = Some (discoveries.Request 0) })
+      by_joined : (t : Bool) → ScanNotes number now b (scanning_of number)
+          (if t then stays_scan b.scan (Err scan_faults.AlreadyJoined) else record { answer = Ok (tt {0}); scan = begun; sent = Some (discoveries.Request 0) })
       by_joined true = scan_stays (scanning_of number) (Err scan_faults.AlreadyJoined) refl
       by_joined false = begin_notes number now b
 
-  hears_notes : (r : Role) (l : StationMemory) (link : ℕ) (o : Option Discovery) → ScanNotes number now b (beacon_taken number o link) (hear_discovery_in r l b.scan o link)
+  hears_notes : (r : Role) (l : StationMemory) (link : ℕ) (o : Option Discovery)
+      → ScanNotes number now b (beacon_taken number o link) (hear_discovery_in r l b.scan o link)
   hears_notes r l link None = scan_stays (beacon_taken number None link) (Err discovery_drops.Malformed) refl
   hears_notes r l link (Some (discoveries.Request seq)) = by_address (address_of l)
     where
@@ -440,7 +473,8 @@ module _ (number now : ℕ) (b : Beside) where
       by_cost own None = scan_stays noted (Err discovery_drops.NoRoute) refl
       by_cost own (Some cost) = same_notes number now b (record b { scan = b.scan }) refl refl
 
-      by_address : (o : Option ℕ) → ScanNotes number now b noted (option_map_or (λ own. beacons b.scan own (cost_home r l)) o (stays_scan b.scan (Err discovery_drops.NotForMe)))
+      by_address : (o : Option ℕ) → ScanNotes number now b noted (option_map_or (λ own. beacons b.scan own (cost_home r l)) o
+          (stays_scan b.scan (Err discovery_drops.NotForMe)))
       by_address None = scan_stays noted (Err discovery_drops.NotForMe) refl
       by_address (Some own) = by_cost own (cost_home r l)
   hears_notes r l link (Some (discoveries.Beacon seq pan from cost)) = by_tests (is_foreign l pan from) (takes_beacons l b.scan)
@@ -448,7 +482,8 @@ module _ (number now : ℕ) (b : Beside) where
       noted : Result DiscoveryHeard DiscoveryDropped → Option Noticed
       noted = beacon_taken number (Some (discoveries.Beacon seq pan from cost)) link
 
-      by_tests : (s t : Bool) → ScanNotes number now b noted (if s then stays_scan b.scan (Err discovery_drops.NotForMe) else (if t then takes_beacon b.scan from cost link else stays_scan b.scan (Err discovery_drops.NotScanning)))
+      by_tests : (s t : Bool) → ScanNotes number now b noted (if s then stays_scan b.scan (Err discovery_drops.NotForMe) else
+          (if t then takes_beacon b.scan from cost link else stays_scan b.scan (Err discovery_drops.NotScanning)))
       by_tests true t = scan_stays noted (Err discovery_drops.NotForMe) refl
       by_tests false true = beacon_notes number now b from cost link
       by_tests false false = scan_stays noted (Err discovery_drops.NotScanning) refl
@@ -476,7 +511,8 @@ module _ (ciphers : Ciphers) (w : World) where
   same : (v : World) (t : Trace) → v.beside ≡ w.beside → t.further ≡ nothing_further → IsUntouched w v t
   same v t e f = record { beside = λ n. ap (λ bs. aside bs n) e; further = f }
 
-  sent_untouched : (from to : ℕ) (datagram : List ℕ) (tag : ℕ) (t : Bool) (r : World × Trace) → r.0.beside ≡ w.beside → r.1.further ≡ nothing_further → IsUntouched w (sent_if w from to datagram tag t r).0 (sent_if w from to datagram tag t r).1
+  sent_untouched : (from to : ℕ) (datagram : List ℕ) (tag : ℕ) (t : Bool) (r : World × Trace) → r.0.beside ≡ w.beside → r.1.further ≡ nothing_further
+      → IsUntouched w (sent_if w from to datagram tag t r).0 (sent_if w from to datagram tag t r).1
   sent_untouched from to datagram tag true r e f = same _ _ e f
   sent_untouched from to datagram tag false r e f = same _ _ e f
 
@@ -532,14 +568,18 @@ module _ (ciphers : Ciphers) (w : World) (logs : LogsKept w) where
         notes None = same_notes number w.clock (beside_at w number) (sent None) refl refl
         notes (Some reply) = reply_notes number w.clock (beside_at w number) reply
 
-        by_memory : (reply : Reply) (t : Bool) → let v : World = told ciphers with_it.0 number (acknowledging d.node reply) in let q : World × Trace = if t then adds_frames v with_it.1 (acknowledging d.node reply) else sends_nothing w (v, with_it.1) in (n : ℕ) → LeadsAt n w (entry event q.0 q.1)
-        by_memory reply true = at_one w (entry event (told ciphers with_it.0 number (acknowledging d.node reply)) (adds_frames (told ciphers with_it.0 number (acknowledging d.node reply)) with_it.1 (acknowledging d.node reply)).1) a.other number (sent (reply_among d.frames)) (within number x a.there) refl (notes (reply_among d.frames))
+        by_memory : (reply : Reply) (t : Bool) → let v : World = told ciphers with_it.0 number (acknowledging d.node reply) in let q : World × Trace = if t then
+            adds_frames v with_it.1 (acknowledging d.node reply) else sends_nothing w (v, with_it.1) in (n : ℕ) → LeadsAt n w (entry event q.0 q.1)
+        by_memory reply true = at_one w (entry event (told ciphers with_it.0 number (acknowledging d.node reply))
+            (adds_frames (told ciphers with_it.0 number (acknowledging d.node reply)) with_it.1 (acknowledging d.node reply)).1) a.other number
+            (sent (reply_among d.frames)) (within number x a.there) refl (notes (reply_among d.frames))
         by_memory reply false =
             let q : World × Trace = sends_nothing w (told ciphers with_it.0 number (acknowledging d.node reply), with_it.1) in
             still w (entry event q.0 q.1) a.other (λ n. refl) refl
 
         by_due : (o : Option Reply) → let q : World × Trace = acknowledged_if ciphers w number d.node o with_it in (n : ℕ) → LeadsAt n w (entry event q.0 q.1)
-        by_due None = at_one w (entry event with_it.0 with_it.1) a.other number (sent (reply_among d.frames)) (within number x a.there) refl (notes (reply_among d.frames))
+        by_due None = at_one w (entry event with_it.0 with_it.1) a.other number (sent (reply_among d.frames)) (within number x a.there) refl
+            (notes (reply_among d.frames))
         by_due (Some reply) = by_memory reply (is_some (acknowledging d.node reply).node.memory)
 
   pub follows_history : (event : Event) (s : Step) → IsReachStep ciphers w event s → FollowsHistory w event s
@@ -550,28 +590,35 @@ module _ (ciphers : Ciphers) (w : World) (logs : LogsKept w) where
   follows_history event s Opens = still w (entry event _ _) (refl, λ n. refl) (λ n. refl) refl
   follows_history event s (Bcasts number x datagram there are) =
       at_one w (entry event _ _) (refl, λ n. refl) number _ (within number x there) refl
-      (plan_notes number w.clock x (beside_at w number) (Err broadcast_faults.Halted) (λ y. broadcast in_memory y datagram) (λ _. None) (same_notes number w.clock (beside_at w number) (beside_at w number) refl refl)
+      (plan_notes number w.clock x (beside_at w number) (Err broadcast_faults.Halted) (λ y. broadcast in_memory y datagram) (λ _. None)
+      (same_notes number w.clock (beside_at w number) (beside_at w number) refl refl)
       (λ m here. broadcast_notes number w.clock (beside_at w number) m datagram))
   follows_history event s (Asks from to x y target there other address) =
       at_one w (entry event _ _) (refl, λ n. refl) from _ (within from x there) refl
-      (plan_notes from w.clock x (beside_at w from) (Err ask_faults.Halted) (λ y. ask_path in_memory y target) (λ _. None) (same_notes from w.clock (beside_at w from) (beside_at w from) refl refl)
+      (plan_notes from w.clock x (beside_at w from) (Err ask_faults.Halted) (λ y. ask_path in_memory y target) (λ _. None)
+      (same_notes from w.clock (beside_at w from) (beside_at w from) refl refl)
       (λ m here. ask_notes from w.clock (beside_at w from) m target))
-  follows_history event s (Begins number x m there here) = at_one w (entry event _ _) (refl, λ n. refl) number _ (within number x there) refl (begins number w.clock (beside_at w number) m)
+  follows_history event s (Begins number x m there here) = at_one w (entry event _ _) (refl, λ n. refl) number _ (within number x there) refl
+      (begins number w.clock (beside_at w number) m)
   follows_history event s (Chooses number k x psk there pair) =
       at_one w (entry event _ _) (refl, λ n. refl) number _ (within number x there) refl
-      (plan_notes number w.clock x (beside_at w number) (Err choices.Halted) (λ y. choose_agent (identity ciphers x psk) y k w.clock) (λ _. None) (same_notes number w.clock (beside_at w number) (beside_at w number) refl refl)
+      (plan_notes number w.clock x (beside_at w number) (Err choices.Halted) (λ y. choose_agent (identity ciphers x psk) y k w.clock) (λ _. None)
+      (same_notes number w.clock (beside_at w number) (beside_at w number) refl refl)
       (λ m here. agent_notes number w.clock (beside_at w number) m (identity ciphers x psk) k w.clock))
   follows_history event s (Discovers e number x m octets link other there here comes is) =
-      at_one w (entry event _ _) other number _ (within number x there) refl (hears_notes number w.clock (beside_at w number) x.role m.station link (discovery_in octets))
+      at_one w (entry event _ _) other number _ (within number x there) refl
+      (hears_notes number w.clock (beside_at w number) x.role m.station link (discovery_in octets))
   follows_history event s (Unbelieves e number x octets got a is) = still w (entry event _ _) a.other (λ n. refl) refl
   follows_history event s (Commands e number x octets cost got c a low passes is) =
       at_one w (entry event _ _) a.other number _ (within number x a.there) refl
-      (plan_notes number w.clock (heard_node ciphers w x octets got cost).node (beside_at w number) (Err (reach_drops.Known drops.Store)) (λ y. hear_command in_memory y c) (acknowledged_by number c) (same_notes number w.clock (beside_at w number) (beside_at w number) refl refl)
+      (plan_notes number w.clock (heard_node ciphers w x octets got cost).node (beside_at w number) (Err (reach_drops.Known drops.Store))
+      (λ y. hear_command in_memory y c) (acknowledged_by number c) (same_notes number w.clock (beside_at w number) (beside_at w number) refl refl)
       (λ m here. command_notes number w.clock (beside_at w number) m c))
   follows_history event s (Checked e number x octets cost got a low passes none on) = checked_follows event number x octets cost got a
   follows_history event s (Hears e number x octets cost got a low passes none off) = still w (entry event _ _) a.other (λ n. refl) refl
   follows_history event s (Ticks seconds) = λ n. record {
-    checks = λ past e. ap (λ (b : Beside). b.checks) (aside_ticked (w.clock + seconds) w.beside n) ∙ ap (λ s. tick_after s (w.clock + seconds)) e ∙ sym (check_lemmas.one_more_entry past (checking.Tick (w.clock + seconds)));
+    checks = λ past e. ap (λ (b : Beside). b.checks) (aside_ticked (w.clock + seconds) w.beside n) ∙ ap (λ s. tick_after s (w.clock + seconds)) e ∙ sym
+        (check_lemmas.one_more_entry past (checking.Tick (w.clock + seconds)));
     scan = λ past e. ap (λ (b : Beside). b.scan) (aside_ticked (w.clock + seconds) w.beside n) ∙ e;
   }
   follows_history event s (Restarts number x b there read) = restarted_at
@@ -586,10 +633,12 @@ module _ (ciphers : Ciphers) (w : World) (logs : LogsKept w) where
       restarted_at : (n : ℕ) → LeadsAt n w (entry (events.Restart number) (restarts_by ciphers w number x (Ok b)).0 (restarts_by ciphers w number x (Ok b)).1)
       restarted_at n = by_number (number == n) refl
         where
-          by_number : (t : Bool) → (number == n) ≡ t → LeadsAt n w (entry (events.Restart number) (restarts_by ciphers w number x (Ok b)).0 (restarts_by ciphers w number x (Ok b)).1)
+          by_number : (t : Bool) → (number == n) ≡ t → LeadsAt n w (entry (events.Restart number) (restarts_by ciphers w number x (Ok b)).0
+              (restarts_by ciphers w number x (Ok b)).1)
           by_number true e =
               let is : number ≡ n = eqb-true number n e in
-              let at : aside (slice_set w.beside number b) n ≡ b = subst (λ k. aside (slice_set w.beside number b) k ≡ b) is (aside_set w.beside number b (within number x there)) in
+              let at : aside (slice_set w.beside number b) n ≡ b = subst (λ k. aside (slice_set w.beside number b) k ≡ b) is
+              (aside_set w.beside number b (within number x there)) in
               record {
                 checks = λ past held. rw e (ap (λ (c : Beside). c.checks) at ∙ clean.0 ∙ sym check_lemmas.nobody_at_the_start);
                 scan = λ past held. rw e (ap (λ (c : Beside). c.scan) at ∙ clean.1 ∙ sym (scan_lemmas.one_more_entry past scanning.Clear));
@@ -603,13 +652,18 @@ module _ (ciphers : Ciphers) (w : World) (logs : LogsKept w) where
 
 -- # Runs
 
-histories_kept : (w : World) → LogsKept w → (before : List Entry) → IsOfHistory before w → (entries : List Entry) → AreEvents (events_of entries) → IsReachRun w entries → All HoldsAfter entries → AreOfHistoryAfter before entries
+histories_kept : (w : World) → LogsKept w → (before : List Entry) → IsOfHistory before w → (entries : List Entry) → AreEvents (events_of entries)
+    → IsReachRun w entries → All HoldsAfter entries → AreOfHistoryAfter before entries
 histories_kept w logs before h [] says run holds = tt
 histories_kept w logs before h (x ∷ xs) says run holds =
     let event = All-head IsEvent x.event (events_of xs) says in
-    let leads : (n : ℕ) → LeadsAt n w (entry x.event x.after x.trace) = subst (FollowsHistory w x.event) run.2 (follows_history network w logs x.event (line_step network w x.event) (reach_step_is network w logs x.event event)) in
-    let next : IsOfHistory (before ++ x ∷ []) x.after = one_more w before x h (λ n. record { checks = (leads n).checks; scan = (leads n).scan }) in
-    (next, histories_kept x.after (All-head HoldsAfter x xs holds).logs (before ++ x ∷ []) next xs (All-tail IsEvent x.event (events_of xs) says) run.3 (All-tail HoldsAfter x xs holds))
+    let leads : (n : ℕ) → LeadsAt n w (entry x.event x.after x.trace) = subst (FollowsHistory w x.event) run.2
+    (follows_history network w logs x.event (line_step network w x.event) (reach_step_is network w logs x.event event)) in
+    let next : IsOfHistory (before ++ x ∷ []) x.after = one_more w before x h (λ n. record { checks = (leads n).checks; scan = (leads n).scan }) in (
+      next,
+      histories_kept x.after (All-head HoldsAfter x xs holds).logs (before ++ x ∷ []) next xs (All-tail IsEvent x.event (events_of xs) says) run.3
+          (All-tail HoldsAfter x xs holds),
+    )
 
 nothing_scanned : scanning.after_history [] ≡ ended
 unfolding scanning.after_history

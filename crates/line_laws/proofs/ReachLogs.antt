@@ -19,7 +19,12 @@ log_given w number x h = by_memory x.memory refl h
   where
     by_memory : (o : Option Memory) → x.memory ≡ o → LogIn (beside_at w number).log x.store.records o → GivesLog (beside_at w number) x
     by_memory None e k = record { log = log_at_rest k.value; opened = reopens k.value x.store.records k.kept; held = rw e tt }
-    by_memory (Some m) e k = record { log = log_at_rest (beside_at w number).log; opened = reopens (beside_at w number).log x.store.records k; held = rw e refl }
+    by_memory (Some m) e k = record {
+      log = log_at_rest (beside_at w number).log;
+      opened = reopens (beside_at w number).log x.store.records k;
+      held = rw e
+          refl;
+    }
 
 give_logs : (x : Entry) → HoldsAfter x → GiveLogs x
 give_logs x h number node there = log_given x.after number node (logged_at x.after.beside x.after.nodes number node h.logs there)

@@ -58,33 +58,56 @@ pub data IsReachStep (ciphers : Ciphers) (w : World) : Event → Step → Type 1
   -- the event is not taken
   Fails : (event : Event) (fault : StepFault) → IsReachStep ciphers w event (Err fault)
   -- no octets are accepted in it: as without further reach
-  Known : (event : Event) (s : Step) → IsOther event → IsStep ciphers w event s → ((number : ℕ) (x : Node) (octets : List ℕ) (got : Accepted) → Comes w event number octets → node_at w number ≡ Some x → (accepting ciphers x octets).answer ≡ Ok got → ⊥)
+  Known : (event : Event) (s : Step) → IsOther event → IsStep ciphers w event s
+      → ((number : ℕ) (x : Node) (octets : List ℕ) (got : Accepted) → Comes w event number octets → node_at w number ≡ Some x
+      → (accepting ciphers x octets).answer ≡ Ok got → ⊥)
       → IsReachStep ciphers w event s
   -- nothing is done
-  Rests : (event : Event) (answer : Answer) → IsOther event → ((number : ℕ) (octets : List ℕ) → Comes w event number octets → is_discovery octets ≡ false → ⊥) → IsReachStep ciphers w event (Ok (ran w, trace_of (happened w answer)))
+  Rests : (event : Event) (answer : Answer) → IsOther event → ((number : ℕ) (octets : List ℕ) → Comes w event number octets → is_discovery octets ≡ false → ⊥)
+      → IsReachStep ciphers w event (Ok (ran w, trace_of (happened w answer)))
   -- neighbours are checked from now on
   Opens : IsReachStep ciphers w events.Checks (Ok (record (set_up w) { checks_on = true }, trace_of (happened w said.Set)))
-  Bcasts : (number : ℕ) (x : Node) (datagram : List ℕ) → node_at w number ≡ Some x → IsLineOctets datagram → IsReachStep ciphers w (events.Bcast number datagram) (Ok (broadcasts_by ciphers w number x datagram))
-  Asks : (from to : ℕ) (x y : Node) (target : ℕ) → node_at w from ≡ Some x → node_at w to ≡ Some y → node_address y ≡ Some target → IsReachStep ciphers w (events.Path from to) (Ok (asks_by ciphers w from x (Some target)))
-  Scans : (number : ℕ) (x : Node) (m : Memory) → node_at w number ≡ Some x → x.memory ≡ Some m → IsReachStep ciphers w (events.Scan number) (Ok (scans_by w number (Some m)))
-  Chooses : (number k : ℕ) (x : Node) (psk : Key) → node_at w number ≡ Some x → psk_of x ≡ Some psk → IsReachStep ciphers w (events.Choose number k) (Ok (chooses_by ciphers w number x k (Some psk)))
-  Discovers : (event : Event) (number : ℕ) (x : Node) (m : Memory) (octets : List ℕ) (link : ℕ) → IsOther event → node_at w number ≡ Some x → x.memory ≡ Some m → Comes w event number octets → is_discovery octets ≡ true
+  Bcasts : (number : ℕ) (x : Node) (datagram : List ℕ) → node_at w number ≡ Some x → IsLineOctets datagram
+      → IsReachStep ciphers w (events.Bcast number datagram) (Ok (broadcasts_by ciphers w number x datagram))
+  Asks : (from to : ℕ) (x y : Node) (target : ℕ) → node_at w from ≡ Some x → node_at w to ≡ Some y → node_address y ≡ Some target
+      → IsReachStep ciphers w (events.Path from to) (Ok (asks_by ciphers w from x (Some target)))
+  Scans : (number : ℕ) (x : Node) (m : Memory) → node_at w number ≡ Some x → x.memory ≡ Some m
+      → IsReachStep ciphers w (events.Scan number) (Ok (scans_by w number (Some m)))
+  Chooses : (number k : ℕ) (x : Node) (psk : Key) → node_at w number ≡ Some x → psk_of x ≡ Some psk
+      → IsReachStep ciphers w (events.Choose number k) (Ok (chooses_by ciphers w number x k (Some psk)))
+  Discovers : (event : Event) (number : ℕ) (x : Node) (m : Memory) (octets : List ℕ) (link : ℕ) → IsOther event → node_at w number ≡ Some x → x.memory ≡ Some m
+      → Comes w event number octets → is_discovery octets ≡ true
       → IsReachStep ciphers w event (Ok (discovers_by w number x octets link (Some m)))
   -- a request of a listed neighbour
-  Unbelieves : (event : Event) (number : ℕ) (x : Node) (octets : List ℕ) (got : Accepted) → IsAccepted ciphers w event number x octets got → is_dropped w number got ≡ true
+  Unbelieves : (event : Event) (number : ℕ) (x : Node) (octets : List ℕ) (got : Accepted) → IsAccepted ciphers w event number x octets got
+      → is_dropped w number got ≡ true
       → IsReachStep ciphers w event (Ok (unbelieved ciphers w number (after_accepting ciphers x octets) octets got))
   -- a command for the neighbours
-  Commands : (event : Event) (number : ℕ) (x : Node) (octets : List ℕ) (cost : ℕ) (got : Accepted) (c : NeighbourCommand) → IsAccepted ciphers w event number x octets got → cost ≤ 255 → is_dropped w number got ≡ false → command_of got ≡ Some c
-      → IsReachStep ciphers w event (Ok (commanded ciphers number (heard_node ciphers w x octets got cost).node c (heard ciphers w number (after_accepting ciphers x octets) octets got cost)))
+  Commands : (event : Event) (number : ℕ) (x : Node) (octets : List ℕ) (cost : ℕ) (got : Accepted) (c : NeighbourCommand)
+      → IsAccepted ciphers w event number x octets got → cost ≤ 255 → is_dropped w number got ≡ false → command_of got ≡ Some c
+      → IsReachStep ciphers w event (Ok (commanded ciphers number (heard_node ciphers w x octets got cost).node c
+      (heard ciphers w number (after_accepting ciphers x octets) octets got cost)))
   -- another frame, where neighbours are checked, and where they are not
-  Checked : (event : Event) (number : ℕ) (x : Node) (octets : List ℕ) (cost : ℕ) (got : Accepted) → IsAccepted ciphers w event number x octets got → cost ≤ 255 → is_dropped w number got ≡ false → command_of got ≡ None → w.checks_on ≡ true
-      → IsReachStep ciphers w event (Ok (checked ciphers w number got (heard_node ciphers w x octets got cost) (heard ciphers w number (after_accepting ciphers x octets) octets got cost)))
-  Hears : (event : Event) (number : ℕ) (x : Node) (octets : List ℕ) (cost : ℕ) (got : Accepted) → IsAccepted ciphers w event number x octets got → cost ≤ 255 → is_dropped w number got ≡ false → command_of got ≡ None → w.checks_on ≡ false
+  Checked : (event : Event) (number : ℕ) (x : Node) (octets : List ℕ) (cost : ℕ) (got : Accepted) → IsAccepted ciphers w event number x octets got → cost ≤ 255
+      → is_dropped w number got ≡ false → command_of got ≡ None → w.checks_on ≡ true
+      → IsReachStep ciphers w event (Ok (checked ciphers w number got (heard_node ciphers w x octets got cost)
+      (heard ciphers w number (after_accepting ciphers x octets) octets got cost)))
+  Hears : (event : Event) (number : ℕ) (x : Node) (octets : List ℕ) (cost : ℕ) (got : Accepted) → IsAccepted ciphers w event number x octets got → cost ≤ 255
+      → is_dropped w number got ≡ false → command_of got ≡ None → w.checks_on ≡ false
       → IsReachStep ciphers w event (Ok (heard ciphers w number (after_accepting ciphers x octets) octets got cost))
   -- time and a restart
   Ticks : (seconds : ℕ) → IsReachStep ciphers w (events.Tick seconds)
-      (Ok (record (ran w) { clock = w.clock + seconds; nodes = map (ticked (w.clock + seconds)) w.nodes; beside = map (tick_beside (w.clock + seconds)) w.beside }, trace_of (happened w said.Ticked)))
-  Restarts : (number : ℕ) (x : Node) (b : Beside) → node_at w number ≡ Some x → restarted x.store.records ≡ Ok b → IsReachStep ciphers w (events.Restart number) (Ok (restarts_by ciphers w number x (Ok b)))
+      (Ok (
+        record (ran w) {
+          clock = w.clock + seconds;
+          nodes = map (ticked (w.clock + seconds)) w.nodes;
+          beside = map (tick_beside (w.clock + seconds))
+              w.beside;
+        },
+        trace_of (happened w said.Ticked),
+      ))
+  Restarts : (number : ℕ) (x : Node) (b : Beside) → node_at w number ≡ Some x → restarted x.store.records ≡ Ok b
+      → IsReachStep ciphers w (events.Restart number) (Ok (restarts_by ciphers w number x (Ok b)))
 
 -- # Every event is one of them
 
@@ -109,7 +132,8 @@ module _ (ciphers : Ciphers) (w : World) (logs : LogsKept w) where
   branch event true p q s t = s refl
   branch event false p q s t = t refl
 
-  by_option : {X : Type 0} (event : Event) (f : X → Step) (x : Option X) (p : Step) → ((y : X) → x ≡ Some y → Is event (f y)) → Is event p → Is event (option_map_or f x p)
+  by_option : {X : Type 0} (event : Event) (f : X → Step) (x : Option X) (p : Step) → ((y : X) → x ≡ Some y → Is event (f y)) → Is event p
+      → Is event (option_map_or f x p)
   by_option event f None p s t = t
   by_option event f (Some y) p s t = s y refl
 
@@ -139,7 +163,8 @@ module _ (ciphers : Ciphers) (w : World) (logs : LogsKept w) where
   unfolding path
   path_step from to = once _ _ (at_node _ from _ (λ x there. at_node _ to _ (λ y other. by_address x y there other (node_address y) refl)))
     where
-      by_address : (x y : Node) → node_at w from ≡ Some x → node_at w to ≡ Some y → (o : Option ℕ) → node_address y ≡ o → Is (events.Path from to) (Ok (asks_by ciphers w from x o))
+      by_address : (x y : Node) → node_at w from ≡ Some x → node_at w to ≡ Some y → (o : Option ℕ) → node_address y ≡ o
+          → Is (events.Path from to) (Ok (asks_by ciphers w from x o))
       by_address x y there other None e = Rests _ said.NoAddress (refl, λ n. refl) (λ n ys c s. brought c)
       by_address x y there other (Some target) e = Asks from to x y target there other e
 
@@ -167,7 +192,9 @@ module _ (ciphers : Ciphers) (w : World) (logs : LogsKept w) where
   unfolding ticks tick
   ticks_step seconds = by_start (has_begun w)
     where
-      by_start : (b : Bool) → Is (events.Tick seconds) (after_ok (λ r. (record r.0 { beside = map (tick_beside (w.clock + seconds)) w.beside }, r.1)) (if b then Ok (record (ran w) { clock = w.clock + seconds; nodes = map (ticked (w.clock + seconds)) w.nodes }, trace_of (happened w said.Ticked)) else Err faults.Setup))
+      by_start : (b : Bool) → Is (events.Tick seconds) (after_ok (λ r. (record r.0 { beside = map (tick_beside (w.clock + seconds)) w.beside }, r.1))
+          (if b then Ok (record (ran w) { clock = w.clock + seconds; nodes = map (ticked (w.clock + seconds)) w.nodes }, trace_of (happened w said.Ticked)) else
+          Err faults.Setup))
       by_start true = Ticks seconds
       by_start false = Fails _ faults.Setup
 
@@ -175,32 +202,40 @@ module _ (ciphers : Ciphers) (w : World) (logs : LogsKept w) where
   unfolding restarts_further
   restart_step number = once _ _ (at_node _ number _ (λ x there. by_reading x there (restarted x.store.records) refl))
     where
-      by_reading : (x : Node) → node_at w number ≡ Some x → (o : Result Beside BadStore) → restarted x.store.records ≡ o → Is (events.Restart number) (Ok (restarts_by ciphers w number x o))
+      by_reading : (x : Node) → node_at w number ≡ Some x → (o : Result Beside BadStore) → restarted x.store.records ≡ o
+          → Is (events.Restart number) (Ok (restarts_by ciphers w number x o))
       by_reading x there (Ok b) e = Restarts number x b there e
       by_reading x there (Err bad) e = absurd (restarts_read ciphers w logs number x there bad e)
 
   -- # Octets that come
 
-  module _ (event : Event) (number : ℕ) (x : Node) (octets : List ℕ) (cost : ℕ) (other : IsOther event) (there : node_at w number ≡ Some x) (says : IsEvent event) (comes_so : Comes w event number octets) (low : cost ≤ 255) where
+  module _ (event : Event) (number : ℕ) (x : Node) (octets : List ℕ) (cost : ℕ) (other : IsOther event) (there : node_at w number ≡ Some x)
+      (says : IsEvent event) (comes_so : Comes w event number octets) (low : cost ≤ 255) where
     discovers_step : is_discovery octets ≡ true → (o : Option Memory) → x.memory ≡ o → Is event (Ok (discovers_by w number x octets cost o))
     discovers_step is None e = Rests event said.Halted other (λ n ys c s. cc (is, s, (same_comes w event number n octets ys comes_so c).1))
     discovers_step is (Some m) e = Discovers event number x m octets cost other there e comes_so is
 
-    accepted_step : is_discovery octets ≡ false → (got : Accepted) → (accepting ciphers x octets).answer ≡ Ok got → Is event (Ok (heard_further ciphers w number (after_accepting ciphers x octets) octets got cost))
+    accepted_step : is_discovery octets ≡ false → (got : Accepted) → (accepting ciphers x octets).answer ≡ Ok got
+        → Is event (Ok (heard_further ciphers w number (after_accepting ciphers x octets) octets got cost))
     accepted_step sealed got is = by_dropped (is_dropped w number got) refl
       where
         accepted : IsAccepted ciphers w event number x octets got
         accepted = record { other = other; says = says; there = there; comes = comes_so; sealed = sealed; is = is }
 
-        by_command : is_dropped w number got ≡ false → (o : Option NeighbourCommand) → command_of got ≡ o → Is event (Ok (heard_by ciphers w number (after_accepting ciphers x octets) octets got cost o))
+        by_command : is_dropped w number got ≡ false → (o : Option NeighbourCommand) → command_of got ≡ o
+            → Is event (Ok (heard_by ciphers w number (after_accepting ciphers x octets) octets got cost o))
         by_command passes (Some c) e = Commands event number x octets cost got c accepted low passes e
         by_command passes None e = by_checks w.checks_on refl
           where
-            by_checks : (b : Bool) → w.checks_on ≡ b → Is event (Ok (if b then checked ciphers w number got (heard_node ciphers w x octets got cost) (heard ciphers w number (after_accepting ciphers x octets) octets got cost) else heard ciphers w number (after_accepting ciphers x octets) octets got cost))
+            by_checks : (b : Bool) → w.checks_on ≡ b → Is event (Ok (if b then checked ciphers w number got (heard_node ciphers w x octets got cost)
+                (heard ciphers w number (after_accepting ciphers x octets) octets got cost) else heard ciphers w number (after_accepting ciphers x octets)
+                octets got cost))
             by_checks true on = Checked event number x octets cost got accepted low passes e on
             by_checks false off = Hears event number x octets cost got accepted low passes e off
 
-        by_dropped : (b : Bool) → is_dropped w number got ≡ b → Is event (Ok (if b then unbelieved ciphers w number (after_accepting ciphers x octets) octets got else heard_by ciphers w number (after_accepting ciphers x octets) octets got cost (command_of got)))
+        by_dropped : (b : Bool) → is_dropped w number got ≡ b → Is event
+            (Ok (if b then unbelieved ciphers w number (after_accepting ciphers x octets) octets got else heard_by ciphers w number
+            (after_accepting ciphers x octets) octets got cost (command_of got)))
         by_dropped true e = Unbelieves event number x octets got accepted e
         by_dropped false e = by_command e (command_of got) refl
 
@@ -208,46 +243,73 @@ module _ (ciphers : Ciphers) (w : World) (logs : LogsKept w) where
     unfolding comes acts
     comes_step = by_kind (is_discovery octets) refl
       where
-        by_answer : is_discovery octets ≡ false → (o : Result Accepted FrameRefusal) → (accepting ciphers x octets).answer ≡ o → Is event (Ok (accepted_further ciphers w number octets cost (accepting ciphers x octets)))
-        by_answer sealed (Err reason) e = rw e (Known event _ other (TurnsDown event number x octets reason (accepting ciphers x octets) there says comes_so refl e)
+        by_answer : is_discovery octets ≡ false → (o : Result Accepted FrameRefusal) → (accepting ciphers x octets).answer ≡ o
+            → Is event (Ok (accepted_further ciphers w number octets cost (accepting ciphers x octets)))
+        by_answer sealed (Err reason) e = rw e (Known event _ other (TurnsDown event number x octets reason (accepting ciphers x octets) there says comes_so
+            refl e)
             (λ n y ys got c here is. not_both n y ys got (same_comes w event number n octets ys comes_so c) here is))
           where
-            not_both : (n : ℕ) (y : Node) (ys : List ℕ) (got : Accepted) → (number ≡ n) × (octets ≡ ys) → node_at w n ≡ Some y → (accepting ciphers y ys).answer ≡ Ok got → ⊥
+            not_both : (n : ℕ) (y : Node) (ys : List ℕ) (got : Accepted) → (number ≡ n) × (octets ≡ ys) → node_at w n ≡ Some y
+                → (accepting ciphers y ys).answer ≡ Ok got → ⊥
             not_both n y ys got same here is = cc (same.0, same.1, here, is, there, e)
         by_answer sealed (Ok got) e = rw e (accepted_step sealed got e)
 
-        by_kind : (b : Bool) → is_discovery octets ≡ b → Is event (Ok (if b then discovers_by w number x octets cost x.memory else accepted_further ciphers w number octets cost (accepting ciphers x octets)))
+        by_kind : (b : Bool) → is_discovery octets ≡ b → Is event (Ok (if b then discovers_by w number x octets cost x.memory else accepted_further ciphers w
+            number octets cost (accepting ciphers x octets)))
         by_kind true e = discovers_step e x.memory refl
         by_kind false e = by_answer e (accepting ciphers x octets).answer refl
 
-  delivers_step : (flight number cost : ℕ) → IsEvent (events.Deliver flight number cost) → Is (events.Deliver flight number cost) (delivers ciphers w flight number cost)
+  delivers_step : (flight number cost : ℕ) → IsEvent (events.Deliver flight number cost)
+      → Is (events.Deliver flight number cost) (delivers ciphers w flight number cost)
   unfolding delivers
-  delivers_step flight number cost says = once _ _ (at_node _ number _ (λ x hx. at_flight _ flight _ (λ f e. comes_step _ number x f.octets cost (refl, λ n. refl) hx says (OfFlight flight number cost f e) says.2.1)))
+  delivers_step flight number cost says = once _ _ (at_node _ number _
+      (λ x hx. at_flight _ flight _ (λ f e. comes_step _ number x f.octets cost (refl, λ n. refl) hx says (OfFlight flight number cost f e) says.2.1)))
 
-  injects_step : (number cost : ℕ) (octets : List ℕ) → IsEvent (events.Inject number cost octets) → Is (events.Inject number cost octets) (injects ciphers w number cost octets)
+  injects_step : (number cost : ℕ) (octets : List ℕ) → IsEvent (events.Inject number cost octets)
+      → Is (events.Inject number cost octets) (injects ciphers w number cost octets)
   unfolding injects
-  injects_step number cost octets says = once _ _ (at_node _ number _ (λ x hx. comes_step _ number x octets cost (refl, λ n. refl) hx says (OfScript number cost octets) says.1.1))
+  injects_step number cost octets says = once _ _ (at_node _ number _ (λ x hx. comes_step _ number x octets cost (refl, λ n. refl) hx says
+      (OfScript number cost octets) says.1.1))
 
   pub reach_step_is : (event : Event) → IsEvent event → IsReachStep ciphers w event (line_step ciphers w event)
-  reach_step_is (events.Coordinator eui key) e = Known (events.Coordinator eui key) _ (refl, λ n. refl) (step_is ciphers w (events.Coordinator eui key) e) (λ n x ys got c there is. brought c)
-  reach_step_is (events.Meter eui psk) e = Known (events.Meter eui psk) _ (refl, λ n. refl) (step_is ciphers w (events.Meter eui psk) e) (λ n x ys got c there is. brought c)
-  reach_step_is (events.Depot node) e = Known (events.Depot node) _ (refl, λ n. refl) (step_is ciphers w (events.Depot node) e) (λ n x ys got c there is. brought c)
-  reach_step_is (events.Near a b cost) e = Known (events.Near a b cost) _ (refl, λ n. refl) (step_is ciphers w (events.Near a b cost) e) (λ n x ys got c there is. brought c)
-  reach_step_is (events.Counter node value) e = Known (events.Counter node value) _ (refl, λ n. refl) (step_is ciphers w (events.Counter node value) e) (λ n x ys got c there is. brought c)
-  reach_step_is (events.Number node value) e = Known (events.Number node value) _ (refl, λ n. refl) (step_is ciphers w (events.Number node value) e) (λ n x ys got c there is. brought c)
-  reach_step_is (events.Allow node) e = Known (events.Allow node) _ (refl, λ n. refl) (step_is ciphers w (events.Allow node) e) (λ n x ys got c there is. brought c)
-  reach_step_is (events.Rand node value) e = Known (events.Rand node value) _ (refl, λ n. refl) (step_is ciphers w (events.Rand node value) e) (λ n x ys got c there is. brought c)
-  reach_step_is (events.Join node agent) e = Known (events.Join node agent) _ (refl, λ n. refl) (step_is ciphers w (events.Join node agent) e) (λ n x ys got c there is. brought c)
-  reach_step_is (events.Leave node) e = Known (events.Leave node) _ (refl, λ n. refl) (step_is ciphers w (events.Leave node) e) (λ n x ys got c there is. brought c)
-  reach_step_is (events.Send from to datagram) e = Known (events.Send from to datagram) _ (refl, λ n. refl) (step_is ciphers w (events.Send from to datagram) e) (λ n x ys got c there is. brought c)
-  reach_step_is (events.Lose flight) e = Known (events.Lose flight) _ (refl, λ n. refl) (step_is ciphers w (events.Lose flight) e) (λ n x ys got c there is. brought c)
-  reach_step_is (events.Break node next) e = Known (events.Break node next) _ (refl, λ n. refl) (step_is ciphers w (events.Break node next) e) (λ n x ys got c there is. brought c)
-  reach_step_is (events.Cut node nth keeps_new) e = Known (events.Cut node nth keeps_new) _ (refl, λ n. refl) (step_is ciphers w (events.Cut node nth keeps_new) e) (λ n x ys got c there is. brought c)
-  reach_step_is (events.Rekey index key) e = Known (events.Rekey index key) _ (refl, λ n. refl) (step_is ciphers w (events.Rekey index key) e) (λ n x ys got c there is. brought c)
-  reach_step_is (events.Challenge node) e = Known (events.Challenge node) _ (refl, λ n. refl) (step_is ciphers w (events.Challenge node) e) (λ n x ys got c there is. brought c)
-  reach_step_is (events.Activate node index) e = Known (events.Activate node index) _ (refl, λ n. refl) (step_is ciphers w (events.Activate node index) e) (λ n x ys got c there is. brought c)
-  reach_step_is (events.Kick node) e = Known (events.Kick node) _ (refl, λ n. refl) (step_is ciphers w (events.Kick node) e) (λ n x ys got c there is. brought c)
-  reach_step_is (events.Show node) e = Known (events.Show node) _ (refl, λ n. refl) (step_is ciphers w (events.Show node) e) (λ n x ys got c there is. brought c)
+  reach_step_is (events.Coordinator eui key) e = Known (events.Coordinator eui key) _ (refl, λ n. refl) (step_is ciphers w (events.Coordinator eui key) e)
+      (λ n x ys got c there is. brought c)
+  reach_step_is (events.Meter eui psk) e = Known (events.Meter eui psk) _ (refl, λ n. refl) (step_is ciphers w (events.Meter eui psk) e)
+      (λ n x ys got c there is. brought c)
+  reach_step_is (events.Depot node) e = Known (events.Depot node) _ (refl, λ n. refl) (step_is ciphers w (events.Depot node) e)
+      (λ n x ys got c there is. brought c)
+  reach_step_is (events.Near a b cost) e = Known (events.Near a b cost) _ (refl, λ n. refl) (step_is ciphers w (events.Near a b cost) e)
+      (λ n x ys got c there is. brought c)
+  reach_step_is (events.Counter node value) e = Known (events.Counter node value) _ (refl, λ n. refl) (step_is ciphers w (events.Counter node value) e)
+      (λ n x ys got c there is. brought c)
+  reach_step_is (events.Number node value) e = Known (events.Number node value) _ (refl, λ n. refl) (step_is ciphers w (events.Number node value) e)
+      (λ n x ys got c there is. brought c)
+  reach_step_is (events.Allow node) e = Known (events.Allow node) _ (refl, λ n. refl) (step_is ciphers w (events.Allow node) e)
+      (λ n x ys got c there is. brought c)
+  reach_step_is (events.Rand node value) e = Known (events.Rand node value) _ (refl, λ n. refl) (step_is ciphers w (events.Rand node value) e)
+      (λ n x ys got c there is. brought c)
+  reach_step_is (events.Join node agent) e = Known (events.Join node agent) _ (refl, λ n. refl) (step_is ciphers w (events.Join node agent) e)
+      (λ n x ys got c there is. brought c)
+  reach_step_is (events.Leave node) e = Known (events.Leave node) _ (refl, λ n. refl) (step_is ciphers w (events.Leave node) e)
+      (λ n x ys got c there is. brought c)
+  reach_step_is (events.Send from to datagram) e = Known (events.Send from to datagram) _ (refl, λ n. refl) (step_is ciphers w (events.Send from to datagram) e)
+      (λ n x ys got c there is. brought c)
+  reach_step_is (events.Lose flight) e = Known (events.Lose flight) _ (refl, λ n. refl) (step_is ciphers w (events.Lose flight) e)
+      (λ n x ys got c there is. brought c)
+  reach_step_is (events.Break node next) e = Known (events.Break node next) _ (refl, λ n. refl) (step_is ciphers w (events.Break node next) e)
+      (λ n x ys got c there is. brought c)
+  reach_step_is (events.Cut node nth keeps_new) e = Known (events.Cut node nth keeps_new) _ (refl, λ n. refl)
+      (step_is ciphers w (events.Cut node nth keeps_new) e) (λ n x ys got c there is. brought c)
+  reach_step_is (events.Rekey index key) e = Known (events.Rekey index key) _ (refl, λ n. refl) (step_is ciphers w (events.Rekey index key) e)
+      (λ n x ys got c there is. brought c)
+  reach_step_is (events.Challenge node) e = Known (events.Challenge node) _ (refl, λ n. refl) (step_is ciphers w (events.Challenge node) e)
+      (λ n x ys got c there is. brought c)
+  reach_step_is (events.Activate node index) e = Known (events.Activate node index) _ (refl, λ n. refl) (step_is ciphers w (events.Activate node index) e)
+      (λ n x ys got c there is. brought c)
+  reach_step_is (events.Kick node) e = Known (events.Kick node) _ (refl, λ n. refl) (step_is ciphers w (events.Kick node) e)
+      (λ n x ys got c there is. brought c)
+  reach_step_is (events.Show node) e = Known (events.Show node) _ (refl, λ n. refl) (step_is ciphers w (events.Show node) e)
+      (λ n x ys got c there is. brought c)
   reach_step_is (events.Deliver flight node cost) e = delivers_step flight node cost e
   reach_step_is (events.Inject node cost octets) e = injects_step node cost octets e
   reach_step_is (events.Tick seconds) e = ticks_step seconds

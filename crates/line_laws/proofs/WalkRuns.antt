@@ -116,7 +116,8 @@ walked_wider [] all more h = absurd h
 walked_wider (a ∷ rest) all more h = stand_wider (steps_toward (last_of a rest) (a ∷ rest)) all more h
 
 -- the step that comes last
-steps_more : (target : ℕ) (walk : List ℕ) (own to : ℕ) → steps_toward target ((walk ++ own ∷ []) ++ to ∷ []) ≡ steps_toward target (walk ++ own ∷ []) ++ record { from = own; to = to; target = target } ∷ []
+steps_more : (target : ℕ) (walk : List ℕ) (own to : ℕ) → steps_toward target ((walk ++ own ∷ []) ++ to ∷ []) ≡ steps_toward target (walk ++ own ∷ []) ++ record
+    { from = own; to = to; target = target } ∷ []
 steps_more target [] own to = refl
 steps_more target (a ∷ []) own to = refl
 steps_more target (a ∷ b ∷ rest) own to = ap (λ xs. record { from = a; to = b; target = target } ∷ xs) (steps_more target (b ∷ rest) own to)
@@ -169,8 +170,10 @@ other_walks : (walked : List Stepping) (to code : ℕ) (body : List ℕ) → cod
 other_walks walked to code body ne = λ five. absurd (ne five)
 
 -- what is spelled is what is read
-spelled_walks : (walked : List Stepping) (to : ℕ) (message : PathMessage) → IsPath message → MessageWalks walked to message → UnitWalks walked to (units.Local 5 (path_spelling message))
-spelled_walks walked to message fits h = λ five other read. subst (MessageWalks walked to) (same_Some message other (sym (paths_read message (path_spelling message) (fits, refl)) ∙ read)) h
+spelled_walks : (walked : List Stepping) (to : ℕ) (message : PathMessage) → IsPath message → MessageWalks walked to message
+    → UnitWalks walked to (units.Local 5 (path_spelling message))
+spelled_walks walked to message fits h = λ five other read. subst (MessageWalks walked to)
+    (same_Some message other (sym (paths_read message (path_spelling message) (fits, refl)) ∙ read)) h
 
 -- # Plans
 
@@ -197,7 +200,8 @@ module _ (walked : List Stepping) where
     abbrev IsAsked : Plan (Reaching Memory) (Result (Unit {0}) AskRefusal) → Type 0
     IsAsked p = Both AskBy p.answer p.failed p.frames
 
-    one_step : (own to : ℕ) → address_of m.station ≡ Some own → station_route m.station target ≡ Some to → asked x target (Ok tt) ≡ Some (record { from = own; to = to; target = target })
+    one_step : (own to : ℕ) → address_of m.station ≡ Some own → station_route m.station target ≡ Some to
+        → asked x target (Ok tt) ≡ Some (record { from = own; to = to; target = target })
     one_step own to address route =
         let at : node_address x ≡ Some own = ap (option_and_then (λ (n : Memory). address_of n.station)) here ∙ address in
         let way : node_route x target ≡ Some to = ap (option_and_then (λ (n : Memory). station_route n.station target)) here ∙ route in
@@ -216,7 +220,8 @@ module _ (walked : List Stepping) where
     first_fits : (own : ℕ) → IsAddress own → (target == own) ≡ false → IsPath (Ask target (own ∷ []))
     first_fits own fits other = (low, omega arith, omega arith, rw (lt-ltb own 0xFFFE fits) refl, not_in own other)
 
-    asks_walk : (own : ℕ) → IsAddress own → address_of m.station ≡ Some own → (target == own) ≡ false → (o : Option ℕ) → station_route m.station target ≡ o → IsAsked (asks_over in_memory y own target o)
+    asks_walk : (own : ℕ) → IsAddress own → address_of m.station ≡ Some own → (target == own) ≡ false → (o : Option ℕ) → station_route m.station target ≡ o
+        → IsAsked (asks_over in_memory y own target o)
     unfolding tells_neighbours empty_draft
     asks_walk own fits address other None route = refused_by AskBy fails ask_ends y ask_faults.NoRoute
     asks_walk own fits address other (Some to) route =
@@ -224,12 +229,15 @@ module _ (walked : List Stepping) where
         let is : asked x target (Ok tt) ≡ Some step = one_step own to address route in
         sealed_by_plan AskBy fails ask_ends y (tells_neighbours to 5 (path_spelling (Ask target (own ∷ []))) (empty_draft y)) tt (
           tt,
-          subst (λ o. All (FrameSays (UnitWalks (walked ++ one_of o))) (sealed_by m.station.ring m.station.counter.next (record { to = to; unit = units.Local 5 (path_spelling (Ask target (own ∷ []))); note = 0 } ∷ []))) (sym is)
+          subst (λ o. All (FrameSays (UnitWalks (walked ++ one_of o)))
+              (sealed_by m.station.ring m.station.counter.next (record { to = to; unit = units.Local 5 (path_spelling (Ask target (own ∷ []))); note = 0 } ∷
+              []))) (sym is)
               (one_sealed (UnitWalks (walked ++ step ∷ [])) m.station.ring m.station.counter.next to (units.Local 5 (path_spelling (Ask target (own ∷ [])))) 0
               (spelled_walks (walked ++ step ∷ []) to (Ask target (own ∷ [])) (first_fits own fits other) (last_in walked step))),
         )
 
-    chosen : (t : Bool) (p q : Plan (Reaching Memory) (Result (Unit {0}) AskRefusal)) → (t ≡ true → IsAsked p) → (t ≡ false → IsAsked q) → IsAsked (choose_plan t p q)
+    chosen : (t : Bool) (p q : Plan (Reaching Memory) (Result (Unit {0}) AskRefusal)) → (t ≡ true → IsAsked p) → (t ≡ false → IsAsked q)
+        → IsAsked (choose_plan t p q)
     unfolding choose_plan
     chosen true p q f g = f refl
     chosen false p q f g = g refl
@@ -237,10 +245,12 @@ module _ (walked : List Stepping) where
     ask_walks : ((own : ℕ) → address_of m.station ≡ Some own → IsAddress own) → IsAsked (ask_path in_memory y target)
     ask_walks fits = by_address (address_of m.station) refl
       where
-        by_address : (o : Option ℕ) → address_of m.station ≡ o → IsAsked (option_map_or (λ own. asks_from in_memory y own target) o (refused ask_ends y ask_faults.NotJoined))
+        by_address : (o : Option ℕ) → address_of m.station ≡ o → IsAsked
+            (option_map_or (λ own. asks_from in_memory y own target) o (refused ask_ends y ask_faults.NotJoined))
         by_address None e = refused_by AskBy fails ask_ends y ask_faults.NotJoined
         by_address (Some own) e =
-            chosen (target == own) (refused ask_ends y ask_faults.ToSelf) (asks_over in_memory y own target (station_route m.station target)) (λ self. refused_by AskBy fails ask_ends y ask_faults.ToSelf)
+            chosen (target == own) (refused ask_ends y ask_faults.ToSelf) (asks_over in_memory y own target (station_route m.station target))
+            (λ self. refused_by AskBy fails ask_ends y ask_faults.ToSelf)
             (λ other. asks_walk own (fits own e) e other (station_route m.station target) refl)
 
 -- # What becomes of a message
@@ -268,7 +278,9 @@ ask_leads own from next target walk = by_end (ends_with from walk)
     by_hop None f = tt
     by_hop (Some to) f = by_tests (has own walk) (target == own) (length walk == 15) refl
       where
-        by_tests : (s t u : Bool) → (target == own) ≡ t → AskLeads own target walk next (if s then Err path_faults.Revisited else (if t then Ok (Answers to (Tell (walk ++ own ∷ []))) else (if u then Err path_faults.PathLong else Ok (Forward to (Ask target (walk ++ own ∷ []))))))
+        by_tests : (s t u : Bool) → (target == own) ≡ t → AskLeads own target walk next
+            (if s then Err path_faults.Revisited else (if t then Ok (Answers to (Tell (walk ++ own ∷ []))) else
+            (if u then Err path_faults.PathLong else Ok (Forward to (Ask target (walk ++ own ∷ []))))))
         by_tests true t u e = tt
         by_tests false true u e = record { message = refl; target_is = eqb-true target own e }
         by_tests false false true e = tt
@@ -321,7 +333,8 @@ module _ (walked : List Stepping) (number : ℕ) (x : Node) (b : Beside) (m : Me
   dropped : (reason : ReachDropped) → IsDone (drop_it z reason)
   dropped reason = refused_by (HeardBy walked number x c) drops_walk reach_ends z reason
 
-  chosen_done : (t : Bool) (p q : Plan (Reaching Memory) (Result CommandHeard ReachDropped)) → (t ≡ true → IsDone p) → (t ≡ false → IsDone q) → IsDone (choose_plan t p q)
+  chosen_done : (t : Bool) (p q : Plan (Reaching Memory) (Result CommandHeard ReachDropped)) → (t ≡ true → IsDone p) → (t ≡ false → IsDone q)
+      → IsDone (choose_plan t p q)
   unfolding choose_plan
   chosen_done true p q f g = f refl
   chosen_done false p q f g = g refl
@@ -332,7 +345,8 @@ module _ (walked : List Stepping) (number : ℕ) (x : Node) (b : Beside) (m : Me
   ack_walks : (o : Option (ℕ × ℕ)) → IsDone (hear_acknowledgement_in z c.from o)
   unfolding resting
   ack_walks None = dropped (reach_drops.Known drops.BadUnit)
-  ack_walks (Some (count, origin)) = either (is_awaited b.checks c.from count origin) _ _ (record { whole = still walked; cut = still walked }) (dropped reach_drops.NotAwaited)
+  ack_walks (Some (count, origin)) = either (is_awaited b.checks c.from count origin) _ _ (record { whole = still walked; cut = still walked })
+      (dropped reach_drops.NotAwaited)
 
   admits_walk : (d : Broadcast) → IsDone (admits_broadcast in_memory z d)
   unfolding goes_further with_broadcast_mark tells_neighbours empty_draft
@@ -341,10 +355,16 @@ module _ (walked : List Stepping) (number : ℕ) (x : Node) (b : Beside) (m : Me
       marked : Draft (Reaching Memory)
       marked = with_broadcast_mark d.origin d.number (empty_draft z)
 
-      by_hops : (t : Bool) → IsDone (sealed (in_reach in_memory) reach_ends z (if t then marked else tells_neighbours to_all 4 (spelling (hop_less d)) marked) (heard_of.Broadcast d.origin d.number d.octets))
-      by_hops true = sealed_by_plan (HeardBy walked number x c) drops_walk reach_ends z marked (heard_of.Broadcast d.origin d.number d.octets) (tt, none_sealed (UnitWalks (walked ++ [])) m.station.ring m.station.counter.next)
-      by_hops false = sealed_by_plan (HeardBy walked number x c) drops_walk reach_ends z (tells_neighbours to_all 4 (spelling (hop_less d)) marked) (heard_of.Broadcast d.origin d.number d.octets)
-          (tt, one_sealed (UnitWalks (walked ++ [])) m.station.ring m.station.counter.next to_all (units.Local 4 (spelling (hop_less d))) 0 (other_walks (walked ++ []) to_all 4 (spelling (hop_less d)) (λ e. cc (e))))
+      by_hops : (t : Bool) → IsDone (sealed (in_reach in_memory) reach_ends z (if t then marked else tells_neighbours to_all 4 (spelling (hop_less d)) marked)
+          (heard_of.Broadcast d.origin d.number d.octets))
+      by_hops true = sealed_by_plan (HeardBy walked number x c) drops_walk reach_ends z marked (heard_of.Broadcast d.origin d.number d.octets)
+          (tt, none_sealed (UnitWalks (walked ++ [])) m.station.ring m.station.counter.next)
+      by_hops false = sealed_by_plan (HeardBy walked number x c) drops_walk reach_ends z (tells_neighbours to_all 4 (spelling (hop_less d)) marked)
+          (heard_of.Broadcast d.origin d.number d.octets) (
+            tt,
+            one_sealed (UnitWalks (walked ++ [])) m.station.ring m.station.counter.next to_all (units.Local 4 (spelling (hop_less d))) 0
+                (other_walks (walked ++ []) to_all 4 (spelling (hop_less d)) (λ e. cc (e))),
+          )
 
   broadcast_walks : (own : ℕ) (o : Option Broadcast) → IsDone (hear_broadcast_in in_memory z own o)
   unfolding checked_plan
@@ -357,65 +377,86 @@ module _ (walked : List Stepping) (number : ℕ) (x : Node) (b : Beside) (m : Me
 
   module _ (own : ℕ) (address : address_of m.station ≡ Some own) (low : IsAddress own) where
     -- what is sent on has walked, with the step that it takes
-    sends : (to : ℕ) (more : PathMessage) (word : CommandHeard) (stepping : Option Stepping) → step_by x c (Ok word) ≡ stepping → path_line number (Ok word) ≡ None → IsPath more → MessageWalks (walked ++ one_of stepping) to more
+    sends : (to : ℕ) (more : PathMessage) (word : CommandHeard) (stepping : Option Stepping) → step_by x c (Ok word) ≡ stepping
+        → path_line number (Ok word) ≡ None → IsPath more → MessageWalks (walked ++ one_of stepping) to more
         → IsDone (sealed (in_reach in_memory) reach_ends z (tells_neighbours to 5 (path_spelling more) (empty_draft z)) word)
     unfolding tells_neighbours empty_draft
     sends to more word stepping step silent fits h =
         sealed_by_plan (HeardBy walked number x c) drops_walk reach_ends z (tells_neighbours to 5 (path_spelling more) (empty_draft z)) word (
           rw silent tt,
-          subst (λ o. All (FrameSays (UnitWalks (walked ++ one_of o))) (sealed_by m.station.ring m.station.counter.next (record { to = to; unit = units.Local 5 (path_spelling more); note = 0 } ∷ []))) (sym step)
-              (one_sealed (UnitWalks (walked ++ one_of stepping)) m.station.ring m.station.counter.next to (units.Local 5 (path_spelling more)) 0 (spelled_walks (walked ++ one_of stepping) to more fits h)),
+          subst (λ o. All (FrameSays (UnitWalks (walked ++ one_of o)))
+              (sealed_by m.station.ring m.station.counter.next (record { to = to; unit = units.Local 5 (path_spelling more); note = 0 } ∷ []))) (sym step)
+              (one_sealed (UnitWalks (walked ++ one_of stepping)) m.station.ring m.station.counter.next to (units.Local 5 (path_spelling more)) 0
+              (spelled_walks (walked ++ one_of stepping) to more fits h)),
         )
 
-    ask_step : (target : ℕ) (walk : List ℕ) (to : ℕ) → path_in c.body ≡ Some (Ask target walk) → station_route m.station target ≡ Some to → step_by x c (Ok heard_of.Relayed) ≡ Some (record { from = own; to = to; target = target })
+    ask_step : (target : ℕ) (walk : List ℕ) (to : ℕ) → path_in c.body ≡ Some (Ask target walk) → station_route m.station target ≡ Some to
+        → step_by x c (Ok heard_of.Relayed) ≡ Some (record { from = own; to = to; target = target })
     ask_step target walk to read route =
         let at : node_address x ≡ Some own = ap (option_and_then (λ (n : Memory). address_of n.station)) here ∙ address in
         let way : node_route x target ≡ Some to = ap (option_and_then (λ (n : Memory). station_route n.station target)) here ∙ route in
         ap (goes_toward x) read ∙ rw (at, way) refl
 
-    ask_follows : (target : ℕ) (walk : List ℕ) → path_in c.body ≡ Some (Ask target walk) → MessageWalks walked own (Ask target walk) → (o : Result PathStep PathRefusal) → AskLeads own target walk (station_route m.station target) o → IfOk o IsPathStep → IsDone (follows_path in_memory z o)
+    ask_follows : (target : ℕ) (walk : List ℕ) → path_in c.body ≡ Some (Ask target walk) → MessageWalks walked own (Ask target walk)
+        → (o : Result PathStep PathRefusal) → AskLeads own target walk (station_route m.station target) o → IfOk o IsPathStep
+        → IsDone (follows_path in_memory z o)
     ask_follows target walk read h (Err reason) leads fits = dropped (path_word reason)
     ask_follows target walk read h (Ok (Forward to more)) leads fits =
         let step : Stepping = record { from = own; to = to; target = target } in
         sends to more heard_of.Relayed (Some step) (ask_step target walk to read leads.route) refl fits
         (subst (MessageWalks (walked ++ step ∷ []) to) (sym leads.message)
-        (subst (λ xs. StandIn xs (walked ++ step ∷ [])) (sym (steps_more target walk own to)) (stand_more (steps_toward target (walk ++ own ∷ [])) walked step h)))
+        (subst (λ xs. StandIn xs (walked ++ step ∷ [])) (sym (steps_more target walk own to))
+        (stand_more (steps_toward target (walk ++ own ∷ [])) walked step h)))
     ask_follows target walk read h (Ok (Answers to more)) leads fits =
         sends to more heard_of.Answered None refl refl fits
         (subst (MessageWalks (walked ++ []) to) (sym leads.message)
-        (walked_wider (walk ++ own ∷ []) walked [] (walked_to walk own walked (subst (λ t. StandIn (steps_toward t (walk ++ own ∷ [])) walked) leads.target_is h))))
+        (walked_wider (walk ++ own ∷ []) walked [] (walked_to walk own walked
+        (subst (λ t. StandIn (steps_toward t (walk ++ own ∷ [])) walked) leads.target_is h))))
     ask_follows target walk read h (Ok (Done w)) leads fits = absurd leads
 
-    tell_follows : (walk : List ℕ) → path_in c.body ≡ Some (Tell walk) → WasWalked walk walked → (o : Result PathStep PathRefusal) → TellLeads walk o → IfOk o IsPathStep → IsDone (follows_path in_memory z o)
+    tell_follows : (walk : List ℕ) → path_in c.body ≡ Some (Tell walk) → WasWalked walk walked → (o : Result PathStep PathRefusal) → TellLeads walk o
+        → IfOk o IsPathStep → IsDone (follows_path in_memory z o)
     unfolding resting
     tell_follows walk read h (Err reason) leads fits = dropped (path_word reason)
     tell_follows walk read h (Ok (Forward to more)) leads fits =
-        sends to more heard_of.Relayed None (ap (goes_toward x) read) refl fits (subst (MessageWalks (walked ++ []) to) (sym leads) (walked_wider walk walked [] h))
+        sends to more heard_of.Relayed None (ap (goes_toward x) read) refl fits
+        (subst (MessageWalks (walked ++ []) to) (sym leads) (walked_wider walk walked [] h))
     tell_follows walk read h (Ok (Answers to more)) leads fits = absurd leads
-    tell_follows walk read h (Ok (Done w)) leads fits = record { whole = (subst (λ v. WasWalked v walked) (sym leads) h, All-nil (FrameSays (UnitWalks (walked ++ [])))); cut = still walked }
+    tell_follows walk read h (Ok (Done w)) leads fits = record {
+      whole =
+          (subst (λ v. WasWalked v walked) (sym leads) h, All-nil (FrameSays (UnitWalks (walked ++ []))));
+      cut = still walked;
+    }
 
-    path_walks : (o : Option PathMessage) → path_in c.body ≡ o → ((message : PathMessage) → o ≡ Some message → IsPath message × MessageWalks walked own message) → IsDone (hear_path_in in_memory z own c.from o)
+    path_walks : (o : Option PathMessage) → path_in c.body ≡ o → ((message : PathMessage) → o ≡ Some message → IsPath message × MessageWalks walked own message)
+        → IsDone (hear_path_in in_memory z own c.from o)
     path_walks None read h = dropped (reach_drops.Known drops.BadUnit)
     path_walks (Some (Ask target walk)) read h =
         let k = h (Ask target walk) refl in
-        ask_follows target walk read k.1 (led own c.from (station_route m.station target) (Ask target walk)) (ask_leads own c.from (station_route m.station target) target walk) (taken_fits own c.from (station_route m.station target) (Ask target walk) low k.0)
+        ask_follows target walk read k.1 (led own c.from (station_route m.station target) (Ask target walk))
+        (ask_leads own c.from (station_route m.station target) target walk)
+        (taken_fits own c.from (station_route m.station target) (Ask target walk) low k.0)
     path_walks (Some (Tell walk)) read h =
         let k = h (Tell walk) refl in
         tell_follows walk read k.1 (led own c.from None (Tell walk)) (tell_leads own c.from None walk) (taken_fits own c.from None (Tell walk) low k.0)
 
-  command_walks : ((own : ℕ) → address_of m.station ≡ Some own → IsAddress own) → ((own : ℕ) → address_of m.station ≡ Some own → c.code ≡ 5 → c.to_all ≡ false → (message : PathMessage) → path_in c.body ≡ Some message → IsPath message × MessageWalks walked own message)
+  command_walks : ((own : ℕ) → address_of m.station ≡ Some own → IsAddress own)
+      → ((own : ℕ) → address_of m.station ≡ Some own → c.code ≡ 5 → c.to_all ≡ false → (message : PathMessage) → path_in c.body ≡ Some message
+      → IsPath message × MessageWalks walked own message)
       → IsDone (hear_command in_memory z c)
   command_walks low comes = by_address (address_of m.station) refl
     where
       bad : IsDone (drop_it z (reach_drops.Known drops.BadUnit))
       bad = dropped (reach_drops.Known drops.BadUnit)
 
-      by_address : (o : Option ℕ) → address_of m.station ≡ o → IsDone (option_map_or (λ own. hear_command_at in_memory z own c) o (drop_it z (reach_drops.Known drops.BadUnit)))
+      by_address : (o : Option ℕ) → address_of m.station ≡ o → IsDone (option_map_or (λ own. hear_command_at in_memory z own c) o
+          (drop_it z (reach_drops.Known drops.BadUnit)))
       by_address None e = bad
       by_address (Some own) e =
           either (c.code == 3) _ _ (either c.to_all _ _ bad (ack_walks (ack_in c.body)))
           (either (c.code == 4) _ _ (either c.to_all _ _ (broadcast_walks own (broadcast_in c.body)) bad)
-          (chosen_done (c.code == 5) _ _ (λ five. chosen_done c.to_all _ _ (λ all. bad) (λ one. path_walks own e (low own e) (path_in c.body) refl (comes own e (eqb-true c.code 5 five) one))) (λ other. bad)))
+          (chosen_done (c.code == 5) _ _ (λ five. chosen_done c.to_all _ _ (λ all. bad)
+          (λ one. path_walks own e (low own e) (path_in c.body) refl (comes own e (eqb-true c.code 5 five) one))) (λ other. bad)))
 
 -- # Events
 
@@ -437,7 +478,8 @@ abbrev SilentIn : Step → Type 0
 SilentIn (Ok r) = IsSilent r.1
 SilentIn (Err fault) = Unit {0}
 
-sent_silent : (w : World) (from to : ℕ) (datagram : List ℕ) (tag : ℕ) (t : Bool) (r : World × Trace) → IsSilent r.1 → IsSilent (sent_if w from to datagram tag t r).1
+sent_silent : (w : World) (from to : ℕ) (datagram : List ℕ) (tag : ℕ) (t : Bool) (r : World × Trace) → IsSilent r.1
+    → IsSilent (sent_if w from to datagram tag t r).1
 sent_silent w from to datagram tag true r h = record { path = h.path; stepping = h.stepping }
 sent_silent w from to datagram tag false r h = h
 
@@ -462,7 +504,8 @@ old_silent w event s (old.Ticks seconds) = record { path = refl; stepping = refl
 old_silent w event s (old.Restarts number x there) = record { path = refl; stepping = refl }
 old_silent w event s (old.Cuts number nth keeps_new x there) = record { path = refl; stepping = refl }
 
-module _ (w : World) (ok : WorldOk w) (s : WorldSpeaks w) (r : IsInRange w) (walked : List Stepping) (before : All (FlightSays (UnitWalks walked)) w.flights) where
+module _ (w : World) (ok : WorldOk w) (s : WorldSpeaks w) (r : IsInRange w) (walked : List Stepping)
+    (before : All (FlightSays (UnitWalks walked)) w.flights) where
   abbrev P : ℕ → MeshUnit → Type 0
   P = UnitWalks walked
 
@@ -474,7 +517,8 @@ module _ (w : World) (ok : WorldOk w) (s : WorldSpeaks w) (r : IsInRange w) (wal
   silent v t h all = record { line = rw h.path tt; flights = wider walked (one_of t.further.stepping) v.flights all }
 
   low_at : (number : ℕ) (x : Node) (m : Memory) → node_at w number ≡ Some x → x.memory ≡ Some m → (own : ℕ) → address_of m.station ≡ Some own → IsAddress own
-  low_at number x m there here own e = address_low x own (at_place NodeOk w.nodes number x there ok.nodes) (ap (option_and_then (λ (n : Memory). address_of n.station)) here ∙ e)
+  low_at number x m there here own e = address_low x own (at_place NodeOk w.nodes number x there ok.nodes)
+      (ap (option_and_then (λ (n : Memory). address_of n.station)) here ∙ e)
 
   -- all of another code
   abbrev CastSays : Result (Unit {0}) BroadcastRefusal → List Sent → Type 0
@@ -486,47 +530,73 @@ module _ (w : World) (ok : WorldOk w) (s : WorldSpeaks w) (r : IsInRange w) (wal
   abbrev ChoiceSays : Result ChosenAgent ChooseRefusal → List Sent → Type 0
   ChoiceSays answer sent = All IsOldFrame sent
 
-  bcast_walks : (x : Node) (b : Beside) (datagram : List ℕ) → All (FrameSays P) (reaches x b (Err broadcast_faults.Halted) (λ y. broadcast in_memory y datagram)).frames
+  bcast_walks : (x : Node) (b : Beside) (datagram : List ℕ) → All (FrameSays P)
+      (reaches x b (Err broadcast_faults.Halted) (λ y. broadcast in_memory y datagram)).frames
   unfolding checked_plan tells_neighbours with_broadcast_number empty_draft
-  bcast_walks x b datagram = acts_by CastSays x (Err broadcast_faults.Halted) (with_beside b (λ y. broadcast in_memory y datagram)) (All-nil (FrameSays P)) (λ m here. by_address m (address_of m.station))
+  bcast_walks x b datagram = acts_by CastSays x (Err broadcast_faults.Halted) (with_beside b (λ y. broadcast in_memory y datagram)) (All-nil (FrameSays P))
+      (λ m here. by_address m (address_of m.station))
     where
       reached : Memory → Reaching Memory
       reached m = record { memory = m; beside = b }
 
-      by_fault : (m : Memory) (own : ℕ) (o : Option BroadcastRefusal) → let p : Plan (Reaching Memory) (Result (Unit {0}) BroadcastRefusal) = checked_plan broadcast_ends (reached m) o (sealed (in_reach in_memory) broadcast_ends (reached m) (tells_neighbours to_all 4 (spelling (own_broadcast own b.log datagram)) (with_broadcast_number (empty_draft (reached m)))) tt) in Both CastSays p.answer p.failed p.frames
+      by_fault : (m : Memory) (own : ℕ) (o : Option BroadcastRefusal) → let p : Plan (Reaching Memory) (Result (Unit {0}) BroadcastRefusal) = checked_plan
+          broadcast_ends (reached m) o (sealed (in_reach in_memory) broadcast_ends (reached m)
+          (tells_neighbours to_all 4 (spelling (own_broadcast own b.log datagram)) (with_broadcast_number (empty_draft (reached m)))) tt) in Both CastSays
+          p.answer p.failed p.frames
       by_fault m own (Some reason) = refused_by CastSays (λ e. All-nil (FrameSays P)) broadcast_ends (reached m) reason
-      by_fault m own None = sealed_by_plan CastSays (λ e. All-nil (FrameSays P)) broadcast_ends (reached m) (tells_neighbours to_all 4 (spelling (own_broadcast own b.log datagram)) (with_broadcast_number (empty_draft (reached m)))) tt
-          (one_sealed P m.station.ring m.station.counter.next to_all (units.Local 4 (spelling (own_broadcast own b.log datagram))) 0 (other_walks walked to_all 4 (spelling (own_broadcast own b.log datagram)) (λ e. cc (e))))
+      by_fault m own None = sealed_by_plan CastSays (λ e. All-nil (FrameSays P)) broadcast_ends (reached m)
+          (tells_neighbours to_all 4 (spelling (own_broadcast own b.log datagram)) (with_broadcast_number (empty_draft (reached m)))) tt
+          (one_sealed P m.station.ring m.station.counter.next to_all (units.Local 4 (spelling (own_broadcast own b.log datagram))) 0
+          (other_walks walked to_all 4 (spelling (own_broadcast own b.log datagram)) (λ e. cc (e))))
 
-      by_address : (m : Memory) (o : Option ℕ) → let p : Plan (Reaching Memory) (Result (Unit {0}) BroadcastRefusal) = option_map_or (λ own. broadcast_from in_memory (reached m) own datagram) o (refused broadcast_ends (reached m) broadcast_faults.NotJoined) in Both CastSays p.answer p.failed p.frames
+      by_address : (m : Memory) (o : Option ℕ) → let p : Plan (Reaching Memory) (Result (Unit {0}) BroadcastRefusal) = option_map_or
+          (λ own. broadcast_from in_memory (reached m) own datagram) o (refused broadcast_ends (reached m) broadcast_faults.NotJoined) in Both CastSays p.answer
+          p.failed p.frames
       by_address m None = refused_by CastSays (λ e. All-nil (FrameSays P)) broadcast_ends (reached m) broadcast_faults.NotJoined
       by_address m (Some own) = by_fault m own (datagram_fault b.log datagram)
 
   -- a meter that joins by an agent
-  choice_old : (x : Node) (b : Beside) (own : meters.Identity) (k now : ℕ) → All IsOldFrame (reaches x b (Err choices.Halted) (λ y. choose_agent own y k now)).frames
+  choice_old : (x : Node) (b : Beside) (own : meters.Identity) (k now : ℕ)
+      → All IsOldFrame (reaches x b (Err choices.Halted) (λ y. choose_agent own y k now)).frames
   unfolding choose_plan resting
-  choice_old x b own k now = acts_by ChoiceSays x (Err choices.Halted) (with_beside b (λ y. choose_agent own y k now)) (All-nil IsOldFrame) (λ m here. by_joined m (meters.is_joined m))
+  choice_old x b own k now = acts_by ChoiceSays x (Err choices.Halted) (with_beside b (λ y. choose_agent own y k now)) (All-nil IsOldFrame)
+      (λ m here. by_joined m (meters.is_joined m))
     where
-      by_agent : (m : Memory) (o : Option (ℕ × ℕ)) → let p : Plan (Reaching Memory) (Result ChosenAgent ChooseRefusal) = joins_by own (record { memory = m; beside = b }) now o in Both ChoiceSays p.answer p.failed p.frames
+      by_agent : (m : Memory) (o : Option (ℕ × ℕ)) → let p : Plan (Reaching Memory) (Result ChosenAgent ChooseRefusal) = joins_by own
+          (record { memory = m; beside = b }) now o in Both ChoiceSays p.answer p.failed p.frames
       by_agent m None = record { whole = All-nil IsOldFrame; cut = All-nil IsOldFrame }
       by_agent m (Some (address, total)) = record { whole = joins_old own m address now; cut = All-nil IsOldFrame }
 
-      by_joined : (m : Memory) (t : Bool) → let p : Plan (Reaching Memory) (Result ChosenAgent ChooseRefusal) = (if t then refused choosing_ends (record { memory = m; beside = b }) choices.AlreadyJoined else joins_by own (record { memory = m; beside = b }) now (kth_of b.scan.agents k)) in Both ChoiceSays p.answer p.failed p.frames
+      by_joined : (m : Memory) (t : Bool) → let p : Plan (Reaching Memory) (Result ChosenAgent ChooseRefusal) =
+          (if t then refused choosing_ends (record { memory = m; beside = b }) choices.AlreadyJoined else joins_by own (record { memory = m; beside = b }) now
+          (kth_of b.scan.agents k)) in Both ChoiceSays p.answer p.failed p.frames
       by_joined m true = record { whole = All-nil IsOldFrame; cut = All-nil IsOldFrame }
       by_joined m false = by_agent m (kth_of b.scan.agents k)
 
   -- an acknowledgement
   ack_walks_at : (x : Node) (reply : Reply) → All (FrameSays P) (acknowledging x reply).frames
   unfolding sealed resting goes empty_draft
-  ack_walks_at x reply = acts_by AckSays x (Err locals.Store) (λ m. acknowledges in_memory reply.to reply.number reply.origin m) (All-nil (FrameSays P)) (λ m here. by_left m (nat_lt (counters_left m.station) 1))
+  ack_walks_at x reply = acts_by AckSays x (Err locals.Store) (λ m. acknowledges in_memory reply.to reply.number reply.origin m) (All-nil (FrameSays P))
+      (λ m here. by_left m (nat_lt (counters_left m.station) 1))
     where
-      by_left : (m : Memory) (t : Bool) → let p : Plan Memory (Result (Unit {0}) LocalRefusal) = within (λ l. with_station l m) (λ a. a) (if t then refused local_ends m.station local_ends.spent else sealing alone local_ends (local_draft m.station 3 (Some reply.to) (ack_spelling reply.number reply.origin)) (tt {0})) in Both AckSays p.answer p.failed p.frames
+      by_left : (m : Memory) (t : Bool) → let p : Plan Memory (Result (Unit {0}) LocalRefusal) = within (λ l. with_station l m) (λ a. a)
+          (if t then refused local_ends m.station local_ends.spent else sealing alone local_ends
+          (local_draft m.station 3 (Some reply.to) (ack_spelling reply.number reply.origin)) (tt {0})) in Both AckSays p.answer p.failed p.frames
       by_left m true = record { whole = All-nil (FrameSays P); cut = All-nil (FrameSays P) }
-      by_left m false = record { whole = one_sealed P m.station.ring m.station.counter.next reply.to (units.Local 3 (ack_spelling reply.number reply.origin)) 0 (other_walks walked reply.to 3 (ack_spelling reply.number reply.origin) (λ e. cc (e))); cut = All-nil (FrameSays P) }
+      by_left m false = record {
+        whole = one_sealed P m.station.ring m.station.counter.next reply.to (units.Local 3 (ack_spelling reply.number reply.origin)) 0
+            (other_walks walked reply.to 3 (ack_spelling reply.number reply.origin) (λ e. cc (e)));
+        cut = All-nil (FrameSays P);
+      }
 
   -- what has been discovered
-  discovered_walks : {A : Type 0} (number : ℕ) (word : A → Answer) (noticed : A → Option Noticed) (d : Discovering A) → let q : World × Trace = has_discovered w number word noticed d in WalksOn walked q.0 q.1
-  discovered_walks number word noticed d = record { line = tt; flights = wider walked [] (w.flights ++ discovery_flights number d.sent) (All-append (FlightSays P) w.flights (discovery_flights number d.sent) before (by_sent d.sent)) }
+  discovered_walks : {A : Type 0} (number : ℕ) (word : A → Answer) (noticed : A → Option Noticed) (d : Discovering A)
+      → let q : World × Trace = has_discovered w number word noticed d in WalksOn walked q.0 q.1
+  discovered_walks number word noticed d = record {
+    line = tt;
+    flights = wider walked [] (w.flights ++ discovery_flights number d.sent)
+        (All-append (FlightSays P) w.flights (discovery_flights number d.sent) before (by_sent d.sent));
+  }
     where
       by_sent : (o : Option Discovery) → All (FlightSays P) (discovery_flights number o)
       by_sent None = All-nil (FlightSays P)
@@ -547,7 +617,8 @@ module _ (w : World) (ok : WorldOk w) (s : WorldSpeaks w) (r : IsInRange w) (wal
     is_heard : forged_by w octets got.path ≡ false → IsHeard w event number x octets got
     is_heard honest = record { says = a.says; there = a.there; comes = a.comes; is = a.is; honest = honest }
 
-    commanded_walks : (c : NeighbourCommand) → command_of got ≡ Some c → h.1.happened.forged ≡ false → let q : World × Trace = commanded network number left c h in WalksOn walked q.0 q.1
+    commanded_walks : (c : NeighbourCommand) → command_of got ≡ Some c → h.1.happened.forged ≡ false
+        → let q : World × Trace = commanded network number left c h in WalksOn walked q.0 q.1
     unfolding told
     commanded_walks c e honest = record { line = by.0; flights = flown }
       where
@@ -569,7 +640,8 @@ module _ (w : World) (ok : WorldOk w) (s : WorldSpeaks w) (r : IsInRange w) (wal
         low : (m : Memory) → left.memory ≡ Some m → (own : ℕ) → address_of m.station ≡ Some own → IsAddress own
         low m here own at = let y = address_stays network w x octets got cost c e m here in low_at number x y.memory a.there y.there own (sym y.same ∙ at)
 
-        comes : (m : Memory) → left.memory ≡ Some m → (own : ℕ) → address_of m.station ≡ Some own → c.code ≡ 5 → c.to_all ≡ false → (message : PathMessage) → path_in c.body ≡ Some message → IsPath message × MessageWalks walked own message
+        comes : (m : Memory) → left.memory ≡ Some m → (own : ℕ) → address_of m.station ≡ Some own → c.code ≡ 5 → c.to_all ≡ false → (message : PathMessage)
+            → path_in c.body ≡ Some message → IsPath message × MessageWalks walked own message
         comes m here own at five one message read =
             let y = address_stays network w x octets got cost c e m here in
             let same : came.memory ≡ y.memory = same_Some _ _ (sym came.there ∙ y.there) in
@@ -578,14 +650,19 @@ module _ (w : World) (ok : WorldOk w) (s : WorldSpeaks w) (r : IsInRange w) (wal
             ((paths_spelled message c.body body read).0, subst (λ k. MessageWalks walked k message) to (known five message read))
 
         by : WalksBy walked (step_by left c d.answer) (path_line number d.answer) d.frames
-        by = acts_by (HeardBy walked number left c) left (Err (reach_drops.Known drops.Store)) (with_beside (beside_at w number) (λ y. hear_command in_memory y c)) (still walked) (λ m here. command_walks walked number left (beside_at w number) m here c (low m here) (comes m here))
+        by = acts_by (HeardBy walked number left c) left (Err (reach_drops.Known drops.Store))
+            (with_beside (beside_at w number) (λ y. hear_command in_memory y c)) (still walked)
+            (λ m here. command_walks walked number left (beside_at w number) m here c (low m here) (comes m here))
 
         flown : All (FlightSays (UnitWalks (walked ++ one_of (step_by left c d.answer)))) (told network h.0 number d).flights
-        flown = told_says (UnitWalks (walked ++ one_of (step_by left c d.answer))) h.0 number d (r.sends.commands event number x octets got cost c (is_heard unforged) e) by.1 (wider walked (one_of (step_by left c d.answer)) h.0.flights (heard_flights unforged))
+        flown = told_says (UnitWalks (walked ++ one_of (step_by left c d.answer))) h.0 number d
+            (r.sends.commands event number x octets got cost c (is_heard unforged) e) by.1
+            (wider walked (one_of (step_by left c d.answer)) h.0.flights (heard_flights unforged))
 
-    checked_walks : h.1.happened.forged ≡ false → let q : World × Trace = checked network w number got (heard_node network w x octets got cost) h in WalksOn walked q.0 q.1
+    checked_walks : h.1.happened.forged ≡ false → let q : World × Trace = checked network w number got (heard_node network w x octets got cost) h in WalksOn
+        walked q.0 q.1
     unfolding told
-    checked_walks honest = by_due (due got.path (message_of got) (heard_node network w x octets got cost).answer.answer)
+    checked_walks honest = by_due (due got.path (message_of got) (heard_node network w x octets got cost).answer.answer) refl
       where
         unforged : forged_by w octets got.path ≡ false
         unforged = (or_parts _ _ honest).0
@@ -593,14 +670,18 @@ module _ (w : World) (ok : WorldOk w) (s : WorldSpeaks w) (r : IsInRange w) (wal
         noted : World × Trace
         noted = with_check w number (reply_among (heard_node network w x octets got cost).frames) h
 
-        by_memory : (reply : Reply) (t : Bool) → let q : World × Trace = (if t then adds_frames (told network noted.0 number (acknowledging left reply)) noted.1 (acknowledging left reply) else sends_nothing w (told network noted.0 number (acknowledging left reply), noted.1)) in WalksOn walked q.0 q.1
-        by_memory reply true = silent _ _ (record { path = refl; stepping = refl })
-            (told_says P noted.0 number (acknowledging left reply) (r.sends.acknowledges event number x octets got cost reply (is_heard unforged)) (ack_walks_at left reply) (heard_flights unforged))
-        by_memory reply false = silent _ _ (record { path = refl; stepping = refl }) before
+        by_memory : (reply : Reply) → due got.path (message_of got) (heard_node network w x octets got cost).answer.answer ≡ Some reply → (t : Bool)
+            → let q : World × Trace = (if t then adds_frames (told network noted.0 number (acknowledging left reply)) noted.1 (acknowledging left reply) else
+            sends_nothing w (told network noted.0 number (acknowledging left reply), noted.1)) in WalksOn walked q.0 q.1
+        by_memory reply e true = silent _ _ (record { path = refl; stepping = refl })
+            (told_says P noted.0 number (acknowledging left reply) (r.sends.acknowledges event number x octets got cost reply (is_heard unforged) e)
+            (ack_walks_at left reply) (heard_flights unforged))
+        by_memory reply e false = silent _ _ (record { path = refl; stepping = refl }) before
 
-        by_due : (o : Option Reply) → let q : World × Trace = acknowledged_if network w number left o noted in WalksOn walked q.0 q.1
-        by_due None = silent _ _ (record { path = refl; stepping = refl }) (heard_flights unforged)
-        by_due (Some reply) = by_memory reply (is_some (acknowledging left reply).node.memory)
+        by_due : (o : Option Reply) → due got.path (message_of got) (heard_node network w x octets got cost).answer.answer ≡ o
+            → let q : World × Trace = acknowledged_if network w number left o noted in WalksOn walked q.0 q.1
+        by_due None e = silent _ _ (record { path = refl; stepping = refl }) (heard_flights unforged)
+        by_due (Some reply) e = by_memory reply e (is_some (acknowledging left reply).node.memory)
 
   old_walk : (event : Event) (st : Step) → old.IsStep network w event st → SilentIn st → WalksIn walked st
   old_walk event (Ok q) is h = λ honest. silent q.0 q.1 h (old_flights P any w ok s r.ranged event (Ok q) is honest before)
@@ -612,56 +693,85 @@ module _ (w : World) (ok : WorldOk w) (s : WorldSpeaks w) (r : IsInRange w) (wal
   walks_on event st (Rests e answer other none) = λ honest. silent _ _ (record { path = refl; stepping = refl }) before
   walks_on event st Opens = λ honest. silent _ _ (record { path = refl; stepping = refl }) before
   walks_on event st (Bcasts number x datagram there are) = λ honest. silent _ _ (record { path = refl; stepping = refl })
-      (told_says P (ran w) number (reaches x (beside_at w number) (Err broadcast_faults.Halted) (λ y. broadcast in_memory y datagram)) (r.sends.broadcasts number x datagram there are) (bcast_walks x (beside_at w number) datagram) before)
+      (told_says P (ran w) number (reaches x (beside_at w number) (Err broadcast_faults.Halted) (λ y. broadcast in_memory y datagram))
+      (r.sends.broadcasts number x datagram there are) (bcast_walks x (beside_at w number) datagram) before)
   walks_on event st (Asks from to x y target there other address) = λ honest.
       let d = reaches x (beside_at w from) (Err ask_faults.Halted) (λ z. ask_path in_memory z target) in
       let target_low : IsAddress target = address_low y target (at_place NodeOk w.nodes to y other ok.nodes) address in
       let by : WalksBy walked (asked x target d.answer) None d.frames =
-      acts_by (λ answer sent. WalksBy walked (asked x target answer) None sent) x (Err ask_faults.Halted) (with_beside (beside_at w from) (λ z. ask_path in_memory z target)) (still walked) (λ m here. ask_walks walked x (beside_at w from) m here target target_low (low_at from x m there here)) in
-      record { line = tt; flights = told_says (UnitWalks (walked ++ one_of (asked x target d.answer))) (ran w) from d (r.sends.asks from x target there) by.1 (wider walked (one_of (asked x target d.answer)) w.flights before) }
+      acts_by (λ answer sent. WalksBy walked (asked x target answer) None sent) x (Err ask_faults.Halted)
+      (with_beside (beside_at w from) (λ z. ask_path in_memory z target)) (still walked)
+      (λ m here. ask_walks walked x (beside_at w from) m here target target_low (low_at from x m there here)) in
+      record {
+        line = tt;
+        flights = told_says (UnitWalks (walked ++ one_of (asked x target d.answer))) (ran w) from d (r.sends.asks from x target there) by.1
+            (wider walked (one_of (asked x target d.answer)) w.flights before);
+      }
   walks_on event st (Scans number x m there here) = λ honest. discovered_walks number scan_word (scanning number) (begin_scan m (beside_at w number).scan)
   walks_on event st (Chooses number k x psk there pair) = λ honest.
       let d = reaches x (beside_at w number) (Err choices.Halted) (λ y. choose_agent (identity network x psk) y k w.clock) in
-      silent _ _ (record { path = refl; stepping = refl }) (told_as_before P any (ran w) number d (r.sends.choices number k x psk there pair) (choice_old x (beside_at w number) (identity network x psk) k w.clock) before)
+      silent _ _ (record { path = refl; stepping = refl }) (told_as_before P any (ran w) number d (r.sends.choices number k x psk there pair)
+      (choice_old x (beside_at w number) (identity network x psk) k w.clock) before)
   walks_on event st (Discovers e number x m octets link other there here comes is) = λ honest.
-      discovered_walks number discovery_word (beacon_taken number (discovery_in octets) link) (hear_discovery x.role m.station (beside_at w number).scan octets link)
-  walks_on event st (Unbelieves e number x octets got a is) = λ honest. silent _ _ (record { path = refl; stepping = refl }) (told_silently P (ran w) number (stays (after_accepting network x octets) (only said.Blacklisted)) refl before)
+      discovered_walks number discovery_word (beacon_taken number (discovery_in octets) link)
+      (hear_discovery x.role m.station (beside_at w number).scan octets link)
+  walks_on event st (Unbelieves e number x octets got a is) = λ honest. silent _ _ (record { path = refl; stepping = refl })
+      (told_silently P (ran w) number (stays (after_accepting network x octets) (only said.Blacklisted)) refl before)
   walks_on event st (Commands e number x octets cost got c a low passes is) = λ honest. commanded_walks event number x octets cost got a c is honest
   walks_on event st (Checked e number x octets cost got a low passes none on) = λ honest. checked_walks event number x octets cost got a (checked_honest honest)
     where
-      checked_honest : (checked network w number got (heard_node network w x octets got cost) (heard network w number (after_accepting network x octets) octets got cost)).1.happened.forged ≡ false → (heard network w number (after_accepting network x octets) octets got cost).1.happened.forged ≡ false
+      checked_honest : (checked network w number got (heard_node network w x octets got cost)
+          (heard network w number (after_accepting network x octets) octets got cost)).1.happened.forged ≡ false
+          → (heard network w number (after_accepting network x octets) octets got cost).1.happened.forged ≡ false
       checked_honest = by_due (due got.path (message_of got) (heard_node network w x octets got cost).answer.answer)
         where
           noted : World × Trace
-          noted = with_check w number (reply_among (heard_node network w x octets got cost).frames) (heard network w number (after_accepting network x octets) octets got cost)
+          noted = with_check w number (reply_among (heard_node network w x octets got cost).frames)
+              (heard network w number (after_accepting network x octets) octets got cost)
 
-          by_memory : (reply : Reply) (t : Bool) → (if t then adds_frames (told network noted.0 number (acknowledging (heard_node network w x octets got cost).node reply)) noted.1 (acknowledging (heard_node network w x octets got cost).node reply) else sends_nothing w (told network noted.0 number (acknowledging (heard_node network w x octets got cost).node reply), noted.1)).1.happened.forged ≡ false → noted.1.happened.forged ≡ false
+          by_memory : (reply : Reply) (t : Bool) → (if t then adds_frames
+              (told network noted.0 number (acknowledging (heard_node network w x octets got cost).node reply)) noted.1
+              (acknowledging (heard_node network w x octets got cost).node reply) else sends_nothing w
+              (told network noted.0 number (acknowledging (heard_node network w x octets got cost).node reply), noted.1)).1.happened.forged ≡ false
+              → noted.1.happened.forged ≡ false
           by_memory reply true e = e
           by_memory reply false e = e
 
-          by_due : (o : Option Reply) → (acknowledged_if network w number (heard_node network w x octets got cost).node o noted).1.happened.forged ≡ false → noted.1.happened.forged ≡ false
+          by_due : (o : Option Reply) → (acknowledged_if network w number (heard_node network w x octets got cost).node o noted).1.happened.forged ≡ false
+              → noted.1.happened.forged ≡ false
           by_due None e = e
           by_due (Some reply) e = by_memory reply (is_some (acknowledging (heard_node network w x octets got cost).node reply).node.memory) e
-  walks_on event st (Hears e number x octets cost got a low passes none off) = λ honest. silent _ _ (record { path = refl; stepping = refl }) (heard_flights event number x octets cost got a (or_parts _ _ honest).0)
+  walks_on event st (Hears e number x octets cost got a low passes none off) = λ honest. silent _ _ (record { path = refl; stepping = refl })
+      (heard_flights event number x octets cost got a (or_parts _ _ honest).0)
   walks_on event st (Ticks seconds) = λ honest. silent _ _ (record { path = refl; stepping = refl }) before
-  walks_on event st (Restarts number x b there read) = λ honest. silent _ _ (record { path = refl; stepping = refl }) (told_silently P (ran w) number (restarts x) refl before)
+  walks_on event st (Restarts number x b there read) = λ honest. silent _ _ (record { path = refl; stepping = refl })
+      (told_silently P (ran w) number (restarts x) refl before)
 
 -- # Runs
 
 steps_more_taken : (before : List Entry) (x : Entry) → steps_taken (before ++ x ∷ []) ≡ steps_taken before ++ one_of x.trace.further.stepping
 steps_more_taken [] x = append-nil (one_of x.trace.further.stepping)
-steps_more_taken (y ∷ before) x = ap (λ xs. one_of y.trace.further.stepping ++ xs) (steps_more_taken before x) ∙ sym (append_assoc (one_of y.trace.further.stepping) (steps_taken before) (one_of x.trace.further.stepping))
+steps_more_taken (y ∷ before) x = ap (λ xs. one_of y.trace.further.stepping ++ xs) (steps_more_taken before x) ∙ sym
+    (append_assoc (one_of y.trace.further.stepping) (steps_taken before) (one_of x.trace.further.stepping))
 
-all_walked : (w : World) → WorldOk w → WorldSpeaks w → LogsKept w → (before : List Entry) → All (FlightSays (UnitWalks (steps_taken before))) w.flights → (entries : List Entry) → AreEvents (events_of entries) → IsReachRun w entries → All HoldsAfter entries → HoldsAlong IsInRange w entries
+all_walked : (w : World) → WorldOk w → WorldSpeaks w → LogsKept w → (before : List Entry) → All (FlightSays (UnitWalks (steps_taken before))) w.flights
+    → (entries : List Entry) → AreEvents (events_of entries) → IsReachRun w entries → All HoldsAfter entries → HoldsAlong IsInRange w entries
     → AreWalkedAfter before entries
 all_walked w ok s logs before flights [] says run holds ranged = tt
 all_walked w ok s logs before flights (x ∷ xs) says run holds ranged = λ honest.
     let event = All-head IsEvent x.event (events_of xs) says in
-    let on : WalksOn (steps_taken before) x.after x.trace = subst (WalksIn (steps_taken before)) run.2 (walks_on w ok s ranged.0 (steps_taken before) flights x.event (line_step network w x.event) (reach_step_is network w logs x.event event)) honest in
-    let speaks : WorldSpeaks x.after = subst (SpeaksIn w ok s) run.2 (line_speaks w ok s logs x.event (line_step network w x.event) (line_step_is Octets Spelled network network_ranges w ok s.flights logs (octets_speak w ok s logs) x.event event)) in
+    let on : WalksOn (steps_taken before) x.after x.trace = subst (WalksIn (steps_taken before)) run.2
+    (walks_on w ok s ranged.0 (steps_taken before) flights x.event (line_step network w x.event) (reach_step_is network w logs x.event event)) honest in
+    let speaks : WorldSpeaks x.after = subst (SpeaksIn w ok s) run.2 (line_speaks w ok s logs x.event (line_step network w x.event)
+    (line_step_is Octets Spelled network network_ranges w ok s.flights logs (octets_speak w ok s logs) x.event event)) in
     let after = All-head HoldsAfter x xs holds in
-    let next : All (FlightSays (UnitWalks (steps_taken (before ++ x ∷ [])))) x.after.flights = subst (λ taken. All (FlightSays (UnitWalks taken)) x.after.flights) (sym (steps_more_taken before x)) on.flights in
-    (on.line, all_walked x.after after.line speaks after.logs (before ++ x ∷ []) next xs (All-tail IsEvent x.event (events_of xs) says) run.3 (All-tail HoldsAfter x xs holds) (ranged.1 honest))
+    let next : All (FlightSays (UnitWalks (steps_taken (before ++ x ∷ [])))) x.after.flights = subst
+    (λ taken. All (FlightSays (UnitWalks taken)) x.after.flights) (sym (steps_more_taken before x)) on.flights in (
+      on.line,
+      all_walked x.after after.line speaks after.logs (before ++ x ∷ []) next xs (All-tail IsEvent x.event (events_of xs) says) run.3
+          (All-tail HoldsAfter x xs holds) (ranged.1 honest),
+    )
 
 pub every_walk : EveryWalkWasTaken
-every_walk entries says run ranged = all_walked start start_ok start_speaks tt [] (All-nil (FlightSays (UnitWalks []))) entries says run (every_reach_run entries says run) ranged
+every_walk entries says run ranged = all_walked start start_ok start_speaks tt [] (All-nil (FlightSays (UnitWalks []))) entries says run
+    (every_reach_run entries says run) ranged

@@ -19,4 +19,6 @@ pub use laws::{
     others_may_not, plain_keeps, plans_split, running_keeps, sealing_keeps, storing_keeps,
     the_last_flights_say_all, the_start_holds, unsent_holds,
 };
-pub use reach_laws::{every_history_is_kept, every_log_is_kept, every_walk_was_taken};
+pub use reach_laws::{
+    every_broadcast_is_once, every_history_is_kept, every_log_is_kept, every_walk_was_taken,
+};
