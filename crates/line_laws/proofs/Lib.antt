@@ -164,3 +164,14 @@ pub mod FurtherLive
 pub mod FurtherRight
 pub mod FurtherRestarts
 pub mod FurtherTold
+pub mod ReachSteps
+pub mod ReachHistory
+pub mod ReachLogs
+pub mod OldUnits
+pub mod FlightsSay
+pub mod CommandsCome
+pub mod SendsSay
+pub mod WalkRuns
+pub mod MarkedLogs
+pub mod MarkedWorlds
+pub mod BroadcastRuns

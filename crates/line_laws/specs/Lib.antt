@@ -25,3 +25,4 @@ pub mod Later
 pub mod FurtherLines
 pub mod FurtherState
 pub mod LineAccounts
+pub mod Reach

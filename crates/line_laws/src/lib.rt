@@ -4,6 +4,7 @@
 mod laws;
 mod state_laws;
 mod more_laws;
+mod reach_laws;
 
 pub use laws::{
     beside_keeps, calls_keep_the_line, commands_keep_the_line, commands_may_be_sealed,
@@ -28,4 +29,6 @@ pub use more_laws::{
     every_reach_run_is_told_right, line_books_grow, line_flights_fall, line_nodes_accept_once,
     line_restarts_are_right, line_senders_are_right, line_steps_shut, line_tags_rise,
     line_traces_are_right, reach_runs_are_sized,
+pub use reach_laws::{
+    every_broadcast_is_once, every_history_is_kept, every_log_is_kept, every_walk_was_taken,
 };
