@@ -90,10 +90,10 @@ use Rattle.line_laws.proofs.Running.{start_ok}
 use Rattle.line_laws.proofs.SendsSay.{Both, acts_by, none_sealed, one_sealed, refused_by, sealed_by_plan}
 use Rattle.line_laws.proofs.Tellings as old
 use Rattle.line_laws.proofs.Worlds.{at_place}
-use Rattle.plc_base.specs.AdmittedNumbers.{Admitted, AllEarlier}
+use Rattle.store_tables.specs.AdmittedNumbers.{Admitted, AllEarlier}
 use Rattle.plc_base.specs.Keeper.{Records}
 use Rattle.plc_base.proofs.Faults.{then_none, when_none}
-use Rattle.plc_base.proofs.SlotTables.{slice_get-push}
+use Rattle.store_tables.proofs.SlotTables.{slice_get-push}
 use Rattle.broadcast_log.specs.declared.fault.LogFault.{LogFault}
 use Rattle.broadcast_log.specs.declared.fault.LogFault.TheVariants as log_faults
 use Rattle.broadcast_log.specs.Laws.{IsLogIn}

@@ -4,7 +4,7 @@ use Rattle.std.specs.Prelude.{slice_get}
 use Rattle.std.proofs.lemmas.Bool.{cases_eq}
 use Rattle.std.proofs.lemmas.List.{length-set}
 use Rattle.std.proofs.lemmas.Option.{same_Some}
-use Rattle.plc_base.proofs.SlotTables.{slice_get-set_other}
+use Rattle.store_tables.proofs.SlotTables.{slice_get-set_other}
 use Rattle.group_keys.specs.KeyBook as books
 use Rattle.pan_discovery.specs.declared.message.Discovery.{Discovery}
 use Rattle.node_rules.specs.Ciphers.{Ciphers}

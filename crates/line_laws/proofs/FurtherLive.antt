@@ -2,7 +2,7 @@
 use Rattle.std.proofs.Common.{◌≡◌, ℕ, ◌<◌, Bool, true, false, List, length, Some, Result, Ok, Err, refl, sym, ap, ◌∙◌, subst}
 use Rattle.std.specs.Prelude.{All, if◌then◌else◌, is_some, slice_get, slice_set}
 use Rattle.std.specs.Option.{option_map_or}
-use Rattle.plc_base.proofs.SlotTables.{slice_get-set}
+use Rattle.store_tables.proofs.SlotTables.{slice_get-set}
 use Rattle.plc_base.specs.declared.key.Key.{Key}
 use Rattle.mac_frames.specs.Reading.{head_in}
 use Rattle.mac_frames.specs.declared.head.MacHead.{MacHead}

@@ -5,7 +5,7 @@ use Rattle.std.specs.Option.{option_and_then, option_map_or}
 use Rattle.std.proofs.Math.Seq.{drop-append_seam}
 use Rattle.std.proofs.lemmas.List.{append_assoc, map-append}
 use Rattle.std.proofs.lemmas.List.Elements.{All-nil, All-cons}
-use Rattle.plc_base.proofs.SlotTables.{slice_get-set}
+use Rattle.store_tables.proofs.SlotTables.{slice_get-set}
 use Rattle.plc_base.specs.declared.key.Key.{Key}
 use Rattle.pan_discovery.specs.declared.message.Discovery.{Discovery}
 use Rattle.node_rules.specs.declared.heard.Accepted.{Accepted}

@@ -8,17 +8,17 @@ use Rattle.std.proofs.lemmas.Bool.{eqb-false, eqb-true}
 use Rattle.std.proofs.lemmas.List.{append-nil}
 use Rattle.std.proofs.lemmas.List.Elements.{All-nil, All-cons, All-head, All-tail, All-append, All-weaker}
 use Rattle.std.proofs.lemmas.Option.{same_Some, none-some}
-use Rattle.plc_base.specs.AdmittedNumbers.{Admitted}
+use Rattle.store_tables.specs.AdmittedNumbers.{Admitted}
 use Rattle.plc_base.specs.declared.address.Eui.{Eui}
 use Rattle.plc_base.specs.declared.keeper.BadStore.{BadStore}
 use Rattle.plc_base.specs.Fields.{AreOctets}
 use Rattle.plc_base.specs.Keeper.{Puts, Records, Store, Write}
-use Rattle.plc_base.specs.LeadingPuts.{Left, PutsLead, Reads}
-use Rattle.plc_base.specs.SlotTables.{slot_of}
-use Rattle.plc_base.specs.Writes.{Written, puts_of, write}
+use Rattle.store_tables.specs.LeadingPuts.{Left, PutsLead, Reads}
+use Rattle.store_tables.specs.SlotTables.{slot_of}
+use Rattle.store_tables.specs.Writes.{Written, puts_of, write}
 use Rattle.plc_base.proofs.Faults.{then_none, when_none}
-use Rattle.plc_base.proofs.LeadingPuts.{leads_append, leads_beside, leads_one, left_by}
-use Rattle.plc_base.proofs.SlotTables.{slice_get-map, slice_get-set, slice_get-set_other}
+use Rattle.store_tables.proofs.LeadingPuts.{leads_append, leads_beside, leads_one, left_by}
+use Rattle.store_tables.proofs.SlotTables.{slice_get-map, slice_get-set, slice_get-set_other}
 use Rattle.broadcast_log.specs.declared.broadcast.Broadcast.{Broadcast}
 use Rattle.broadcast_log.specs.declared.fault.LogFault.{LogFault}
 use Rattle.broadcast_log.specs.declared.fault.LogFault.TheVariants as log_faults

@@ -4,7 +4,7 @@ use Rattle.std.specs.Prelude.{if◌then◌else◌, ◌==◌, All, is_some, nat_l
 use Rattle.std.specs.Option.{option_map, option_map_or}
 use Rattle.std.proofs.lemmas.Bool.{eq-eqb, eqb-false, eqb-true}
 use Rattle.std.proofs.lemmas.List.Elements.{All-head, All-tail}
-use Rattle.plc_base.proofs.SlotTables.{slice_get-map, slice_get-set, slice_get-set_other}
+use Rattle.store_tables.proofs.SlotTables.{slice_get-map, slice_get-set, slice_get-set_other}
 use Rattle.plc_base.specs.declared.keeper.BadStore.{BadStore}
 use Rattle.broadcast_log.specs.declared.broadcast.Broadcast.{Broadcast}
 use Rattle.broadcast_log.specs.Grammar.{spelling}
@@ -45,7 +45,7 @@ use Rattle.node_rules.specs.Calls as calls
 use Rattle.node_rules.specs.declared.refusal.SendRefusal.TheVariants as sends
 use Rattle.node_rules.specs.Plans.{Plan, Outcome, carry_out, finished, halted as cut_off, outcome_of, resting}
 use Rattle.node_rules.specs.Replies.{reply_among}
-use Rattle.plc_base.specs.Writes.{Written, write}
+use Rattle.store_tables.specs.Writes.{Written, write}
 use Rattle.reach_rules.specs.declared.heard.CommandHeard.{CommandHeard}
 use Rattle.reach_rules.specs.declared.heard.CommandHeard.TheVariants as heard_of
 use Rattle.reach_rules.specs.declared.heard.DiscoveryHeard.{DiscoveryHeard}

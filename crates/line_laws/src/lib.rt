@@ -29,6 +29,7 @@ pub use more_laws::{
     every_reach_run_is_told_right, line_books_grow, line_flights_fall, line_nodes_accept_once,
     line_restarts_are_right, line_senders_are_right, line_steps_shut, line_tags_rise,
     line_traces_are_right, reach_runs_are_sized,
+};
 pub use reach_laws::{
     every_broadcast_is_once, every_history_is_kept, every_log_is_kept, every_walk_was_taken,
 };
