@@ -1,9 +1,9 @@
 -- A broadcast is handed up once by each node, and as another node sent it: each that flies was sent, and what was handed up is marked.
 use Rattle.std.proofs.Common.{⊎_elim, inl, inr, ◌≡◌, ◌≢◌, ◌⊎◌, ℕ, zero, suc, ◌+◌, ◌-◌, ◌^◌, ◌≤◌, ◌<◌, Bool, true, false, List, [], ◌∷◌, ◌++◌, length, Option, Some, None, Result, Ok, Err, refl, sym, ap, ◌∙◌, subst, arith}
-use Rattle.std.specs.Prelude.{◌==◌, ◌||◌, All, IfSome, if◌then◌else◌, is_some, map, nat_lt, slice_get, slice_set}
+use Rattle.std.specs.Prelude.{◌==◌, ◌||◌, All, IfSome, if◌then◌else◌, is_some, nat_lt, slice_get, slice_set}
 use Rattle.std.specs.Option.{option_map, option_map_or, option_and_then}
 use Rattle.std.proofs.lemmas.Bool.{eqb-false, eqb-true, ltb-false, or_parts}
-use Rattle.std.proofs.lemmas.Option.{same_Some, none-some}
+use Rattle.std.proofs.lemmas.Option.{same_Some}
 use Rattle.std.proofs.lemmas.List.{append-nil, append_assoc, length-set}
 use Rattle.std.proofs.lemmas.List.Elements.{All-nil, All-cons, All-head, All-tail, All-append, All-weaker}
 use Rattle.plc_base.specs.Addresses.{IsAddress}
@@ -16,7 +16,7 @@ use Rattle.broadcast_log.specs.Reading.{broadcast_in}
 use Rattle.neighbour_checks.specs.Acks.{ack_in, ack_spelling}
 use Rattle.neighbour_checks.specs.Neighbours.{is_awaited}
 use Rattle.path_requests.specs.declared.message.PathMessage.{PathMessage}
-use Rattle.path_requests.specs.declared.message.PathMessage.TheVariants.{Ask, Tell}
+use Rattle.path_requests.specs.declared.message.PathMessage.TheVariants.{Ask}
 use Rattle.path_requests.specs.declared.step.PathStep.{PathStep}
 use Rattle.path_requests.specs.declared.step.PathStep.TheVariants.{Forward, Answer as Answers, Done}
 use Rattle.path_requests.specs.declared.step.PathRefusal.{PathRefusal}
@@ -29,9 +29,9 @@ use Rattle.node_rules.specs.declared.refusal.Dropped.TheVariants as drops
 use Rattle.node_rules.specs.declared.refusal.LocalRefusal.{LocalRefusal}
 use Rattle.node_rules.specs.declared.refusal.LocalRefusal.TheVariants as locals
 use Rattle.node_rules.specs.Ciphers.{network}
-use Rattle.node_rules.specs.Drafts.{Draft, choose as choose_plan, checked as checked_plan, alone, counters_left, empty_draft, goes, refused, sealed, sealed_by, sealing}
+use Rattle.node_rules.specs.Drafts.{choose as choose_plan, checked as checked_plan, alone, counters_left, empty_draft, goes, refused, sealed, sealed_by, sealing}
 use Rattle.node_rules.specs.Frames.{Sent, to_all}
-use Rattle.node_rules.specs.Memory.{StationMemory, Memory, Node, address_of, node_address, station_route}
+use Rattle.node_rules.specs.Memory.{Memory, Node, address_of, node_address, station_route}
 use Rattle.node_rules.specs.MemoryDrafts.{in_memory, with_station}
 use Rattle.node_rules.specs.Meters as meters
 use Rattle.node_rules.specs.Neighbours.{local_draft, local_ends}
@@ -65,21 +65,20 @@ use Rattle.line_rules.specs.declared.event.Event.{Event}
 use Rattle.line_rules.specs.declared.happenings.BroadcastUp.{BroadcastUp}
 use Rattle.line_rules.specs.Answers.{discovery_word, only, scan_word, sent_word}
 use Rattle.line_rules.specs.Events.{AreEvents, IsEvent, IsLineOctets}
-use Rattle.line_rules.specs.Further.{acknowledged_if, acknowledging, adds_frames, asks_by, beacon_taken, beside_at, broadcast_sent, broadcast_up, broadcasts_by, checked, chooses_by, commanded, discovery_flights, due, has_discovered, line_step, reaches, scanning, sends_nothing, with_beside, with_check}
+use Rattle.line_rules.specs.Further.{acknowledged_if, acknowledging, adds_frames, beacon_taken, beside_at, broadcast_sent, broadcast_up, checked, commanded, discovery_flights, due, has_discovered, line_step, reaches, scanning, sends_nothing, with_beside, with_check}
 use Rattle.line_rules.specs.FurtherRuns.{AreBroadcastOnce, AreBroadcastOnceAfter, IsFirst, WasBroadcast, broadcast_ups, broadcasts}
 use Rattle.line_rules.specs.Logs.{LogIn, LogsKept}
-use Rattle.line_rules.specs.Runs.{Entry, all_of, events_of, one_of}
+use Rattle.line_rules.specs.Runs.{Entry, IsRun, events_of, one_of}
 use Rattle.line_rules.specs.Steps.{Step, acted, forged_by, heard, identity, is_taken, note_by, ran, restarts, sent_if, tag_of, told}
 use Rattle.line_rules.specs.Worlds.{Broadcasting, Flight, Noticed, Trace, World, node_at, start}
-use Rattle.line_laws.specs.FurtherLines.{HoldsAfter, IsReachRun}
-use Rattle.line_laws.specs.Letters.{IsSent}
+use Rattle.line_laws.specs.FurtherLines.{HoldsAfter}
 use Rattle.line_laws.specs.Lines.{NodeOk, WorldOk}
-use Rattle.line_laws.specs.Reach.{AreAtHome, EveryBroadcastIsOnce, HoldsAlong, IsHeard, IsInRange}
+use Rattle.line_laws.specs.Reach.{AreAtHome, HoldsAlong, IsHeard, IsInRange}
 use Rattle.line_laws.proofs.CommandsCome.{CommandCame, address_stays, command_came, command_says}
 use Rattle.line_laws.proofs.FlightFolds.{address_low, came_octets}
 use Rattle.line_laws.proofs.FlightsSay.{FlightSays, FrameSays, discovery_says, heard_says, old_flights, told_as_before, told_says, told_silently}
 use Rattle.line_laws.proofs.FurtherLogs.{commands_fit}
-use Rattle.line_laws.proofs.FurtherOctets.{every_reach_run, line_speaks, octets_speak, Octets, Spelled}
+use Rattle.line_laws.proofs.FurtherOctets.{line_speaks, octets_speak, Octets, Spelled}
 use Rattle.line_laws.proofs.FurtherTellings.{line_step_is}
 use Rattle.line_laws.proofs.LetterAccepts.{to_of}
 use Rattle.line_laws.proofs.OctetRuns.{SpeaksIn, WorldSpeaks, start_speaks}
@@ -105,7 +104,7 @@ use Rattle.reach_rules.specs.Broadcasts.{mark_fault}
 use Rattle.line_rules.proofs.LogSteps.{logged_at}
 use Rattle.line_rules.proofs.StepsOn.{line_steps}
 use Rattle.line_laws.proofs.MarkedLogs.{Among, Covered, Marked, MarkedIn, quiet_marks}
-use Rattle.line_laws.proofs.MarkedWorlds.{MarkedWorld, MarksOn, NoneUp, marks_on, heard_quiet, node_within}
+use Rattle.line_laws.proofs.MarkedWorlds.{MarkedWorld, MarksOn, marks_on, heard_quiet, node_within}
 use Rattle.line_laws.proofs.FurtherSteps.{tables_short}
 
 -- # Broadcasts that were sent
@@ -729,7 +728,7 @@ was_sent home sent u from h apart = record {
 }
 
 all_once : (home : ℕ → ℕ) (w : World) → WorldOk w → WorldSpeaks w → LogsKept w → (before : List Entry)
-    → CastHolds home (broadcasts before) (broadcast_ups before) w → (entries : List Entry) → AreEvents (events_of entries) → IsReachRun w entries
+    → CastHolds home (broadcasts before) (broadcast_ups before) w → (entries : List Entry) → AreEvents (events_of entries) → IsRun network w entries
     → All HoldsAfter entries
     → HoldsAlong (λ v. IsInRange v × AreAtHome home v) w entries → AreBroadcastOnceAfter before entries
 all_once home w ok s logs before h [] says run holds ranged = tt
@@ -775,8 +774,9 @@ all_once home w ok s logs before h (x ∷ xs) says run holds ranged = λ honest.
     up_of None f = tt
     up_of (Some u) f = (was_sent home (broadcasts before) u h.from f.0 f.1, f.2)
 
-pub every_broadcast : EveryBroadcastIsOnce
-every_broadcast home entries says run ranged =
+pub broadcast_once : (home : ℕ → ℕ) → (entries : List Entry) → AreEvents (events_of entries)
+    → IsRun network start entries → All HoldsAfter entries → HoldsAlong (λ w. IsInRange w × AreAtHome home w) start entries → AreBroadcastOnce entries
+broadcast_once home entries says run holds ranged =
     all_once home start start_ok start_speaks tt [] (record {
       from = All-nil (λ (b : Broadcasting). b.address ≡ home b.node);
       earlier = All-nil
@@ -784,4 +784,4 @@ every_broadcast home entries says run ranged =
       marked = λ n x there. absurd (cc (there));
       flights = All-nil (FlightSays (UnitSent []));
     }) entries says run
-    (every_reach_run entries says run) ranged
+    holds ranged

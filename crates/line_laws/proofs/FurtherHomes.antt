@@ -5,10 +5,8 @@ use Rattle.group_keys.specs.KeyBook as books
 use Rattle.node_rules.specs.Ciphers.{network}
 use Rattle.line_rules.specs.Events.{AreEvents, IsEvent}
 use Rattle.line_rules.specs.Further.{line_step}
-use Rattle.line_rules.specs.Runs.{Entry, events_of, issued}
-use Rattle.line_rules.specs.Worlds.{World, start}
-use Rattle.line_laws.specs.FurtherLines.{IsReachRun}
-use Rattle.line_laws.specs.FurtherState.{NoFlightComesToLife, StayFallen}
+use Rattle.line_rules.specs.Runs.{Entry, IsRun, events_of, issued}
+use Rattle.line_rules.specs.Worlds.{World}
 use Rattle.line_laws.specs.Live.{book_of, live}
 use Rattle.line_laws.specs.Places.{LiveFalls}
 use Rattle.line_laws.proofs.AddressBook.{Grows, one_book}
@@ -17,7 +15,7 @@ use Rattle.line_laws.proofs.CustodySteps.{HomedAt}
 use Rattle.line_laws.proofs.FurtherForms.{AnyUnits}
 use Rattle.line_laws.proofs.FurtherLoops.{book_grows, euis_stay, nodes_stay}
 use Rattle.line_laws.proofs.FurtherSame.{AnyDiscovery}
-use Rattle.line_laws.proofs.FurtherStates.{LeadsTo, Sound, Stands, sound_on, start_sound}
+use Rattle.line_laws.proofs.FurtherStates.{LeadsTo, Sound, Stands, sound_on}
 use Rattle.line_laws.proofs.FurtherTellings.{any_speaks, line_follows, line_step_is}
 use Rattle.line_laws.proofs.LiveRuns.{none_falls, some_book}
 use Rattle.line_laws.proofs.MarkSteps.{FollowsIn}
@@ -60,7 +58,7 @@ module _ (w : World) (before : List Entry) (o : Sound w before) (x : Entry) (eve
 true_false : true ≡ false → ⊥
 true_false e = cc
 
-pub reach_homes : (w : World) (before : List Entry) → Sound w before → (entries : List Entry) → AreEvents (events_of entries) → IsReachRun w entries
+pub reach_homes : (w : World) (before : List Entry) → Sound w before → (entries : List Entry) → AreEvents (events_of entries) → IsRun network w entries
     → HomesFor w entries
 reach_homes w before o [] says run = let here = homes_at w (issued before) o.keyed in
     record { home = here.home; apart = here.apart; first = here.first; along = here.at }
@@ -82,16 +80,3 @@ reach_homes w before o (x ∷ xs) says run =
           first = rest.first;
           along = (homed_before w before o x event run.2 e rest.home (homed_here rest.home x.after xs rest.along), λ same. rest.along);
         }
-
-fallen_from : (w : World) (before : List Entry) → Sound w before → (entries : List Entry) → AreEvents (events_of entries) → IsReachRun w entries
-    → StayFallen w entries
-fallen_from w before o [] says run = tt
-fallen_from w before o (x ∷ xs) says run = λ honest.
-    let event = All-head IsEvent x.event (events_of xs) says in (
-      falls w before o x event run.2 honest,
-      fallen_from x.after (before ++ x ∷ []) (sound_on w before o x event run.2 honest) xs
-          (All-tail IsEvent x.event (events_of xs) says) run.3,
-    )
-
-pub no_flight_rises : NoFlightComesToLife
-no_flight_rises entries says run = fallen_from start [] start_sound entries says run

@@ -21,16 +21,14 @@ use Rattle.line_rules.specs.Events.{AreEvents, IsEvent}
 use Rattle.line_rules.specs.Forgery.{accepting}
 use Rattle.line_rules.specs.Further.{beside_at, line_step, reaches, with_beside}
 use Rattle.line_rules.specs.Logs.{LogsKept}
-use Rattle.line_rules.specs.Runs.{Entry, events_of, issued}
+use Rattle.line_rules.specs.Runs.{Entry, IsRun, events_of, issued}
 use Rattle.line_rules.specs.Steps.{Step, identity, ran}
 use Rattle.line_rules.specs.Worlds.{World, Trace, Issued, start, node_at}
 use Rattle.line_rules.proofs.StepsOn.{line_steps}
-use Rattle.line_laws.specs.FurtherLines.{IsReachRun}
-use Rattle.line_laws.specs.FurtherState.{EveryReachRunIsLoopFree}
 use Rattle.line_laws.specs.Keyed.{Keyed}
 use Rattle.line_laws.specs.Lines.{FlightFits, WorldOk}
 use Rattle.line_rules.specs.SafeRuns.{HasNoLoop}
-use Rattle.line_laws.specs.Loops.{AreLoopFree, RanksRise}
+use Rattle.line_laws.specs.Loops.{AreLoopFree, RanksRise, EveryRunIsLoopFree}
 use Rattle.line_laws.specs.Owed.{AreOctets, KeepsRanges}
 use Rattle.line_laws.specs.Ranked.{Homes, RoutingHolds, homes_of}
 use Rattle.line_laws.proofs.AddressBook.{Grows, one_book}
@@ -205,7 +203,7 @@ module _ (w : World) (before : List Entry) (o : Routed w before) (x : Entry) (ev
     (after honest).later,
   )
 
-loop_free_from : (w : World) (before : List Entry) → Routed w before → (entries : List Entry) → AreEvents (events_of entries) → IsReachRun w entries
+loop_free_from : (w : World) (before : List Entry) → Routed w before → (entries : List Entry) → AreEvents (events_of entries) → IsRun network w entries
     → AreLoopFree w entries
 loop_free_from w before o [] says run = tt
 loop_free_from w before o (x ∷ xs) says run = λ honest.
@@ -217,5 +215,5 @@ loop_free_from w before o (x ∷ xs) says run = λ honest.
           run.3,
     )
 
-pub every_reach_loop_free : EveryReachRunIsLoopFree
-every_reach_loop_free entries says run = loop_free_from start [] (record { sound = start_sound; routes = start_routed start_sound.keyed.book }) entries says run
+pub every_run : EveryRunIsLoopFree
+every_run entries r = loop_free_from start [] (record { sound = start_sound; routes = start_routed start_sound.keyed.book }) entries r.events r.run

@@ -15,12 +15,13 @@ use Rattle.line_rules.specs.declared.event.StepFault.TheVariants as faults
 use Rattle.line_rules.specs.Events.{AreEvents, IsEvent}
 use Rattle.line_rules.specs.Further.{line_step, restarts_by, restarts_further}
 use Rattle.line_rules.specs.Logs.{LogsKept}
-use Rattle.line_rules.specs.Runs.{Entry, events_of}
+use Rattle.line_rules.specs.Runs.{Entry, IsRun, events_of}
 use Rattle.line_rules.specs.SafeRuns.{is_restart}
 use Rattle.line_rules.specs.Steps.{Step, has_begun, ran, restarts}
 use Rattle.line_rules.specs.Worlds.{World, node_at, start}
-use Rattle.line_laws.specs.FurtherLines.{IsReachRun, LogsHold, StepHolds}
-use Rattle.line_laws.specs.LineAccounts.{LineKicksShut, LineRestartsAreRight, ReachRunsAreSized, RestartIn}
+use Rattle.line_laws.specs.FurtherLines.{LogsHold, StepHolds}
+use Rattle.line_laws.specs.Laws.{EveryNetworkRunIsSized}
+use Rattle.line_laws.specs.LineAccounts.{LineKicksShut, LineRestartsAreRight, RestartIn}
 use Rattle.line_laws.specs.Lines.{NodeOk, WorldOk}
 use Rattle.line_laws.proofs.FurtherLogs.{line_logs_hold}
 use Rattle.line_laws.proofs.FurtherOctets.{Octets, Spelled, line_speaks, octets_speak}
@@ -84,7 +85,7 @@ line_kicks_shut ciphers w ok number v t e kicked okv = kicked_out ciphers w ok n
 
 -- # Sizes
 
-sizes_hold : (w : World) → WorldOk w → WorldSpeaks w → LogsKept w → (entries : List Entry) → AreEvents (events_of entries) → IsReachRun w entries
+sizes_hold : (w : World) → WorldOk w → WorldSpeaks w → LogsKept w → (entries : List Entry) → AreEvents (events_of entries) → IsRun network w entries
     → All EntrySized entries
 sizes_hold w ok s logs [] says run = All-nil EntrySized
 sizes_hold w ok s logs (x ∷ xs) says run =
@@ -97,5 +98,5 @@ sizes_hold w ok s logs (x ∷ xs) says run =
     All-cons EntrySized x xs (world_within x.after held.0.0 next, held.0.1)
     (sizes_hold x.after held.0.0 next kept xs (All-tail IsEvent x.event (events_of xs) says) run.3)
 
-pub reach_runs_sized : ReachRunsAreSized
-reach_runs_sized entries says run = sizes_hold start start_ok start_speaks tt entries says run
+pub every_size : EveryNetworkRunIsSized
+every_size entries r = sizes_hold start start_ok start_speaks tt entries r.events r.run

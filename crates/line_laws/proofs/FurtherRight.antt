@@ -71,10 +71,10 @@ use Rattle.line_rules.specs.Forgery.{Comes, IsForged, accepting}
 use Rattle.line_rules.specs.Further.{line_step, agent_line, asks_by, beacon_taken, beside_at, broadcasts_by, choice_word, chooses_by, commanded, discovers_by, discovery_flights, due, due_of, has_discovered, is_reply_taken, acknowledged, acknowledging, adds_frames, bcast, of_memory, scanning, unbelieved, scans_by, sends_nothing, with_beside}
 use Rattle.line_rules.specs.Logs.{LogsKept}
 use Rattle.line_rules.specs.Steps.{Step, acted, forged_by, happened, has_begun, identity, is_taken, note_by, ran, set_up, told, trace_of}
-use Rattle.line_rules.specs.Traces.{Adds, IsTracedRight, is_done, is_issue, is_took, is_up}
+use Rattle.line_rules.specs.Traces.{Adds, IsTracedRight, is_broadcast, is_done, is_issue, is_took, is_up}
 use Rattle.line_rules.specs.Worlds.{World, Trace, Further, Noticed, nothing_further, node_at}
 use Rattle.line_rules.specs.Runs.{Entry}
-use Rattle.line_laws.specs.LineAccounts.{IsLineTraced, LineTracesRight, is_broadcast}
+use Rattle.line_laws.specs.LineAccounts.{LineTracesRight}
 use Rattle.line_laws.specs.Lines.{FlightFits, WorldOk}
 use Rattle.line_laws.specs.Owed.{KeepsRanges}
 use Rattle.line_laws.proofs.FurtherEvents.{IsFurtherStep, IsHeard, checks_so, found_none, further_step_is, heard_so, hearing, taker}
@@ -84,7 +84,7 @@ use Rattle.line_laws.proofs.FurtherSenders.{known}
 use Rattle.line_laws.proofs.FurtherSteps.{ack_is, hears_nothing}
 use Rattle.line_laws.proofs.FurtherTellings.{untold}
 use Rattle.line_laws.proofs.Tellings.{Hears}
-use Rattle.line_laws.proofs.TracesRight.{Good, NoneCame, Plain, Right, acted_right, drop_fits, entry, false_true, forged_right, quiet_adds, quiet_right, ran_counted, received_right, right, still_right, told_counted, told_flights, told_made, unbrought, unforged}
+use Rattle.line_laws.proofs.TracesRight.{Good, IsTracedSo, NoneCame, Plain, Right, acted_right, drop_fits, entry, false_true, forged_right, quiet_adds, quiet_right, ran_counted, received_right, right, still_right, told_counted, told_flights, told_made, unbrought, unforged}
 use Rattle.line_laws.proofs.IssueMeters.{joins_opened}
 use Rattle.line_laws.proofs.IssueNodes.{acts_opened}
 
@@ -499,7 +499,7 @@ module _ (ciphers : Ciphers) (fits : KeepsRanges ciphers) (w : World) (ok : Worl
   -- What is right of an event; what the history has is that of one that is no broadcast.
   record RightOn (x : Entry) : Type 0 where
     adds : Adds w x
-    traced : is_broadcast x.event ≡ false → IsTracedRight w x
+    traced : is_broadcast x.event ≡ false → IsTracedSo w x
     forged : (x.trace.happened.forged ≡ true) ↔ IsForged ciphers w x.event x.trace.opened
 
   abbrev GoodOn : ℕ → Event → Step → Type 0
@@ -553,12 +553,12 @@ module _ (ciphers : Ciphers) (fits : KeepsRanges ciphers) (w : World) (ok : Worl
   -- # What the history has
 
   abbrev TracedIn : ℕ → Event → Step → Type 0
-  TracedIn n event (Ok r) = IsLineTraced w (entry n event r)
+  TracedIn n event (Ok r) = IsTracedRight w (entry n event r)
   TracedIn n event (Err fault) = Unit {0}
 
   -- of a broadcast
   spreads_traced : (n number : ℕ) (x : Node) (datagram : List ℕ)
-      → IsLineTraced w (entry n (events.Bcast number datagram) (broadcasts_by ciphers w number x datagram))
+      → IsTracedRight w (entry n (events.Bcast number datagram) (broadcasts_by ciphers w number x datagram))
   spreads_traced n number x datagram =
       let b = acts x (Err broadcasts.Halted) (with_beside (beside_at w number) (λ y. broadcast in_memory y datagram)) in
       let p = spread_word b.answer in
@@ -588,7 +588,7 @@ module _ (ciphers : Ciphers) (fits : KeepsRanges ciphers) (w : World) (ok : Worl
       by_begun true (Some x) = spreads_traced n number x datagram
 
   -- of any other event
-  other_traced : (x : Entry) → is_broadcast x.event ≡ false → IsTracedRight w x → IsLineTraced w x
+  other_traced : (x : Entry) → is_broadcast x.event ≡ false → IsTracedSo w x → IsTracedRight w x
   other_traced x other r = record {
     sent = r.sent ∙ sym (ap (λ b. is_taken x.trace.happened.answer && not b) other ∙ and_true (is_taken x.trace.happened.answer));
     send = r.send;
@@ -610,12 +610,12 @@ line_traces_right ciphers fits w ok flown logs x says e = record { adds = g.adds
     g = subst (GoodOn ciphers fits w ok flown logs x.number x.event) e
         (line_right ciphers fits w ok flown logs x.number x.event (line_step ciphers w x.event) (further_step_is ciphers w logs x.event says))
 
-    by_spread : (number : ℕ) (datagram : List ℕ) → x.event ≡ events.Bcast number datagram → IsLineTraced w x
+    by_spread : (number : ℕ) (datagram : List ℕ) → x.event ≡ events.Bcast number datagram → IsTracedRight w x
     by_spread number datagram is = subst (TracedIn ciphers fits w ok flown logs x.number x.event) e
         (subst (λ (k : Event). TracedIn ciphers fits w ok flown logs x.number k (line_step ciphers w k)) (sym is)
         (bcast_traced ciphers fits w ok flown logs x.number number datagram))
 
-    traced : IsLineTraced w x
+    traced : IsTracedRight w x
     traced = ⊎_elim
         (λ (s : (number : ℕ) × (datagram : List ℕ) × (x.event ≡ events.Bcast number datagram)). by_spread s.0 s.1 s.2)
         (λ (other : is_broadcast x.event ≡ false). other_traced ciphers fits w ok flown logs x other (g.traced other))

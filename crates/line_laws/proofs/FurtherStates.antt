@@ -5,20 +5,19 @@ use Rattle.std.proofs.lemmas.Bool.{cases_eq}
 use Rattle.std.proofs.lemmas.List.Elements.{All-head, All-tail}
 use Rattle.node_rules.specs.Ciphers.{network}
 use Rattle.node_rules.specs.Memory.{Node, Coordinator}
-use Rattle.line_rules.specs.Agreement.{AgreesAfter, NodeHasKey}
+use Rattle.line_rules.specs.Agreement.{NodeHasKey}
 use Rattle.line_rules.specs.Events.{AreEvents, IsEvent}
 use Rattle.line_rules.specs.Further.{line_step}
 use Rattle.line_rules.specs.Logs.{LogsKept}
-use Rattle.line_rules.specs.Runs.{Entry, events_of, issued, one_of, takings}
+use Rattle.line_rules.specs.Runs.{Entry, IsRun, events_of, issued, one_of, takings}
 use Rattle.line_rules.specs.Worlds.{World, Issued, Pairing, node_at, start}
 use Rattle.line_laws.specs.Agreed.{Confirmed}
-use Rattle.line_laws.specs.FurtherLines.{IsReachRun, LogsHold, StepHolds}
-use Rattle.line_laws.specs.FurtherState.{EveryIssuedKeyStood, EveryReachJoiningAgrees, EveryReachRunIsRanged, IssuedStood, OnlyIssuedKeysInReach, StayRanged}
-use Rattle.line_laws.specs.Issued.{IsIssuedAfter}
+use Rattle.line_laws.specs.FurtherLines.{LogsHold, StepHolds}
+use Rattle.line_laws.specs.FurtherState.{EveryIssuedKeyStood, EveryRunIsRanged, IssuedStood, StayRanged}
 use Rattle.line_laws.specs.Keyed.{Among, Each, IsMeter, Keyed}
 use Rattle.line_laws.specs.Lines.{WorldOk}
 use Rattle.line_laws.specs.Ranges.{WorldRanged}
-use Rattle.line_laws.proofs.AgreeRuns.{Agreed_in, agreed, if_taken}
+use Rattle.line_laws.proofs.AgreeRuns.{Agreed_in, agreed}
 use Rattle.line_laws.proofs.FurtherAgrees.{line_agrees, line_keys_stood, line_names}
 use Rattle.line_laws.proofs.FurtherKeyed.{line_keyed}
 use Rattle.line_laws.proofs.FurtherLogs.{line_logs_hold}
@@ -26,7 +25,7 @@ use Rattle.line_laws.proofs.FurtherOctets.{line_speaks, octets_speak, Octets, Sp
 use Rattle.line_laws.proofs.FurtherRanges.{LineRangedIn, line_ranged}
 use Rattle.line_laws.proofs.FurtherSteps.{line_steps_hold}
 use Rattle.line_laws.proofs.FurtherTellings.{line_step_is}
-use Rattle.line_laws.proofs.IssueRuns.{IsNamed, Kept, all_of_one, kept, start_keyed, world_holds}
+use Rattle.line_laws.proofs.IssueRuns.{IsNamed, Kept, all_of_one, kept, start_keyed}
 use Rattle.line_laws.proofs.IssueWords.{each_append}
 use Rattle.line_laws.proofs.IssuedNamed.{StepNamed}
 use Rattle.line_laws.proofs.KeysStood.{IssuedBy}
@@ -116,33 +115,14 @@ start_sound = record {
   confirmed = tt;
 }
 
-ranged_from : (w : World) (before : List Entry) → Sound w before → (entries : List Entry) → AreEvents (events_of entries) → IsReachRun w entries
+ranged_from : (w : World) (before : List Entry) → Sound w before → (entries : List Entry) → AreEvents (events_of entries) → IsRun network w entries
     → StayRanged entries
 ranged_from w before o [] says run = tt
 ranged_from w before o (x ∷ xs) says run = λ honest.
     let next = sound_on w before o x (All-head IsEvent x.event (events_of xs) says) run.2 honest in
     (next.ranged, ranged_from x.after (before ++ x ∷ []) next xs (All-tail IsEvent x.event (events_of xs) says) run.3)
 
-issued_from : (w : World) (before : List Entry) → Sound w before → (entries : List Entry) → AreEvents (events_of entries) → IsReachRun w entries
-    → IsIssuedAfter before entries
-issued_from w before o [] says run = tt
-issued_from w before o (x ∷ xs) says run = λ honest.
-    let next = sound_on w before o x (All-head IsEvent x.event (events_of xs) says) run.2 honest in (
-      world_holds x.after (issued (before ++ x ∷ [])) next.stands.ok next.keyed next.named,
-      issued_from x.after (before ++ x ∷ []) next xs
-          (All-tail IsEvent x.event (events_of xs) says) run.3,
-    )
-
-agrees_from : (w : World) (before : List Entry) → Sound w before → (entries : List Entry) → AreEvents (events_of entries) → IsReachRun w entries
-    → AgreesAfter before entries
-agrees_from w before o [] says run = tt
-agrees_from w before o (x ∷ xs) says run = λ honest.
-    let event = All-head IsEvent x.event (events_of xs) says in (
-      if_taken x.trace.done (takings before) (agreed_on w before o x event run.2 honest).1,
-      agrees_from x.after (before ++ x ∷ []) (sound_on w before o x event run.2 honest) xs (All-tail IsEvent x.event (events_of xs) says) run.3,
-    )
-
-stood_from : (w : World) (before : List Entry) → Sound w before → (entries : List Entry) → AreEvents (events_of entries) → IsReachRun w entries
+stood_from : (w : World) (before : List Entry) → Sound w before → (entries : List Entry) → AreEvents (events_of entries) → IsRun network w entries
     → IssuedStood w entries
 stood_from w before o [] says run = tt
 stood_from w before o (x ∷ xs) says run =
@@ -151,14 +131,8 @@ stood_from w before o (x ∷ xs) says run =
       λ honest. stood_from x.after (before ++ x ∷ []) (sound_on w before o x event run.2 honest) xs (All-tail IsEvent x.event (events_of xs) says) run.3,
     )
 
-pub every_run_ranged : EveryReachRunIsRanged
-every_run_ranged entries says run = ranged_from start [] start_sound entries says run
-
-pub only_issued_in_reach : OnlyIssuedKeysInReach
-only_issued_in_reach entries says run = issued_from start [] start_sound entries says run
-
-pub every_joining_agrees : EveryReachJoiningAgrees
-every_joining_agrees entries says run = agrees_from start [] start_sound entries says run
+pub every_run_ranged : EveryRunIsRanged
+every_run_ranged entries r = ranged_from start [] start_sound entries r.events r.run
 
 pub every_issued_stood : EveryIssuedKeyStood
-every_issued_stood entries says run = stood_from start [] start_sound entries says run
+every_issued_stood entries r = stood_from start [] start_sound entries r.events r.run

@@ -1,35 +1,35 @@
 -- What a run of the network with further reach hands up before it is forged was sent, and nothing is handed up twice, where its traces are right.
 use Rattle.std.proofs.Common.{zero-le, ◌≡◌, ℕ, ◌+◌, ◌<◌, List, [], ◌∷◌, ◌++◌, length, Option, Some, None, append-nil, refl, sym, ap, ◌∙◌, subst}
 use Rattle.std.proofs.Common.{arith}
-use Rattle.std.specs.Prelude.{All, AllPairs, IfSome, is_some, slice_get}
+use Rattle.std.specs.Prelude.{◌&&◌, not, All, AllPairs, IfSome, is_some, slice_get}
 use Rattle.std.specs.Option.{option_to_list}
 use Rattle.std.proofs.lemmas.List.{append_assoc, length-append}
-use Rattle.std.proofs.lemmas.List.Elements.{All-append, All-head, All-nil, All-push, All-tail}
+use Rattle.std.proofs.lemmas.List.Elements.{All-head, All-nil, All-push, All-tail}
 use Rattle.node_rules.specs.Ciphers.{network}
 use Rattle.node_rules.proofs.NetworkOpens.{network_opens_again}
 use Rattle.line_rules.specs.declared.event.Event.{Event}
 use Rattle.line_rules.specs.declared.event.Event.TheVariants as events
 use Rattle.line_rules.specs.declared.happenings.Handed.{Handed}
 use Rattle.line_rules.specs.Events.{AreEvents, IsEvent}
-use Rattle.line_rules.specs.Runs.{Entry, events_of, one_of, sends as sends_of, ups as ups_of}
+use Rattle.line_rules.specs.Runs.{Entry, IsRun, events_of, one_of, sends as sends_of, ups as ups_of}
 use Rattle.line_rules.specs.SafeRuns.{IsNew, WasSent}
-use Rattle.line_rules.specs.Traces.{AreTracedRight, ComesTo, CountsRight, IsSendOf, is_up}
+use Rattle.line_rules.specs.Traces.{AreTracedRight, ComesTo, CountsRight, is_broadcast, is_up}
 use Rattle.line_rules.specs.Steps.{is_taken}
 use Rattle.line_rules.specs.Worlds.{World, Sending, start}
-use Rattle.line_laws.specs.FurtherLines.{IsReachRun}
-use Rattle.line_laws.specs.FurtherState.{EveryReachUpWasSent}
 use Rattle.line_laws.specs.InCustody.{Custody, FlightIsOf, SentUnder, sent_as}
 use Rattle.line_laws.specs.Letters.{IsFlight}
 use Rattle.line_laws.specs.Live.{live}
 use Rattle.line_laws.specs.Ranges.{NodeRanged}
 use Rattle.line_laws.specs.Tags.{TagRises}
-use Rattle.line_laws.specs.Ups.{UpsAreSentAfter}
+use Rattle.line_laws.specs.Ups.{EveryDatagramWasSent, UpsAreSentAfter}
 use Rattle.line_laws.proofs.CustodyHomes.{HomedAlong, homed_here}
 use Rattle.line_laws.proofs.CustodyRuns.{After, is_new, none_lists, noted, number_at, slice_middle, was_sent}
 use Rattle.line_laws.proofs.FurtherCustody.{Done, line_done}
 use Rattle.line_laws.proofs.FurtherHomes.{falls, reach_homes}
+use Rattle.line_laws.proofs.FurtherOctets.{every_flight}
 use Rattle.line_laws.proofs.FurtherStates.{Sound, sound_on, start_sound}
 use Rattle.line_laws.proofs.IssueRuns.{all_of_one}
+use Rattle.line_laws.proofs.LawRuns.{every_count, every_send, every_tag, every_trace}
 use Rattle.line_laws.proofs.Readings.{network_ranges}
 
 none_some : {A : Type 0} (x : A) → None ≡ Some x → ⊥
@@ -38,21 +38,6 @@ none_some x e = cc
 one_list : {A : Type 0} (o : Option A) → option_to_list o ≡ one_of o
 one_list None = refl
 one_list (Some a) = refl
-
--- no datagram that was sent is empty
-some_sends : (w : World) (entries : List Entry) → AreEvents (events_of entries) → AreTracedRight w entries
-    → All (λ (s : Sending). 0 < length s.datagram) (sends_of entries)
-some_sends w [] says traced = All-nil (λ (s : Sending). 0 < length s.datagram)
-some_sends w (x ∷ xs) says traced =
-    All-append (λ (s : Sending). 0 < length s.datagram) (one_of x.trace.sent) (sends_of xs)
-    (by_sent x.trace.sent traced.0.send (All-head IsEvent x.event (events_of xs) says))
-    (some_sends x.after xs (All-tail IsEvent x.event (events_of xs) says) traced.1)
-  where
-    by_sent : (o : Option Sending) → IfSome o (IsSendOf w x.event) → IsEvent x.event → All (λ (s : Sending). 0 < length s.datagram) (one_of o)
-    by_sent None h event = All-nil (λ (s : Sending). 0 < length s.datagram)
-    by_sent (Some s) h event =
-        let is : IsEvent (events.Send s.from s.to s.datagram) = subst IsEvent h.fields event in
-        All-push (λ (z : Sending). 0 < length z.datagram) [] s (All-nil (λ (z : Sending). 0 < length z.datagram)) is.2.0
 
 module _ (home : ℕ → ℕ) (apart : (i j : ℕ) → home i ≡ home j → i ≡ j) (first : home 0 ≡ 0) (sent : List Sending) (rises : AllPairs TagRises sent)
     (some : All (λ (s : Sending). 0 < length s.datagram) sent) where
@@ -65,7 +50,7 @@ module _ (home : ℕ → ℕ) (apart : (i j : ℕ) → home i ≡ home j → i �
 
   ups_from : (w : World) (before : List Entry) → Sound w before → w.sends ≡ length (sends_of before)
       → Custody network live (SentUnder home sent) home w (ups_of before) → All IsNoted (ups_of before) → (entries : List Entry) → AreEvents (events_of entries)
-      → IsReachRun w entries → sent ≡ sends_of before ++ sends_of entries → HomedAlong home w entries → CountsRight w entries → AreTracedRight w entries
+      → IsRun network w entries → sent ≡ sends_of before ++ sends_of entries → HomedAlong home w entries → CountsRight w entries → AreTracedRight w entries
       → UpsAreSentAfter before entries
   ups_from w before o count c all [] says run same homed counts traced = tt
   ups_from w before o count c all (x ∷ xs) says run same homed counts traced = λ honest.
@@ -102,13 +87,13 @@ module _ (home : ℕ → ℕ) (apart : (i j : ℕ) → home i ≡ home j → i �
           some w x.event u (h.handed u refl))
 
       by_up : (p : Option Handed) → x.trace.happened.up ≡ p → AfterIt w x.event (ups_of before) x.after p
-          → is_some x.trace.sent ≡ is_taken x.trace.happened.answer → is_some p ≡ is_up x.trace.happened.answer
+          → is_some x.trace.sent ≡ (is_taken x.trace.happened.answer && not (is_broadcast x.event)) → is_some p ≡ is_up x.trace.happened.answer
           → IfSome p (λ (u : Handed). ComesTo x.event u.node)
           → x.after.sends ≡ w.sends + length (one_of x.trace.sent) → IfSome p (λ (up : Handed). WasSent up (sends_of before) × IsNew up (ups_of before))
       by_up None e h st ut at adds = tt
       by_up (Some u) e h st ut at adds =
           let none : x.trace.sent ≡ None = none_lists network network_opens_again network_ranges live (λ w f e. e) home apart sent rises some x.trace.sent
-          (Some u) x.trace.happened.answer st ut u refl in
+          (Some u) x.trace.happened.answer (not (is_broadcast x.event)) st ut u refl in
           let zero_more : length (one_of x.trace.sent) ≡ 0 = ap (λ (q : Option Sending). length (one_of q)) none in
           let up = h.handed u refl in (
             was_sent network network_opens_again network_ranges live (λ w f e. e) home apart sent rises some w x.after x.event u (ups_of before)
@@ -117,10 +102,14 @@ module _ (home : ℕ → ℕ) (apart : (i j : ℕ) → home i ≡ home j → i �
                 (noted network network_opens_again network_ranges live (λ w f e. e) home apart sent rises some w x.event u up) h.custody,
           )
 
-pub every_up : EveryReachUpWasSent
-every_up entries says run counts traced rises =
-    let h = reach_homes start [] start_sound entries says run in
-    ups_from h.home h.apart h.first (sends_of entries) rises (some_sends start entries says traced) start [] start_sound refl
+-- in every run of the network
+pub every_up : EveryDatagramWasSent
+every_up entries r =
+    let fly = every_flight entries r in
+    let traced = every_trace network network_ranges entries r fly in
+    let h = reach_homes start [] start_sound entries r.events r.run in
+    ups_from h.home h.apart h.first (sends_of entries) (every_tag network network_ranges entries r fly) (every_send network network_ranges entries r fly)
+    start [] start_sound refl
     (record {
       flights = All-nil (IsFlight network);
       ranged = All-nil NodeRanged;
@@ -128,4 +117,5 @@ every_up entries says run counts traced rises =
       nodes = λ number x e. absurd (none_some x e);
       places = record { at_most = λ n i some. zero-le };
     })
-    (All-nil (λ (u : Handed). (0 < u.note) × (0 < length u.octets))) entries says run refl h.along counts traced
+    (All-nil (λ (u : Handed). (0 < u.note) × (0 < length u.octets))) entries r.events r.run refl h.along
+    (every_count network network_ranges entries r fly) traced

@@ -163,7 +163,6 @@ pub mod FurtherTags
 pub mod FurtherLive
 pub mod FurtherRight
 pub mod FurtherRestarts
-pub mod FurtherTold
 pub mod ReachSteps
 pub mod ReachHistory
 pub mod ReachLogs
@@ -175,3 +174,6 @@ pub mod WalkRuns
 pub mod MarkedLogs
 pub mod MarkedWorlds
 pub mod BroadcastRuns
+pub mod LineRuns
+pub mod KeyedRuns
+pub mod ReachRuns

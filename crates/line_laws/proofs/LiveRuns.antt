@@ -6,7 +6,6 @@ use Rattle.std.specs.Option.{option_map, option_map_or, option_and_then}
 use Rattle.std.proofs.lemmas.Bool.{and_parts, cases_eq, eqb-true, eq-eqb}
 use Rattle.std.proofs.lemmas.Option.{same_Some, none-some}
 use Rattle.std.proofs.lemmas.Slice.Eq.{bytes_eq-Decides}
-use Rattle.std.proofs.lemmas.List.Elements.{All-nil, All-head, All-tail}
 use Rattle.plc_base.specs.Keeper.{Records}
 use Rattle.plc_base.specs.declared.address.Eui.{Eui}
 use Rattle.plc_base.specs.declared.key.Key.{Key}
@@ -32,13 +31,12 @@ use Rattle.node_rules.specs.NodeSteps.{of_station}
 use Rattle.line_rules.specs.Answers.{frame_word}
 use Rattle.line_rules.specs.declared.event.Event.{Event}
 use Rattle.line_rules.specs.declared.event.StepFault.TheVariants as faults
-use Rattle.line_rules.specs.Events.{IsEvent, AreEvents}
+use Rattle.line_rules.specs.Events.{IsEvent}
 use Rattle.line_rules.specs.Forgery.{Comes, OfFlight, OfScript, accepting}
-use Rattle.line_rules.specs.Runs.{Entry, IsRun, events_of, issued}
-use Rattle.line_rules.specs.Worlds.{World, Flight, Trace, Issued, node_at, has_octets, start}
+use Rattle.line_rules.specs.Runs.{Entry}
+use Rattle.line_rules.specs.Worlds.{World, Flight, Trace, Issued, node_at, has_octets}
 use Rattle.line_rules.specs.Steps.{Step, memory_by, once_begun, has_begun, on_flight, ran, told, trace_of, happened, heard, hears, note_by, arrives, deliver, inject, step}
-use Rattle.line_laws.specs.Live.{holding, marks_of, admits, book_in, book_of, home_by, home, is_past, is_live, live, FlightsFall, FlightsAlwaysFall, EveryFlightFalls}
-use Rattle.line_laws.specs.Laws.{FlightsAreOctets}
+use Rattle.line_laws.specs.Live.{holding, marks_of, admits, book_in, book_of, home_by, home, is_past, is_live, live, FlightsFall}
 use Rattle.line_laws.specs.Owed.{AreOctets, KeepsRanges}
 use Rattle.line_laws.specs.Places.{LiveFalls, first_place, opened_by, opened_at}
 use Rattle.line_laws.specs.Stores.{IsBookKept, IsKept}
@@ -52,14 +50,13 @@ use Rattle.line_laws.proofs.CoordinatorCalls.{accept_failed, admitted_fits}
 use Rattle.line_laws.proofs.ForgeryRight.{some_passes, any_at}
 use Rattle.line_laws.proofs.Nodes.{NodeOk}
 use Rattle.line_laws.proofs.Worlds.{FlightFits, WorldOk, within as place_within, at_place}
-use Rattle.line_laws.proofs.Running.{start_ok, taken_good}
+use Rattle.line_laws.proofs.Running.{taken_good}
 use Rattle.line_laws.proofs.AddressBook.{Grows, one_book}
 use Rattle.line_laws.proofs.AddressWorlds.{one_meter, above_nought, meter_address, coordinator_address}
 use Rattle.line_laws.proofs.FlightFolds.{came_octets}
 use Rattle.line_laws.proofs.IssueNodes.{acts_whole}
 use Rattle.line_laws.proofs.IssueWorlds.{Keyed, IsMeter}
-use Rattle.line_laws.proofs.IssueSteps.{step_keyed}
-use Rattle.line_laws.proofs.IssueRuns.{Kept, kept, all_of_one, start_keyed, EntryFlies}
+use Rattle.line_laws.proofs.IssueRuns.{kept}
 use Rattle.line_laws.proofs.Tellings.{step_is}
 use Rattle.line_laws.proofs.BookGrowth.{Goes, GoesBy, goes}
 
@@ -523,21 +520,3 @@ module _ (ciphers : Ciphers) (fits : KeepsRanges ciphers) (w : World) (ok : Worl
 
   pub event_falls : FlightsFall ciphers w x
   event_falls = falls_where ciphers w ok given k x okv follow later (λ number octets node comes there got is by key path. admission ciphers fits w ok flown x says e number octets node comes there got is by false key path)
-
--- # Runs
-
-module _ (ciphers : Ciphers) (fits : KeepsRanges ciphers) where
-  falls_from : (w : World) → WorldOk w → All FlightFits w.flights → (before : List Entry) → Keyed w (issued before) → (entries : List Entry) → AreEvents (events_of entries) → FlightsAreOctets entries → IsRun ciphers w entries → FlightsAlwaysFall ciphers w entries
-  falls_from w ok flown before k [] says fly run = tt
-  falls_from w ok flown before k (x ∷ xs) says fly run =
-      let event = All-head IsEvent x.event (events_of xs) says in
-      let g = taken_good ciphers fits w ok flown x event run.2 in (
-        event_falls ciphers fits w ok flown (issued before) k x event run.2,
-        λ honest.
-            let next : Keyed x.after (issued before ++ x.trace.issued) = subst (Kept (issued before)) run.2 (kept w (issued before) _ (step_keyed ciphers fits w ok flown (issued before) k x.event event)) honest in
-            let k' : Keyed x.after (issued (before ++ x ∷ [])) = subst (Keyed x.after) (sym (all_of_one (λ d. d.issued) before x)) next in
-            falls_from x.after g.0 (All-head EntryFlies x xs fly) (before ++ x ∷ []) k' xs (All-tail IsEvent x.event (events_of xs) says) (All-tail EntryFlies x xs fly) run.3,
-      )
-
-pub every_flight : EveryFlightFalls
-every_flight ciphers fits entries r fly = falls_from ciphers fits start start_ok (All-nil FlightFits) [] start_keyed entries r.events fly r.run

@@ -1,18 +1,17 @@
 -- In every run of the network what waits is loads that a frame carries, commands among them.
 use Rattle.std.proofs.Common.{◌≤◌, List, [], ◌∷◌, Option, Some, None}
 use Rattle.std.specs.Prelude.{All, IfSome}
-use Rattle.std.proofs.lemmas.List.Elements.{All-nil, All-cons, All-head, All-tail, All-weaker}
+use Rattle.std.proofs.lemmas.List.Elements.{All-nil, All-cons, All-head, All-tail}
 use Rattle.node_rules.specs.Laws.{IsLoad, IsWithin, IsWithinSizes}
 use Rattle.node_rules.specs.Memory.{Body, Load, Datagram, Command, Memory, Node}
 use Rattle.line_rules.specs.Runs.{Entry}
 use Rattle.line_rules.specs.SafeRuns.{IsSized}
 use Rattle.line_rules.specs.Worlds.{World}
-use Rattle.line_laws.specs.Laws.{EveryNetworkRunIsSized}
 use Rattle.line_laws.specs.Sizes.{IsAnyLoad}
 use Rattle.line_laws.proofs.Nodes.{NodeOk}
 use Rattle.line_laws.proofs.OctetCalls.{NodeSpeaks}
 use Rattle.line_laws.proofs.OctetDrafts.{BodySpeaks, MemorySpeaks, IsCommandShort}
-use Rattle.line_laws.proofs.OctetRuns.{WorldSpeaks, EntrySpeaks, every_entry}
+use Rattle.line_laws.proofs.OctetRuns.{WorldSpeaks}
 use Rattle.line_laws.proofs.Running.{node_sized}
 use Rattle.line_laws.proofs.Worlds.{WorldOk}
 
@@ -62,6 +61,3 @@ world_within w ok s = record { nodes = ok.count; memories = nodes_within w.nodes
 
 abbrev pub EntrySized : Entry → Type 0
 EntrySized x = IsSized x.after × (x.trace.happened.flights ≤ 24)
-
-pub every_size : EveryNetworkRunIsSized
-every_size entries r = All-weaker EntrySpeaks EntrySized (λ x h. (world_within x.after h.0 h.1, h.2)) entries (every_entry entries r)

@@ -12,14 +12,13 @@ use Rattle.broadcast_log.specs.Log.{Log, opened}
 use Rattle.broadcast_log.specs.Reading.{broadcast_in}
 use Rattle.neighbour_checks.specs.Acks.{ack_in}
 use Rattle.neighbour_checks.specs.History as checking
-use Rattle.neighbour_checks.specs.Laws as check_laws
-use Rattle.neighbour_checks.specs.Neighbours.{Neighbours, acked_after, is_awaited, nobody, tick_after}
+use Rattle.neighbour_checks.specs.Neighbours.{acked_after, is_awaited, nobody, tick_after}
 use Rattle.neighbour_checks.proofs.Histories as check_lemmas
 use Rattle.pan_discovery.specs.declared.message.Discovery.{Discovery}
 use Rattle.pan_discovery.specs.declared.message.Discovery.TheVariants as discoveries
 use Rattle.pan_discovery.specs.Agents.{kth_of}
 use Rattle.pan_discovery.specs.History as scanning
-use Rattle.pan_discovery.specs.History.{Scanned, begun, ended, taken_after}
+use Rattle.pan_discovery.specs.History.{begun, ended, taken_after}
 use Rattle.pan_discovery.specs.Reading.{discovery_in}
 use Rattle.pan_discovery.proofs.Histories as scan_lemmas
 use Rattle.path_requests.specs.declared.message.PathMessage.{PathMessage}
@@ -33,10 +32,9 @@ use Rattle.path_requests.specs.Reading.{path_in}
 use Rattle.node_rules.specs.declared.heard.Accepted.{Accepted}
 use Rattle.node_rules.specs.declared.heard.Reply.{Reply}
 use Rattle.node_rules.specs.declared.refusal.Dropped.TheVariants as drops
-use Rattle.node_rules.specs.declared.refusal.LocalRefusal.{LocalRefusal}
 use Rattle.node_rules.specs.Ciphers.{Ciphers, network}
 use Rattle.node_rules.specs.Drafts.{Draft, Ends, choose as choose_plan, checked as checked_plan, counters_left, empty_draft, refused, sealed, sealing}
-use Rattle.node_rules.specs.Memory.{StationMemory, Memory, Node, Role, Coordinator, Meter, address_of, station_route}
+use Rattle.node_rules.specs.Memory.{StationMemory, Memory, Node, Role, address_of, station_route}
 use Rattle.node_rules.specs.Frames.{to_all}
 use Rattle.node_rules.specs.MemoryDrafts.{in_memory}
 use Rattle.node_rules.specs.Meters as meters
@@ -49,41 +47,36 @@ use Rattle.store_tables.specs.Writes.{Written, write}
 use Rattle.reach_rules.specs.declared.heard.CommandHeard.{CommandHeard}
 use Rattle.reach_rules.specs.declared.heard.CommandHeard.TheVariants as heard_of
 use Rattle.reach_rules.specs.declared.heard.DiscoveryHeard.{DiscoveryHeard}
-use Rattle.reach_rules.specs.declared.heard.DiscoveryHeard.TheVariants as discovered
 use Rattle.reach_rules.specs.declared.refusal.ReachDropped.{ReachDropped}
 use Rattle.reach_rules.specs.declared.refusal.ReachDropped.TheVariants as reach_drops
 use Rattle.reach_rules.specs.declared.refusal.BroadcastRefusal.{BroadcastRefusal}
 use Rattle.reach_rules.specs.declared.refusal.BroadcastRefusal.TheVariants as broadcast_faults
-use Rattle.reach_rules.specs.declared.refusal.AskRefusal.{AskRefusal}
 use Rattle.reach_rules.specs.declared.refusal.AskRefusal.TheVariants as ask_faults
-use Rattle.reach_rules.specs.declared.refusal.ChooseRefusal.{ChooseRefusal}
 use Rattle.reach_rules.specs.declared.refusal.ChooseRefusal.TheVariants as choices
 use Rattle.reach_rules.specs.declared.refusal.DiscoveryDropped.{DiscoveryDropped}
 use Rattle.reach_rules.specs.declared.refusal.DiscoveryDropped.TheVariants as discovery_drops
-use Rattle.reach_rules.specs.declared.refusal.ScanRefusal.{ScanRefusal}
 use Rattle.reach_rules.specs.declared.refusal.ScanRefusal.TheVariants as scan_faults
-use Rattle.reach_rules.specs.Beacons.{ChosenAgent, Discovering, beacons, begin_scan, choose_agent, choosing_ends, cost_home, hear_beacon, hear_discovery, hear_discovery_in, hear_request, is_foreign, joins_by, takes_beacon, takes_beacons, stays as stays_scan}
-use Rattle.reach_rules.specs.Broadcasts.{admits_broadcast, broadcast, broadcast_ends, broadcast_fault, broadcast_from, datagram_fault, goes_further, hear_broadcast, hear_broadcast_in, hop_less, own_broadcast, with_broadcast_mark, with_broadcast_number}
-use Rattle.reach_rules.specs.CheckedReplies.{checks_after, ends_check, hear_acknowledgement, hear_acknowledgement_in, message_of}
-use Rattle.reach_rules.specs.PathAsking.{ask_ends, ask_path, asks_by as asks_over, asks_from, follows_path, hear_path, hear_path_in, next_toward, path_word, tells_path}
-use Rattle.reach_rules.specs.ReachingNodes.{Beside, Reaching, drop_it, in_reach, nothing_beside, reach_ends, remembers, restarted, restarted_by, tells_neighbours, tick_beside, with_checks}
-use Rattle.reach_rules.specs.Receiving.{NeighbourCommand, command_of, hear_command, hear_command_at}
+use Rattle.reach_rules.specs.Beacons.{Discovering, beacons, begin_scan, choose_agent, choosing_ends, cost_home, hear_discovery_in, is_foreign, joins_by, takes_beacon, takes_beacons, stays as stays_scan}
+use Rattle.reach_rules.specs.Broadcasts.{admits_broadcast, broadcast, broadcast_ends, broadcast_fault, broadcast_from, datagram_fault, goes_further, hear_broadcast_in, hop_less, own_broadcast, with_broadcast_mark, with_broadcast_number}
+use Rattle.reach_rules.specs.CheckedReplies.{checks_after, hear_acknowledgement_in, message_of}
+use Rattle.reach_rules.specs.PathAsking.{ask_ends, ask_path, asks_by as asks_over, asks_from, follows_path, hear_path_in, next_toward, path_word}
+use Rattle.reach_rules.specs.ReachingNodes.{Beside, Reaching, drop_it, in_reach, nothing_beside, reach_ends, restarted_by, tells_neighbours, tick_beside}
+use Rattle.reach_rules.specs.Receiving.{NeighbourCommand, hear_command, hear_command_at}
 use Rattle.line_rules.specs.Answers.{Reception, sent_word}
 use Rattle.line_rules.specs.declared.event.Answer.{Answer}
-use Rattle.line_rules.specs.declared.event.Answer.TheVariants as said
 use Rattle.line_rules.specs.declared.event.Event.{Event}
 use Rattle.line_rules.specs.declared.event.Event.TheVariants as events
 use Rattle.line_rules.specs.Events.{AreEvents, IsEvent}
-use Rattle.line_rules.specs.Further.{acknowledged, acknowledged_by, acknowledged_if, acknowledging, adds_frames, asks_by, beacon_taken, beside_after, beside_at, broadcasts_by, checked, chooses_by, commanded, due, has_discovered, line_step, reaches, replied, restarts_by, scanning as scanning_of, scans_by, sends_nothing, set_beside, unbelieved, with_beside, with_check, without_log}
-use Rattle.line_rules.specs.FurtherRuns.{AreOfHistory, AreOfHistoryAfter, IsOfHistory, check_history, check_step, checked_by, is_restart_of, is_tick, scan_history, scan_step, scanned_by}
+use Rattle.line_rules.specs.Further.{acknowledged_by, acknowledged_if, acknowledging, adds_frames, beacon_taken, beside_after, beside_at, checked, due, line_step, reaches, replied, restarts_by, scanning as scanning_of, sends_nothing, with_beside, with_check, without_log}
+use Rattle.line_rules.specs.FurtherRuns.{AreOfHistoryAfter, IsOfHistory, check_history, check_step, checked_by, scan_history, scan_step, scanned_by}
 use Rattle.line_rules.specs.Logs.{AreLogged, LogsKept}
-use Rattle.line_rules.specs.Runs.{Entry, events_of}
-use Rattle.line_rules.specs.Steps.{Step, acted, heard, identity, is_taken, ran, sent_if, tag_of, told}
+use Rattle.line_rules.specs.Runs.{Entry, IsRun, events_of}
+use Rattle.line_rules.specs.Steps.{Step, acted, heard, identity, is_taken, sent_if, tag_of, told}
 use Rattle.line_rules.specs.Worlds.{Acknowledged, Further, Noticed, Replied, Scans, Trace, World, node_at, nothing_further, start}
 use Rattle.line_rules.specs.Worlds.{Heard as HeardOf}
-use Rattle.line_laws.specs.FurtherLines.{HoldsAfter, IsReachRun}
+use Rattle.line_laws.specs.FurtherLines.{HoldsAfter}
 use Rattle.line_laws.specs.Reach.{EveryHistoryIsKept}
-use Rattle.line_laws.proofs.FurtherOctets.{every_reach_run}
+use Rattle.line_laws.proofs.FurtherOctets.{every_run_holds}
 use Rattle.line_laws.proofs.ReachSteps.{Asks, Bcasts, Checked, Chooses, Commands, Discovers, Fails, Hears, IsAccepted, IsOther, IsReachStep, Known, Opens, Restarts, Rests, Scans as Begins, Ticks, Unbelieves, after_accepting, heard_node, reach_step_is}
 use Rattle.line_laws.proofs.Tellings as old
 
@@ -653,7 +646,7 @@ module _ (ciphers : Ciphers) (w : World) (logs : LogsKept w) where
 -- # Runs
 
 histories_kept : (w : World) → LogsKept w → (before : List Entry) → IsOfHistory before w → (entries : List Entry) → AreEvents (events_of entries)
-    → IsReachRun w entries → All HoldsAfter entries → AreOfHistoryAfter before entries
+    → IsRun network w entries → All HoldsAfter entries → AreOfHistoryAfter before entries
 histories_kept w logs before h [] says run holds = tt
 histories_kept w logs before h (x ∷ xs) says run holds =
     let event = All-head IsEvent x.event (events_of xs) says in
@@ -673,4 +666,4 @@ start_history : IsOfHistory [] start
 start_history = record { checks = λ number. sym check_lemmas.nobody_at_the_start; scan = λ number. sym nothing_scanned }
 
 pub every_history : EveryHistoryIsKept
-every_history entries says run = histories_kept start tt [] start_history entries says run (every_reach_run entries says run)
+every_history entries r = histories_kept start tt [] start_history entries r.events r.run (every_run_holds entries r)

@@ -1,11 +1,11 @@
 -- The tags of one node's datagrams that are cut into pieces rise over a run.
-use Rattle.std.proofs.Common.{◌≡◌, ◌≢◌, ◌⊎◌, inl, inr, ⊎_elim, ℕ, zero, suc, ◌+◌, ◌-◌, ◌≤◌, ◌<◌, Bool, true, false, List, [], ◌∷◌, ◌++◌, length, map, get_or, Option, Some, None, Result, Ok, Err, refl, sym, ap, ◌∙◌, subst, append-nil, append_assoc, arith}
-use Rattle.std.specs.Prelude.{⊤, All, AllPairs, if◌then◌else◌, is_some, nat_le, nat_lt, slice_get, slice_set}
+use Rattle.std.proofs.Common.{◌≡◌, ◌≢◌, ◌⊎◌, inl, inr, ⊎_elim, ℕ, zero, suc, ◌+◌, ◌-◌, ◌≤◌, ◌<◌, Bool, true, false, List, [], ◌∷◌, ◌++◌, length, map, get_or, Option, Some, None, Result, Ok, Err, refl, sym, ap, ◌∙◌, subst, append-nil, arith}
+use Rattle.std.specs.Prelude.{All, if◌then◌else◌, is_some, nat_le, nat_lt, slice_get, slice_set}
 use Rattle.std.specs.FinMap.{get, insert}
 use Rattle.std.specs.Option.{option_map_or}
 use Rattle.std.proofs.lemmas.Bool.{cases_eq, ltb-true}
 use Rattle.std.proofs.lemmas.List.{length-set, length-map, length-append}
-use Rattle.std.proofs.lemmas.List.Elements.{All-nil, All-head, All-tail, All-push, All-weaker}
+use Rattle.std.proofs.lemmas.List.Elements.{All-nil, All-push, All-weaker}
 use Rattle.std.proofs.lemmas.List.Quantifiers.{all_pairs_push}
 use Rattle.std.proofs.lemmas.Option.{same_Some}
 use Rattle.plc_base.specs.declared.address.Eui.{Eui}
@@ -43,30 +43,25 @@ use Rattle.node_rules.specs.NodeSteps.{NodeStep, acts, stays, left_by, of_statio
 use Rattle.node_rules.specs.Plans.{Plan, carry_out, resting}
 use Rattle.node_rules.specs.StoreReading.{blank_station, first_grant, remembering, tag_in}
 use Rattle.line_rules.specs.Answers.{Reception, sent_word, meter_reception, coordinator_reception}
-use Rattle.line_rules.specs.Events.{IsEvent, AreEvents}
 use Rattle.line_rules.specs.Forgery.{accepting}
-use Rattle.line_rules.specs.Runs.{Entry, IsRun, one_of, sends as sends_of, events_of}
+use Rattle.line_rules.specs.Runs.{one_of}
 use Rattle.line_rules.specs.Steps.{Step, set_up, ran, told, made_node, blank_node, ticked, acted, sending, sent_if, is_taken, tag_of, hears, heard, offered_near, identity, note_by, restarts}
 use Rattle.line_rules.specs.Worlds.{World, Sending, node_at, start}
-use Rattle.line_laws.specs.Laws.{FlightsAreOctets}
 use Rattle.line_laws.specs.Owed.{KeepsRanges}
-use Rattle.line_laws.specs.Tags.{TagRises, EveryTagRises}
+use Rattle.line_laws.specs.Tags.{TagRises}
 use Rattle.line_laws.proofs.CallForms.{send_is}
 use Rattle.line_laws.proofs.CustodyEvents.{word_refused, word_taken}
 use Rattle.line_laws.proofs.IssueWorlds.{told_here}
 use Rattle.line_laws.proofs.Made.{RingWord}
 use Rattle.line_laws.proofs.Planned.{planned_failed}
-use Rattle.line_laws.proofs.IssueRuns.{all_of_one, EntryFlies}
 use Rattle.line_laws.proofs.IssueWords.{Each}
-use Rattle.line_laws.proofs.LawRuns.{event_right}
 use Rattle.line_laws.proofs.NodeCalls.{call_given, send_ok}
 use Rattle.line_laws.proofs.Nodes.{NodeOk, acts_ok, node_kept}
-use Rattle.line_laws.proofs.Running.{start_ok, taken_good}
 use Rattle.line_laws.proofs.StepsOk.{blank_ok}
 use Rattle.line_laws.proofs.StoreWords.{tag_reads}
 use Rattle.line_laws.proofs.TagPuts.{Away, TagPut, Elsewhere, Next, carried_puts, away_tags, send_tags, random_away, join_away, leave_away, broke_away, near_away, counter_put_away, number_put_away, provision_away, accept_away, meter_away, coordinator_away, allow_away, depot_away, rekey_away, activate_self_away, challenge_away, activate_away, kick_away}
-use Rattle.line_laws.proofs.Tellings.{IsCall, Gives, Joins, Leaves, Sends, Breaks, Nears, Counts, Numbers, Accepts, Provisions, Depots, Allows, Rekeys, Turns, Challenges, Activates, Kicks, preset_call, IsMade, OfCoordinator, OfMeter, IsStep, Fails, Makes, Rests, Shows, Acts, BreaksLink, SendsFrom, AllowsMeter, Sets, SetsTwo, Provides, TurnsDown, Hears, Loses, Ticks, Restarts, Cuts, step_is}
-use Rattle.line_laws.proofs.Worlds.{FlightFits, WorldOk, at_place, within}
+use Rattle.line_laws.proofs.Tellings.{IsCall, Gives, Joins, Leaves, Sends, Breaks, Nears, Counts, Numbers, Accepts, Provisions, Depots, Allows, Rekeys, Turns, Challenges, Activates, Kicks, preset_call, IsMade, OfCoordinator, OfMeter, IsStep, Fails, Makes, Rests, Shows, Acts, BreaksLink, SendsFrom, AllowsMeter, Sets, SetsTwo, Provides, TurnsDown, Hears, Loses, Ticks, Restarts, Cuts}
+use Rattle.line_laws.proofs.Worlds.{WorldOk, at_place, within}
 pub use Rattle.line_laws.specs.Tags.{IsUnder, TagOf, TagsOk}
 
 -- # What the records of a node give
@@ -484,24 +479,9 @@ module _ (w v : World) (sent : List Sending) (k : TagsOk w sent) (few : w.events
   next_tags None t = subst (TagsOk v) (sym (append-nil sent)) (none_sent t)
   next_tags (Some s) t = one_sent s t
 
-tags_from : (ciphers : Ciphers) → KeepsRanges ciphers → (w : World) → WorldOk w → All FlightFits w.flights → (before : List Entry) → TagsOk w (sends_of before) → (entries : List Entry) → AreEvents (events_of entries) → FlightsAreOctets entries → IsRun ciphers w entries → AllPairs TagRises (sends_of (before ++ entries))
-tags_from ciphers fits w ok flown before k [] says fly run = subst (λ xs. AllPairs TagRises (sends_of xs)) (sym (append-nil before)) k.pairs
-tags_from ciphers fits w ok flown before k (x ∷ xs) says fly run =
-    let event = All-head IsEvent x.event (events_of xs) says in
-    let g = taken_good ciphers fits w ok flown x event run.2 in
-    let t : StepTags w x.after x.trace.sent = subst (Tagged w) run.2 (event_tags ciphers fits w ok x.event _ (step_is ciphers w x.event event)) in
-    let few : w.events < 50000 = run.0 in
-    let next : TagsOk x.after (sends_of before ++ one_of x.trace.sent) = next_tags w x.after (sends_of before) k few (event_right ciphers w x event run.2).adds.events x.trace.sent t in
-    let so : TagsOk x.after (sends_of (before ++ x ∷ [])) = subst (TagsOk x.after) (sym (all_of_one (λ d. one_of d.sent) before x)) next in
-    subst (λ ys. AllPairs TagRises (sends_of ys)) (append_assoc before (x ∷ []) xs)
-    (tags_from ciphers fits x.after g.0 (All-head EntryFlies x xs fly) (before ++ x ∷ []) so xs (All-tail IsEvent x.event (events_of xs) says) (All-tail EntryFlies x xs fly) run.3)
-
 pub start_tags : TagsOk start []
 start_tags = record {
   nodes = λ number x e. absurd (no_some x e);
   homes = All-nil (λ (s : Sending). s.from < length start.nodes);
   pairs = λ i j d lt inside. absurd (omega arith);
 }
-
-pub every_tag : EveryTagRises
-every_tag ciphers fits entries r fly = tags_from ciphers fits start start_ok (All-nil FlightFits) [] start_tags entries r.events fly r.run

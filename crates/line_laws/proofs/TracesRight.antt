@@ -55,7 +55,7 @@ use Rattle.line_rules.specs.Worlds.{World, Flight, Trace, Pairing, node_at, flig
 use Rattle.line_rules.specs.Steps.{Step, is_taken, set_up, ran, told, flights_of, acted, trace_of, happened, sending, sent_if, tag_of, offered_near, hears, received, forged_by, note_by, number_if, handed_by, issued_of, identity, restart_word, restarts, made_node}
 use Rattle.line_rules.specs.Runs.{Entry, one_of}
 use Rattle.line_rules.specs.Forgery.{Comes, OfFlight, OfScript, accepting, AcceptsSealed, NoneFlew, IsForged, ByFrame, ByTag}
-use Rattle.line_rules.specs.Traces.{Adds, IsTracedRight, IsIssue, ComesTo, is_up, is_took, is_done, is_issue}
+use Rattle.line_rules.specs.Traces.{Adds, IsSendOf, IsIssue, ComesTo, is_up, is_took, is_done, is_issue}
 use Rattle.line_laws.proofs.StoreMarks.{accept_is}
 use Rattle.line_laws.proofs.Quiet.{acts_quiet, counter_quiet, number_quiet, near_quiet, install_quiet, allow_quiet, depot_quiet, accept_quiet}
 use Rattle.line_laws.proofs.Untagged.{acts_untagged, allow_untagged, depot_untagged, rekey_untagged, activate_self_untagged, challenge_untagged, activate_untagged, kick_untagged, send_untagged, near_untagged, counter_untagged, number_untagged, rested_untagged, random_untagged, provision_untagged, accept_untagged}
@@ -268,9 +268,23 @@ is_same w _ m n xs ys h k = absurd (h)
 
 -- # What is right of an event
 
+-- What the history has of an event that is no broadcast is there exactly where the answer says so.
+pub record IsTracedSo (w : World) (x : Entry) : Type 0 where
+  pub sent : is_some x.trace.sent ≡ is_taken x.trace.happened.answer
+  pub send : IfSome x.trace.sent (IsSendOf w x.event)
+  pub up : is_some x.trace.happened.up ≡ is_up x.trace.happened.answer
+  pub up_at : IfSome x.trace.happened.up (λ (u : Handed). ComesTo x.event u.node)
+  pub taken : is_some x.trace.taken ≡ is_took x.trace.happened.answer
+  pub taken_at : IfSome x.trace.taken (λ (p : Pairing). ComesTo x.event p.node)
+  pub took : x.trace.happened.took ≡ option_map (λ (p : Pairing). p.node) x.trace.taken
+  pub done : is_some x.trace.done ≡ is_done x.trace.happened.answer
+  pub done_node : x.trace.happened.done ≡ option_map (λ (p : Pairing). p.node) x.trace.done
+  pub issues : is_issue x.trace.happened.answer ≡ true → IsIssue w x.event x.trace.issued
+  pub none_issued : is_issue x.trace.happened.answer ≡ false → x.trace.issued ≡ []
+
 pub record Right (ciphers : Ciphers) (w : World) (x : Entry) : Type 0 where
   pub adds : Adds w x
-  pub traced : IsTracedRight w x
+  pub traced : IsTracedSo w x
   pub forged : (x.trace.happened.forged ≡ true) ↔ IsForged ciphers w x.event x.trace.opened
 
 abbrev pub entry : ℕ → Event → World × Trace → Entry
@@ -342,7 +356,7 @@ module _ (ciphers : Ciphers) (w : World) where
     made = made_is;
   }
 
-  quiet_traced : (number : ℕ) (event : Event) (v : World) (h : Happenings) (made opened : List PairTag) → Plain h.answer → h.up ≡ None → h.took ≡ None → h.done ≡ None → IsTracedRight w (entry number event (v, quiet_trace h made opened))
+  quiet_traced : (number : ℕ) (event : Event) (v : World) (h : Happenings) (made opened : List PairTag) → Plain h.answer → h.up ≡ None → h.took ≡ None → h.done ≡ None → IsTracedSo w (entry number event (v, quiet_trace h made opened))
   quiet_traced number event v h made opened p up took done = record {
     sent = sym p.0;
     send = tt;

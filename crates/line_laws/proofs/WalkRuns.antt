@@ -1,9 +1,9 @@
 -- A walk that is reported was taken: each ask that flies has walked what it says, in its order, and so has each tell.
 use Rattle.std.proofs.Common.{⊎_elim, ◌≡◌, ◌≢◌, ℕ, ◌+◌, ◌-◌, ◌≤◌, ◌<◌, Bool, true, false, List, [], ◌∷◌, ◌++◌, length, Option, Some, None, Result, Ok, Err, refl, sym, ap, ◌∙◌, subst, arith}
-use Rattle.std.specs.Prelude.{◌==◌, ◌||◌, All, IfSome, IfOk, if◌then◌else◌, is_some, map, nat_lt, position, slice_get}
-use Rattle.std.specs.Option.{option_map, option_map_or, option_and_then}
+use Rattle.std.specs.Prelude.{◌==◌, ◌||◌, All, IfSome, IfOk, if◌then◌else◌, is_some, nat_lt, position}
+use Rattle.std.specs.Option.{option_map_or, option_and_then}
 use Rattle.std.proofs.lemmas.Bool.{eq-eqb, eqb-true, lt-ltb, or_parts}
-use Rattle.std.proofs.lemmas.Option.{same_Some, none-some}
+use Rattle.std.proofs.lemmas.Option.{same_Some}
 use Rattle.std.proofs.lemmas.List.{append-nil, append_assoc}
 use Rattle.std.proofs.lemmas.List.Elements.{All-nil, All-cons, All-head, All-tail, All-append, All-weaker}
 use Rattle.plc_base.specs.Addresses.{IsAddress}
@@ -23,7 +23,7 @@ use Rattle.path_requests.specs.declared.step.PathRefusal.{PathRefusal}
 use Rattle.path_requests.specs.declared.step.PathRefusal.TheVariants as path_faults
 use Rattle.path_requests.specs.Messages.{IsPath, path_spelling}
 use Rattle.path_requests.specs.Reading.{path_in}
-use Rattle.path_requests.specs.Taking.{IsStep as IsPathStep, ask_led, ask_taken, hop, taken as led, tell_led, tell_taken}
+use Rattle.path_requests.specs.Taking.{IsStep as IsPathStep, ask_led, hop, taken as led, tell_taken}
 use Rattle.path_requests.specs.Walks.{ends_with, has, has_at}
 use Rattle.path_requests.proofs.Readings.{paths_read, paths_spelled}
 use Rattle.path_requests.proofs.Steps.{taken_fits}
@@ -35,7 +35,7 @@ use Rattle.node_rules.specs.declared.refusal.LocalRefusal.TheVariants as locals
 use Rattle.node_rules.specs.Ciphers.{network}
 use Rattle.node_rules.specs.Drafts.{Draft, choose as choose_plan, checked as checked_plan, alone, counters_left, empty_draft, goes, refused, sealed, sealed_by, sealing}
 use Rattle.node_rules.specs.Frames.{Sent, to_all}
-use Rattle.node_rules.specs.Memory.{StationMemory, Memory, Node, address_of, node_address, node_route, station_route}
+use Rattle.node_rules.specs.Memory.{Memory, Node, address_of, node_address, node_route, station_route}
 use Rattle.node_rules.specs.MemoryDrafts.{in_memory, with_station}
 use Rattle.node_rules.specs.Meters as meters
 use Rattle.node_rules.specs.Neighbours.{local_draft, local_ends}
@@ -60,7 +60,7 @@ use Rattle.pan_discovery.specs.declared.message.Discovery.{Discovery}
 use Rattle.pan_discovery.specs.Agents.{kth_of}
 use Rattle.reach_rules.specs.Broadcasts.{admits_broadcast, broadcast, broadcast_ends, broadcast_fault, broadcast_from, datagram_fault, goes_further, hear_broadcast_in, hop_less, own_broadcast, with_broadcast_mark, with_broadcast_number}
 use Rattle.reach_rules.specs.CheckedReplies.{acknowledges, hear_acknowledgement_in, message_of}
-use Rattle.reach_rules.specs.PathAsking.{ask_ends, ask_path, asks_by as asks_over, asks_from, follows_path, hear_path_in, next_toward, path_word}
+use Rattle.reach_rules.specs.PathAsking.{ask_ends, ask_path, asks_by as asks_over, asks_from, follows_path, hear_path_in, path_word}
 use Rattle.reach_rules.specs.ReachingNodes.{Beside, Reaching, drop_it, in_reach, reach_ends, tells_neighbours}
 use Rattle.reach_rules.specs.Receiving.{NeighbourCommand, command_of, hear_command, hear_command_at}
 use Rattle.line_rules.specs.declared.event.Answer.{Answer}
@@ -69,21 +69,20 @@ use Rattle.line_rules.specs.declared.event.Event.{Event}
 use Rattle.line_rules.specs.declared.happenings.PathLine.{PathLine}
 use Rattle.line_rules.specs.Answers.{discovery_word, only, scan_word, sent_word}
 use Rattle.line_rules.specs.Events.{AreEvents, IsEvent}
-use Rattle.line_rules.specs.Further.{acknowledged_if, acknowledging, adds_frames, asked, asks_by, beacon_taken, beside_at, broadcasts_by, checked, chooses_by, commanded, discovery_flights, due, goes_toward, has_discovered, line_step, path_line, reaches, scanning, sends_nothing, step_by, with_beside, with_check}
+use Rattle.line_rules.specs.Further.{acknowledged_if, acknowledging, adds_frames, asked, beacon_taken, beside_at, checked, commanded, discovery_flights, due, goes_toward, has_discovered, line_step, path_line, reaches, scanning, sends_nothing, step_by, with_beside, with_check}
 use Rattle.line_rules.specs.FurtherRuns.{AreWalked, AreWalkedAfter, Nothing, Passes, StandIn, Takes, WasWalked, last_of, steps_taken, steps_toward}
 use Rattle.line_rules.specs.Logs.{LogsKept}
-use Rattle.line_rules.specs.Runs.{Entry, all_of, events_of, one_of}
+use Rattle.line_rules.specs.Runs.{Entry, IsRun, events_of, one_of}
 use Rattle.line_rules.specs.Steps.{Step, acted, forged_by, heard, identity, is_taken, ran, restarts, sent_if, tag_of, told}
-use Rattle.line_rules.specs.Worlds.{Flight, Further, Noticed, Stepping, Trace, World, node_at, nothing_further, start}
-use Rattle.line_laws.specs.FurtherLines.{HoldsAfter, IsReachRun}
-use Rattle.line_laws.specs.Letters.{IsSent}
+use Rattle.line_rules.specs.Worlds.{Flight, Noticed, Stepping, Trace, World, node_at, start}
+use Rattle.line_laws.specs.FurtherLines.{HoldsAfter}
 use Rattle.line_laws.specs.Lines.{NodeOk, WorldOk}
-use Rattle.line_laws.specs.Reach.{EveryWalkWasTaken, HoldsAlong, IsHeard, IsInRange}
+use Rattle.line_laws.specs.Reach.{HoldsAlong, IsHeard, IsInRange}
 use Rattle.line_laws.proofs.CommandsCome.{CommandCame, address_stays, command_came, command_says}
 use Rattle.line_laws.proofs.FlightFolds.{address_low, came_octets}
 use Rattle.line_laws.proofs.FlightsSay.{FlightSays, FrameSays, discovery_says, heard_says, old_flights, told_as_before, told_says, told_silently}
 use Rattle.line_laws.proofs.FurtherLogs.{commands_fit}
-use Rattle.line_laws.proofs.FurtherOctets.{every_reach_run, line_speaks, octets_speak, Octets, Spelled}
+use Rattle.line_laws.proofs.FurtherOctets.{line_speaks, octets_speak, Octets, Spelled}
 use Rattle.line_laws.proofs.FurtherTellings.{line_step_is}
 use Rattle.line_laws.proofs.LetterAccepts.{to_of}
 use Rattle.line_laws.proofs.OctetRuns.{SpeaksIn, WorldSpeaks, start_speaks}
@@ -755,7 +754,7 @@ steps_more_taken (y ∷ before) x = ap (λ xs. one_of y.trace.further.stepping +
     (append_assoc (one_of y.trace.further.stepping) (steps_taken before) (one_of x.trace.further.stepping))
 
 all_walked : (w : World) → WorldOk w → WorldSpeaks w → LogsKept w → (before : List Entry) → All (FlightSays (UnitWalks (steps_taken before))) w.flights
-    → (entries : List Entry) → AreEvents (events_of entries) → IsReachRun w entries → All HoldsAfter entries → HoldsAlong IsInRange w entries
+    → (entries : List Entry) → AreEvents (events_of entries) → IsRun network w entries → All HoldsAfter entries → HoldsAlong IsInRange w entries
     → AreWalkedAfter before entries
 all_walked w ok s logs before flights [] says run holds ranged = tt
 all_walked w ok s logs before flights (x ∷ xs) says run holds ranged = λ honest.
@@ -772,6 +771,7 @@ all_walked w ok s logs before flights (x ∷ xs) says run holds ranged = λ hone
           (All-tail HoldsAfter x xs holds) (ranged.1 honest),
     )
 
-pub every_walk : EveryWalkWasTaken
-every_walk entries says run ranged = all_walked start start_ok start_speaks tt [] (All-nil (FlightSays (UnitWalks []))) entries says run
-    (every_reach_run entries says run) ranged
+pub walked_in_range : (entries : List Entry) → AreEvents (events_of entries) → IsRun network start entries → All HoldsAfter entries
+    → HoldsAlong IsInRange start entries → AreWalked entries
+walked_in_range entries says run holds ranged = all_walked start start_ok start_speaks tt [] (All-nil (FlightSays (UnitWalks []))) entries says run
+    holds ranged

@@ -20,19 +20,19 @@ use Rattle.line_laws.specs.Later.{IsOfLog}
 use Rattle.node_rules.specs.Ciphers.{Ciphers}
 use Rattle.node_rules.specs.Memory.{Memory, Node}
 use Rattle.line_rules.specs.Further.{beside_at, broadcasts_by, asks_by, scans_by, discovers_by, commanded, line_step}
-use Rattle.line_rules.specs.Worlds.{World, Trace, node_at, start}
+use Rattle.line_rules.specs.Worlds.{World, Trace, node_at}
 use Rattle.line_laws.specs.Lines.{FlightFits, WorldOk}
 use Rattle.plc_base.specs.Keeper.{Records}
 use Rattle.broadcast_log.specs.Laws.{IsLogIn}
 use Rattle.line_rules.specs.declared.event.Event.{Event}
-use Rattle.line_rules.specs.Events.{AreEvents, IsEvent}
-use Rattle.line_rules.specs.declared.event.TheConstants.{MAX_EVENTS}
-use Rattle.line_rules.specs.Runs.{Entry, events_of}
+use Rattle.line_rules.specs.Events.{IsEvent}
+use Rattle.line_rules.specs.Runs.{Entry}
 use Rattle.line_rules.specs.Logs.{CommandsAreOctets, HaveShortTables, LogsKept}
 use Rattle.line_rules.specs.Nonces.{IsSpelled}
 use Rattle.pan_discovery.specs.declared.message.Discovery.{Discovery}
 use Rattle.pan_discovery.specs.Messages.{IsDiscovery}
 use Rattle.reach_rules.specs.Beacons.{hear_discovery}
+use Rattle.line_laws.specs.Laws.{IsLineRun}
 use Rattle.line_laws.specs.Live.{MarksRise}
 use Rattle.line_laws.specs.Owed.{AreOctets, KeepsRanges}
 
@@ -101,12 +101,6 @@ LineLogsHold =
 
 -- # Runs
 
--- a run of a line with further reach
-abbrev pub IsReachRun : World → List Entry → Type 0
-IsReachRun w [] = Unit {0}
-IsReachRun w (x ∷ xs) =
-    (w.events < MAX_EVENTS) × (x.number ≡ w.events + 1) × (line_step network w x.event ≡ Ok (x.after, x.trace)) × IsReachRun x.after xs
-
 -- What holds after each event.
 pub record HoldsAfter (x : Entry) : Type 0 where
   pub line : WorldOk x.after
@@ -114,10 +108,10 @@ pub record HoldsAfter (x : Entry) : Type 0 where
   pub logs : LogsKept x.after
   pub few : x.trace.happened.flights ≤ 24
 
--- In every run of the network with further reach, forged or not, the line holds, what flies is octets, the log of each node is what its store
+-- In every run of the network, forged or not, the line holds, what flies is octets, the log of each node is what its store
 -- gives, and no event sends more than 24 frames.
-abbrev pub EveryReachRunHolds : Type 0
-EveryReachRunHolds = (entries : List Entry) → AreEvents (events_of entries) → IsReachRun start entries → All HoldsAfter entries
+abbrev pub EveryRunHolds : Type 0
+EveryRunHolds = (entries : List Entry) → IsLineRun network entries → All HoldsAfter entries
 
 -- what the nodes of a world send of discovery can be spelled
 abbrev pub BeaconsAreSpelled : World → Type 0

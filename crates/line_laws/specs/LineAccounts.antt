@@ -1,34 +1,30 @@
 -- What holds of each event of a line with further reach, as of a line without it: for any ciphers that keep their ranges, in any world in which
 -- the line holds, what flies is octets, and the log of each node is what its store gives.
-use Rattle.std.specs.Prelude.{◌≡◌, ◌≢◌, ◌↔◌, ◌&&◌, not, ℕ, ◌<◌, Bool, true, false, All, IfSome, is_some, List, [], ◌∷◌, ◌++◌, length, drop, Some, None, Ok, Err}
-use Rattle.std.specs.Option.{option_map}
+use Rattle.std.specs.Prelude.{◌≡◌, ◌≢◌, ◌↔◌, ◌&&◌, not, ℕ, ◌<◌, Bool, true, false, All, List, [], ◌∷◌, ◌++◌, length, drop, Some, None, Ok, Err}
 use Rattle.plc_base.specs.declared.address.Eui.{Eui}
 use Rattle.plc_base.specs.declared.key.Key.{Key}
 use Rattle.mac_frames.specs.Reading.{head_in}
 use Rattle.mac_frames.specs.declared.head.MacHead.{MacHead}
 use Rattle.mac_frames.specs.declared.head.MacHead.TheVariants as heads
 use Rattle.group_keys.specs.KeyBook as books
-use Rattle.node_rules.specs.Ciphers.{Ciphers, network}
+use Rattle.node_rules.specs.Ciphers.{Ciphers}
 use Rattle.node_rules.specs.Memory.{Node, node_route}
 use Rattle.line_rules.specs.declared.event.Answer.TheVariants as said
 use Rattle.line_rules.specs.declared.event.Event.{Event}
 use Rattle.line_rules.specs.declared.event.Event.TheVariants as events
 use Rattle.line_rules.specs.Agreement.{is_allow_of}
-use Rattle.line_rules.specs.Events.{AreEvents, IsEvent}
+use Rattle.line_rules.specs.Events.{IsEvent}
 use Rattle.line_rules.specs.Forgery.{AcceptsSealed, IsForged}
 use Rattle.line_rules.specs.Further.{line_step}
 use Rattle.line_rules.specs.Logs.{LogsKept}
 use Rattle.line_rules.specs.Nonces.{HasSender}
-use Rattle.line_rules.specs.Runs.{Entry, events_of, one_of}
-use Rattle.line_rules.specs.Steps.{Step, is_taken}
-use Rattle.line_rules.specs.Traces.{Adds, ComesTo, IsIssue, IsSendOf, is_done, is_issue, is_took, is_up}
-use Rattle.line_rules.specs.declared.happenings.Handed.{Handed}
-use Rattle.line_rules.specs.Worlds.{World, Issued, Pairing, Sending, Trace, node_at, start}
-use Rattle.line_laws.specs.FurtherLines.{IsReachRun}
+use Rattle.line_rules.specs.Runs.{Entry, one_of}
+use Rattle.line_rules.specs.Steps.{Step}
+use Rattle.line_rules.specs.Traces.{Adds, IsTracedRight}
+use Rattle.line_rules.specs.Worlds.{World, Issued, Sending, Trace, node_at}
 use Rattle.line_laws.specs.Keyed.{Keyed}
-use Rattle.line_rules.specs.SafeRuns.{IsAlwaysSized}
 use Rattle.line_laws.specs.Lines.{FlightFits, WorldOk}
-use Rattle.line_laws.specs.Live.{FlightsFall, MarksRise, admits, is_live, marks_of}
+use Rattle.line_laws.specs.Live.{FlightsFall, admits, is_live, marks_of}
 use Rattle.line_laws.specs.Owed.{KeepsRanges}
 use Rattle.line_laws.specs.Shut.{ShutAt}
 use Rattle.line_laws.specs.Stores.{IsBookKept}
@@ -127,30 +123,11 @@ LineNodesAcceptOnce =
 
 -- # The history and the report
 
--- whether a datagram goes to all: its word is that of a send, and the history has no send of it
-abbrev pub is_broadcast : Event → Bool
-is_broadcast (events.Bcast number datagram) = true
-is_broadcast _ = false
-
--- What the history has of an event is there exactly where the answer says so, as on a line without further reach but for a broadcast.
-pub record IsLineTraced (w : World) (x : Entry) : Type 0 where
-  pub sent : is_some x.trace.sent ≡ (is_taken x.trace.happened.answer && not (is_broadcast x.event))
-  pub send : IfSome x.trace.sent (IsSendOf w x.event)
-  pub up : is_some x.trace.happened.up ≡ is_up x.trace.happened.answer
-  pub up_at : IfSome x.trace.happened.up (λ (u : Handed). ComesTo x.event u.node)
-  pub taken : is_some x.trace.taken ≡ is_took x.trace.happened.answer
-  pub taken_at : IfSome x.trace.taken (λ (p : Pairing). ComesTo x.event p.node)
-  pub took : x.trace.happened.took ≡ option_map (λ (p : Pairing). p.node) x.trace.taken
-  pub done : is_some x.trace.done ≡ is_done x.trace.happened.answer
-  pub done_node : x.trace.happened.done ≡ option_map (λ (p : Pairing). p.node) x.trace.done
-  pub issues : is_issue x.trace.happened.answer ≡ true → IsIssue w x.event x.trace.issued
-  pub none_issued : is_issue x.trace.happened.answer ≡ false → x.trace.issued ≡ []
-
 -- The counts of the world are those of the history, which has of an event what the report says of it; and the event is told to be forged exactly
 -- where it is.
 pub record IsLineRight (ciphers : Ciphers) (w : World) (x : Entry) : Type 0 where
   pub adds : Adds w x
-  pub traced : IsLineTraced w x
+  pub traced : IsTracedRight w x
   pub forged : (x.trace.happened.forged ≡ true) ↔ IsForged ciphers w x.event x.trace.opened
 
 abbrev pub LineTracesRight : Type 0
@@ -169,22 +146,3 @@ abbrev pub LineRestartsAreRight : Type 0
 LineRestartsAreRight =
     (ciphers : Ciphers) → KeepsRanges ciphers → (w : World) → WorldOk w → All FlightFits w.flights → LogsKept w → (number : ℕ)
     → RestartIn number (line_step ciphers w (events.Restart number))
-
--- # Sizes
-
--- in every run of the network with further reach no table passes its size, commands that wait have at most 374 octets, and no event sends more
--- than 24 frames
-abbrev pub ReachRunsAreSized : Type 0
-ReachRunsAreSized = (entries : List Entry) → AreEvents (events_of entries) → IsReachRun start entries → IsAlwaysSized entries
-
--- # Runs
-
--- of each event the flights have their senders, the history is right, and no mark falls
-abbrev pub AreToldRight : World → List Entry → Type 0
-AreToldRight w [] = Unit {0}
-AreToldRight w (x ∷ xs) =
-    All (HasSender x.after) (drop (length w.flights) x.after.flights) × IsLineRight network w x × MarksRise w x.after × AreToldRight x.after xs
-
--- so it is in every run of the network with further reach, forged or not, over restarts and failed writes
-abbrev pub EveryReachRunIsToldRight : Type 0
-EveryReachRunIsToldRight = (entries : List Entry) → AreEvents (events_of entries) → IsReachRun start entries → AreToldRight start entries

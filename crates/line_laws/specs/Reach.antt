@@ -1,4 +1,4 @@
--- What runs of a line with further reach keep.
+-- What runs of a line keep of further reach.
 use Rattle.std.specs.Prelude.{◌≡◌, ℕ, false, All, List, [], ◌∷◌, Err, Ok, Some}
 use Rattle.plc_base.specs.declared.key.Key.{Key}
 use Rattle.node_rules.specs.declared.heard.Accepted.{Accepted}
@@ -19,27 +19,37 @@ use Rattle.reach_rules.specs.PathAsking.{ask_path}
 use Rattle.reach_rules.specs.Receiving.{NeighbourCommand, command_of, hear_command}
 use Rattle.line_rules.specs.declared.event.Event.{Event}
 use Rattle.line_rules.specs.Answers.{Reception}
-use Rattle.line_rules.specs.Events.{AreEvents, IsEvent, IsLineOctets}
+use Rattle.line_rules.specs.Events.{IsEvent, IsLineOctets}
 use Rattle.line_rules.specs.Forgery.{Comes, accepting}
 use Rattle.line_rules.specs.Further.{acknowledging, beside_at, due, reaches}
 use Rattle.line_rules.specs.FurtherRuns.{AreBroadcastOnce, AreOfHistory, AreWalked, LogsAlwaysKept}
-use Rattle.line_rules.specs.Runs.{Entry, events_of}
+use Rattle.line_rules.specs.Runs.{Entry}
 use Rattle.line_rules.specs.Steps.{forged_by, hears, identity, note_by, psk_of}
-use Rattle.line_rules.specs.Worlds.{World, node_at, start}
-use Rattle.line_laws.specs.FurtherLines.{IsReachRun}
+use Rattle.line_rules.specs.Worlds.{World, node_at}
+use Rattle.line_laws.specs.Laws.{IsLineRun}
 use Rattle.line_laws.specs.Letters.{IsSent}
 use Rattle.line_laws.specs.Ranges.{WorldRanged}
 
--- In every run of the network with further reach, forged or not, over restarts and failed writes: what each node holds of checks and of its
--- scan is what its history says.
+-- In every run of the network, forged or not, over restarts and failed writes: what each node holds of checks and of its scan is what its
+-- history says.
 abbrev pub EveryHistoryIsKept : Type 0
-EveryHistoryIsKept = (entries : List Entry) → AreEvents (events_of entries) → IsReachRun start entries → AreOfHistory entries
+EveryHistoryIsKept = (entries : List Entry) → IsLineRun network entries → AreOfHistory entries
 
 -- And every store of such a run gives a log, so each restart is answered.
 abbrev pub EveryLogIsKept : Type 0
-EveryLogIsKept = (entries : List Entry) → AreEvents (events_of entries) → IsReachRun start entries → LogsAlwaysKept entries
+EveryLogIsKept = (entries : List Entry) → IsLineRun network entries → LogsAlwaysKept entries
 
 -- # Up to the first forged event
+
+-- The steps of each walk that is reported were taken before, in its order.
+abbrev pub EveryWalkWasTaken : Type 0
+EveryWalkWasTaken = (entries : List Entry) → IsLineRun network entries → AreWalked entries
+
+-- Each broadcast that is handed up was sent by another node with the same octets, and no node hands up two of one origin and number.
+abbrev pub EveryBroadcastIsOnce : Type 0
+EveryBroadcastIsOnce = (entries : List Entry) → IsLineRun network entries → AreBroadcastOnce entries
+
+-- # What they rest on
 
 -- so it is of each world of a run, up to the first forged event
 abbrev pub HoldsAlong : (World → Type 0) → World → List Entry → Type 0
@@ -83,20 +93,6 @@ pub record IsInRange (w : World) : Type 0 where
   pub ranged : WorldRanged w
   pub sends : SendsLetters w
 
--- In every run of the network with further reach that stays in its ranges, up to the first forged event, over restarts and failed writes: the
--- steps of each walk that is reported were taken before, in its order.
-abbrev pub EveryWalkWasTaken : Type 0
-EveryWalkWasTaken =
-    (entries : List Entry) → AreEvents (events_of entries) → IsReachRun start entries → HoldsAlong IsInRange start entries → AreWalked entries
-
 -- Each node of a world that has an address is at its home.
 pub record AreAtHome (home : ℕ → ℕ) (w : World) : Type 0 where
   pub homes : (number : ℕ) (x : Node) (address : ℕ) → node_at w number ≡ Some x → node_address x ≡ Some address → address ≡ home number
-
--- In every run of the network with further reach that stays in its ranges, and whose nodes keep their addresses, up to the first forged event,
--- over restarts and failed writes: each broadcast that is handed up was sent by another node with the same octets, and no node hands up two of
--- one origin and number.
-abbrev pub EveryBroadcastIsOnce : Type 0
-EveryBroadcastIsOnce =
-    (home : ℕ → ℕ) (entries : List Entry) → AreEvents (events_of entries) → IsReachRun start entries
-    → HoldsAlong (λ w. IsInRange w × AreAtHome home w) start entries → AreBroadcastOnce entries

@@ -1,6 +1,0 @@
--- The law, by induction over runs.
-use Rattle.line_laws.proofs.BroadcastRuns.{every_broadcast}
-use Rattle.line_laws.proofs.reach_laws.every_broadcast_is_once.Goals as goal
-
-pub returns : goal.returns
-returns c = every_broadcast

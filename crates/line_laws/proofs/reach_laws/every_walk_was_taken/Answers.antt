@@ -1,6 +1,0 @@
--- The law, by induction over runs.
-use Rattle.line_laws.proofs.WalkRuns.{every_walk}
-use Rattle.line_laws.proofs.reach_laws.every_walk_was_taken.Goals as goal
-
-pub returns : goal.returns
-returns c = every_walk

@@ -1,6 +1,0 @@
--- The law, by what each event keeps.
-use Rattle.line_laws.proofs.FurtherStates.{every_run_ranged}
-use Rattle.line_laws.proofs.state_laws.every_reach_run_is_ranged.Goals as goal
-
-pub returns : goal.returns
-returns c = every_run_ranged
