@@ -2,7 +2,7 @@
 use Rattle.std.proofs.Common.{⊎_elim, inl, inr, ◌≡◌, ◌≢◌, ◌⊎◌, ℕ, ◌+◌, ◌≤◌, ◌<◌, Bool, true, false, List, [], ◌∷◌, ◌++◌, length, Option, Some, None, Result, Ok, Err, refl, subst, arith}
 use Rattle.std.specs.Prelude.{if◌then◌else◌, ◌==◌, ◌%◌, nat_lt, All, IfSome, position}
 use Rattle.std.proofs.lemmas.List.{length-append}
-use Rattle.std.proofs.lemmas.List.Elements.{All-append, All-cons, All-nil}
+use Rattle.std.proofs.lemmas.List.Elements.{All-append, All-cons, All-nil, All-weaker}
 use Rattle.byteorder.specs.Endian.{big_bytes}
 use Rattle.plc_base.specs.Fields.{AreOctets}
 use Rattle.plc_base.proofs.OctetLists.{front, both, big_octets}
@@ -69,6 +69,7 @@ use Rattle.line_rules.specs.Runs.{Entry, IsRun, events_of}
 use Rattle.line_rules.specs.Steps.{Step, identity, psk_of, ran}
 use Rattle.line_rules.specs.Worlds.{World, node_at, start}
 use Rattle.line_laws.specs.FurtherLines.{EveryRunHolds, HoldsAfter, LogsHold, StepHolds}
+use Rattle.line_laws.specs.Laws.{EveryFlightIsOctets}
 use Rattle.line_laws.specs.Lines.{FlightFits, NodeFits, NodeOk, WorldOk}
 use Rattle.line_laws.specs.Stores.{IsReadable}
 use Rattle.line_laws.proofs.FurtherForms.{IsFurther, Goes, Rests, ask_is, broadcast_is, command_is}

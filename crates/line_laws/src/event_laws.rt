@@ -89,6 +89,18 @@ pub fn calls_keep_the_line()
     ensures { CallsKeepTheLine }
 {}
 
+/// And after a scan that begins, and frames of discovery that come.
+#[tactic(auto)]
+pub fn discovery_keeps_the_line()
+    ensures { DiscoveryKeepsTheLine }
+{}
+
+/// And after a command for the neighbours that was heard.
+#[tactic(auto)]
+pub fn commands_keep_the_line()
+    ensures { CommandsKeepTheLine }
+{}
+
 /// So it does after every event of a line with further reach, for any ciphers that keep their ranges and whatever power is lost; no event
 /// sends more than 24 frames, and the flights that it says are those that it adds. A log that is what its store gives fits its slots,
 /// and the tables of such a line are as short as the law of the logs asks.
@@ -119,18 +131,6 @@ pub fn line_logs_hold()
 pub fn line_steps_spell()
     ensures flights { LineStepsSpell }
     ensures beacons { LinesSpellBeacons }
-{}
-
-/// And after a scan that begins, and frames of discovery that come.
-#[tactic(auto)]
-pub fn discovery_keeps_the_line()
-    ensures { DiscoveryKeepsTheLine }
-{}
-
-/// And after a command for the neighbours that was heard.
-#[tactic(auto)]
-pub fn commands_keep_the_line()
-    ensures { CommandsKeepTheLine }
 {}
 
 /// A broadcast of octets and an ask keep all that the laws rest on, whatever power is lost.

@@ -71,7 +71,7 @@ pub fn every_send_has_octets()
     ensures { EverySendHasOctets }
 {}
 
-/// In every run, forged or not, a flight with a key is a sealed frame under this key, and one without a key is a plain frame.
+/// In every run, forged or not, a flight with a key is a sealed frame under this key, and one without a key is a plain frame or one of discovery.
 #[tactic(auto)]
 pub fn every_flight_is_spelled()
     ensures { EveryFlightIsSpelled }
@@ -117,7 +117,7 @@ pub fn every_count_is_right()
 {}
 
 /// In every run, forged or not, the history has a send, a datagram that was handed up, a grant that was taken, issued keys or a
-/// joining that is done exactly where the answer of the event says so.
+/// joining that is done exactly where the answer of the event says so; a broadcast, which is answered as a send, is none.
 #[tactic(auto)]
 pub fn every_trace_is_right()
     ensures { EveryTraceIsRight }
