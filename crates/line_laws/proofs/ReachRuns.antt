@@ -85,15 +85,17 @@ module _ (w : World) (before : List Entry) (o : Sound w before) where
   in_range = record { ranged = o.ranged; sends = sends_letters }
 
   at_home : (home : ℕ → ℕ) → home 0 ≡ 0 → HomedAt home w → AreAtHome home w
-  at_home home first h = record { homes = λ number x address there is. ⊎_elim
-      (λ (e : number ≡ 0). coordinator_address w (issued before) o.stands.ok o.keyed x address (ap (slice_get w.nodes) (sym e) ∙ there) is ∙ sym first
-      ∙ ap home (sym e))
-      (λ (ne : number ≢ 0).
-      let inside = place_within w.nodes number x there in
-      let c = at_length w.nodes 0 (omega arith) in
-      sym (h.at number x c.one o.keyed.book address ne there c.is (o.keyed.coordinator c.one c.is).book_kept
-      (meter_address w (issued before) o.stands.ok o.keyed number x address ne there is)))
-      (cases_eq number 0) }
+  at_home home first h = record {
+    homes = λ number x address there is. ⊎_elim
+        (λ (e : number ≡ 0). coordinator_address w (issued before) o.stands.ok o.keyed x address (ap (slice_get w.nodes) (sym e) ∙ there) is ∙ sym first
+        ∙ ap home (sym e))
+        (λ (ne : number ≢ 0).
+        let inside = place_within w.nodes number x there in
+        let c = at_length w.nodes 0 (omega arith) in
+        sym (h.at number x c.one o.keyed.book address ne there c.is (o.keyed.coordinator c.one c.is).book_kept
+        (meter_address w (issued before) o.stands.ok o.keyed number x address ne there is)))
+        (cases_eq number 0);
+  }
 
 -- # Runs
 
