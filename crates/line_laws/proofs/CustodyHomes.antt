@@ -1,35 +1,24 @@
 -- A home for every node: up to the first forged event the coordinator's book gives each meter the address of its home, and no two nodes have one home.
-use Rattle.std.proofs.Common.{◌≡◌, ◌≢◌, ℕ, zero, suc, ◌+◌, ◌≤◌, ◌<◌, Bool, true, false, List, [], ◌∷◌, ◌++◌, length, Option, Some, None, refl, sym, ap, ◌∙◌, subst, arith}
-use Rattle.std.specs.Prelude.{All}
+use Rattle.std.proofs.Common.{◌≡◌, ◌≢◌, ℕ, zero, suc, ◌+◌, ◌≤◌, ◌<◌, false, List, [], ◌∷◌, ◌++◌, length, Option, Some, None, refl, sym, ap, ◌∙◌, subst, arith}
 use Rattle.std.specs.Option.{option_map}
-use Rattle.std.proofs.lemmas.List.Elements.{All-head, All-tail}
 use Rattle.std.proofs.lemmas.Option.{same_Some}
 use Rattle.store_tables.proofs.SlotTables.{found}
 use Rattle.plc_base.specs.declared.address.Eui.{Eui}
 use Rattle.group_keys.specs.KeyBook as books
 use Rattle.node_rules.specs.Ciphers.{Ciphers}
 use Rattle.node_rules.specs.Memory.{Node}
-use Rattle.line_rules.specs.Events.{IsEvent, AreEvents}
-use Rattle.line_rules.specs.Laws.{GoesOn}
-use Rattle.line_rules.specs.Runs.{Entry, IsRun, issued, events_of}
-use Rattle.line_rules.specs.Steps.{step}
+use Rattle.line_rules.specs.Runs.{Entry}
 use Rattle.line_rules.specs.Worlds.{World, Issued, node_at}
-use Rattle.line_rules.proofs.StepsOn.{steps}
-use Rattle.line_laws.specs.Laws.{FlightsAreOctets}
 use Rattle.line_laws.specs.Owed.{KeepsRanges}
 use Rattle.line_laws.specs.Stores.{IsBookKept}
 use Rattle.line_laws.proofs.AddressBook.{Grows, one_book}
 use Rattle.line_laws.proofs.AddressWorlds.{no_entry, one_meter, above_nought}
-use Rattle.line_laws.proofs.BookGrowth.{Goes, GoesBy, goes}
 use Rattle.line_laws.proofs.CustodySteps.{HomedAt}
-use Rattle.line_laws.proofs.IssueRuns.{Kept, kept, all_of_one, EntryFlies}
-use Rattle.line_laws.proofs.IssueSteps.{step_keyed}
+use Rattle.line_laws.proofs.IssueRuns.{kept}
 use Rattle.line_laws.proofs.IssueWorlds.{Keyed}
 use Rattle.line_laws.proofs.NodeCalls.{no_some}
 use Rattle.line_laws.proofs.Homes.{at_length}
-use Rattle.line_laws.proofs.Running.{taken_good}
-use Rattle.line_laws.proofs.Tellings.{step_is}
-use Rattle.line_laws.proofs.Worlds.{FlightFits, WorldOk, within}
+use Rattle.line_laws.proofs.Worlds.{within}
 
 -- so it is along a run, up to the first forged event
 abbrev pub HomedAlong : (ℕ → ℕ) → World → List Entry → Type 0
@@ -121,9 +110,20 @@ pub record HomesFor (w : World) (entries : List Entry) : Type 0 where
   pub first : home 0 ≡ 0
   pub along : HomedAlong home w entries
 
+-- Homes of one world.
+pub record HomesAt (w : World) : Type 0 where
+  pub home : ℕ → ℕ
+  pub apart : (i j : ℕ) → home i ≡ home j → i ≡ j
+  pub first : home 0 ≡ 0
+  pub at : HomedAt home w
+
+-- those of its book
+pub homes_at : (w : World) (given : List Issued) → Keyed w given → HomesAt w
+homes_at w given k = record { home = home_of k.book w; apart = homes_apart w given k; first = refl; at = homed_now w given k }
+
 module _ (ciphers : Ciphers) (fits : KeepsRanges ciphers) where
   -- homes of the world after an event are homes of the world before it
-  homed_back : (home : ℕ → ℕ) (w v : World) (given more : List Issued) (k : Keyed w given) (l : Keyed v more) → length w.nodes ≤ length v.nodes
+  pub homed_back : (home : ℕ → ℕ) (w v : World) (given more : List Issued) (k : Keyed w given) (l : Keyed v more) → length w.nodes ≤ length v.nodes
       → (0 < length w.nodes → (c : Node) → node_at v 0 ≡ Some c → (b : books.Book) → IsBookKept b c.store.records → Grows k.book b) → (0 < length w.nodes → (n : ℕ) (y : Node) → n < length w.nodes → node_at v n ≡ Some y → (x : Node) × (node_at w n ≡ Some x) × (x.eui ≡ y.eui))
       → HomedAt home v → HomedAt home w
   homed_back home w v given more k l longer grows euis h = record {
@@ -139,28 +139,3 @@ module _ (ciphers : Ciphers) (fits : KeepsRanges ciphers) where
         let new : books.address_of l.book y.eui ≡ Some a = grows some d.one d.is l.book stored y.eui a old in
         h.at n z.one d.one l.book a ne z.is d.is stored (subst (λ (u : Eui). books.address_of l.book u ≡ Some a) (ap (λ (q : Node). q.eui) same ∙ was.2) new);
   }
-
-  pub homes_from : (w : World) (ok : WorldOk w) → All FlightFits w.flights → (before : List Entry) (k : Keyed w (issued before)) → (entries : List Entry) → AreEvents (events_of entries) → FlightsAreOctets entries → IsRun ciphers w entries → HomesFor w entries
-  homes_from w ok flown before k [] says fly run = record { home = home_of k.book w; apart = homes_apart w (issued before) k; first = refl; along = homed_now w (issued before) k }
-  homes_from w ok flown before k (x ∷ xs) says fly run =
-      by_forged x.trace.happened.forged refl (λ ok' k'. homes_from x.after ok' (All-head EntryFlies x xs fly) (before ++ x ∷ []) k' xs (All-tail IsEvent x.event (events_of xs) says) (All-tail EntryFlies x xs fly) run.3)
-    where
-      true_false : true ≡ false → ⊥
-      true_false e = cc
-
-      by_forged : (b : Bool) → x.trace.happened.forged ≡ b → (WorldOk x.after → Keyed x.after (issued (before ++ x ∷ [])) → HomesFor x.after xs) → HomesFor w (x ∷ xs)
-      by_forged true e more = record { home = home_of k.book w; apart = homes_apart w (issued before) k; first = refl; along = (homed_now w (issued before) k, λ honest. absurd (true_false (sym e ∙ honest))) }
-      by_forged false honest more =
-          let event = All-head IsEvent x.event (events_of xs) says in
-          let g = taken_good ciphers fits w ok flown x event run.2 in
-          let next : Keyed x.after (issued before ++ x.trace.issued) = subst (Kept (issued before)) run.2 (kept w (issued before) _ (step_keyed ciphers fits w ok flown (issued before) k x.event event)) honest in
-          let k' : Keyed x.after (issued (before ++ x ∷ [])) = subst (Keyed x.after) (sym (all_of_one (λ d. d.issued) before x)) next in
-          let on : GoesOn w x.after = steps ciphers w x.after x.event x.trace run.2 in
-          let later : 0 < length w.nodes → Goes ciphers fits w ok flown (issued before) k x.after = subst (GoesBy ciphers fits w ok flown (issued before) k) run.2 (goes ciphers fits w ok flown (issued before) k x.event (step ciphers w x.event) (step_is ciphers w x.event event)) in
-          let rest = more g.0 k' in
-          record {
-            home = rest.home;
-            apart = rest.apart;
-            first = rest.first;
-            along = (homed_back rest.home w x.after (issued before) (issued (before ++ x ∷ [])) k k' on.nodes (λ some. (later some).grows) (λ some. (later some).euis) (homed_here rest.home x.after xs rest.along), λ same. rest.along);
-          }

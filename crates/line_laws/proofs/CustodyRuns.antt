@@ -1,12 +1,11 @@
 -- Custody over a run: up to the first forged event what is handed up was sent, and nothing is handed up twice. What is still owed stands in one record.
-use Rattle.std.proofs.Common.{zero-le, ◌≡◌, ◌≢◌, ◌⊎◌, inl, inr, ⊎_elim, ℕ, zero, suc, ◌+◌, ◌-◌, ◌≤◌, ◌<◌, Bool, true, false, List, [], ◌∷◌, ◌++◌, length, get_or, Option, Some, None, Result, Ok, Err, refl, sym, ap, ◌∙◌, subst, append-nil, append_assoc, arith}
-use Rattle.std.specs.Prelude.{All, AllPairs, IfSome, is_some, if◌then◌else◌, slice_get, ◌==◌}
+use Rattle.std.proofs.Common.{◌≡◌, ◌≢◌, ◌⊎◌, inl, inr, ⊎_elim, ℕ, zero, suc, ◌+◌, ◌-◌, ◌≤◌, ◌<◌, Bool, true, false, List, [], ◌∷◌, ◌++◌, length, get_or, Option, Some, None, Result, Ok, Err, refl, sym, ap, ◌∙◌, subst, append-nil, arith}
+use Rattle.std.specs.Prelude.{◌&&◌, All, AllPairs, IfSome, is_some, if◌then◌else◌, slice_get, ◌==◌}
 use Rattle.std.specs.List.{list_any, sum_by}
 use Rattle.std.specs.Option.{option_map_or, option_to_list}
 use Rattle.std.proofs.lemmas.Bool.{cases_eq, eqb-true, eqb-false}
 use Rattle.std.proofs.lemmas.Bool.Decides.{nat_tests}
-use Rattle.std.proofs.lemmas.List.{length-append}
-use Rattle.std.proofs.lemmas.List.Elements.{All-nil, All-head, All-tail, All-append, All-push}
+use Rattle.std.proofs.lemmas.List.Elements.{All-push}
 use Rattle.std.proofs.lemmas.List.Sums.{sum_by-cons, sum_by-append}
 use Rattle.std.proofs.lemmas.Option.{same_Some, slice_get-get_or}
 use Rattle.plc_base.specs.declared.key.Key.{Key}
@@ -27,48 +26,39 @@ use Rattle.node_rules.specs.Frames.{arrived}
 use Rattle.node_rules.specs.Memory.{Memory, Role, Coordinator, Meter, Node}
 use Rattle.node_rules.specs.NodeSteps.{acts, left_by, of_station, stays}
 use Rattle.node_rules.specs.Plans.{Plan, carry_out}
-use Rattle.line_rules.specs.Events.{IsEvent, AreEvents}
+use Rattle.line_rules.specs.Events.{IsEvent}
 use Rattle.line_rules.specs.Forgery.{Comes, OfFlight, OfScript, accepting}
-use Rattle.line_rules.specs.Runs.{Entry, IsRun, one_of, sends as sends_of, ups as ups_of, issued as issued_of, send_at, events_of}
+use Rattle.line_rules.specs.Runs.{Entry, one_of, send_at}
 use Rattle.line_rules.specs.SafeRuns.{WasSent, IsNew}
 use Rattle.line_rules.specs.Steps.{Step, arrives, deliver, inject, has_begun, hears, identity, is_taken, note_by, step}
-use Rattle.line_rules.specs.Traces.{IsSendOf, ComesTo, is_up}
-use Rattle.line_rules.specs.Worlds.{World, Flight, Issued, Sending, node_at, flight_at, is_forged_tag, start}
-use Rattle.line_laws.specs.Laws.{IsLineRun, FlightsAreOctets}
+use Rattle.line_rules.specs.Traces.{ComesTo, is_up}
+use Rattle.line_rules.specs.Worlds.{World, Flight, Issued, Sending, node_at, flight_at, is_forged_tag}
 use Rattle.line_laws.specs.Owed.{AreOctets, KeepsRanges}
-use Rattle.line_laws.specs.Letters.{IsFlight}
 use Rattle.line_laws.specs.Places.{handed_is, issued, LiveFalls, opened_at}
 use Rattle.line_laws.specs.Sends.{SentAs}
 use Rattle.line_laws.specs.Sizes.{IsMemorySized}
-use Rattle.line_laws.specs.Tags.{TagRises, EverySendHasOctets}
-use Rattle.line_laws.specs.Ups.{UpsAreSentAfter}
+use Rattle.line_laws.specs.Tags.{TagRises}
 use Rattle.line_laws.proofs.Answered.{acts_answered}
 use Rattle.line_laws.proofs.CoordinatorCalls.{accept_ok, accept_failed, accepted_routes}
-use Rattle.line_laws.proofs.CustodyArrives.{FlightIsOf, HandedIsOf}
+use Rattle.line_laws.proofs.CustodyArrives.{HandedIsOf}
 use Rattle.line_laws.proofs.AddressPuts.{RingIn}
-use Rattle.line_laws.proofs.CustodyHomes.{HomedAlong, homed_here, homes_from}
 use Rattle.line_laws.proofs.CustodySteps.{AtHome, SpeaksInRange, HomedAt, LaterHomed, sent_as, falls_on, event_at, Kept}
 use Rattle.line_laws.proofs.CustodyTags.{TagsDiffer, Custody, arrival_keeps, untagged_by}
 use Rattle.line_laws.proofs.CustodyTaking.{TakesHome}
 use Rattle.line_laws.proofs.CustodyWhole.{OneSend}
 use Rattle.line_laws.proofs.CustodyWorld.{up_itself, ups_differ}
 use Rattle.line_laws.proofs.FlightFolds.{came_octets}
-use Rattle.line_laws.proofs.IssueRuns.{start_keyed, Kept as KeyedIn, kept, all_of_one, EntryFlies}
+use Rattle.line_laws.proofs.IssueRuns.{kept}
 use Rattle.line_laws.proofs.IssueNodes.{RingOk, Nought}
-use Rattle.line_laws.proofs.IssueSteps.{step_keyed}
 use Rattle.line_laws.proofs.IssueWorlds.{IsMeter, Keyed}
-use Rattle.line_laws.proofs.LawRuns.{event_right}
 use Rattle.line_laws.proofs.Made.{RingWord}
 use Rattle.line_laws.proofs.MeterForms.{RingCause}
 use Rattle.line_laws.proofs.NodeCalls.{RoutesFit, call_given, heard_given, meter_words, no_some}
 use Rattle.line_laws.proofs.Nodes.{NodeOk, acts_ok, node_kept, pair_octets, ring_readable}
 use Rattle.line_laws.proofs.HomeGrants.{takes_own}
 use Rattle.line_laws.proofs.Homes.{at_length, meter_home}
-use Rattle.line_laws.proofs.RangeArrives.{NodeRanged}
 use Rattle.line_laws.proofs.RangeCoordinator.{SpeaksWell}
 use Rattle.line_laws.proofs.RangeHeard.{SaysShort}
-use Rattle.line_laws.proofs.Running.{start_ok, taken_good}
-use Rattle.line_laws.proofs.TagRuns.{every_tag}
 use Rattle.line_laws.proofs.StoreFold.{WordFits}
 use Rattle.line_laws.proofs.StoreMarks.{accept_is}
 use Rattle.line_laws.proofs.Tellings.{IsBrought, step_is}
@@ -84,7 +74,7 @@ at_number sent note s = by_test (note == 0) refl
     by_test true t e = absurd (no_some s e)
     by_test false t e = (let ne : note ≢ 0 = eqb-false _ _ t in omega arith, e)
 
-number_at : (sent : List Sending) (k : ℕ) (s : Sending) → slice_get sent k ≡ Some s → send_at sent (k + 1) ≡ Some s
+pub number_at : (sent : List Sending) (k : ℕ) (s : Sending) → slice_get sent k ≡ Some s → send_at sent (k + 1) ≡ Some s
 number_at sent k s e = by_test ((k + 1) == 0) refl
   where
     by_test : (b : Bool) → ((k + 1) == 0) ≡ b → (if b then None else slice_get sent (k + 1 - 1)) ≡ Some s
@@ -96,7 +86,7 @@ slice_left [] ys k x e lt = absurd (omega arith)
 slice_left (z ∷ xs) ys zero x e lt = e
 slice_left (z ∷ xs) ys (suc k) x e lt = slice_left xs ys k x e (omega arith)
 
-slice_middle : {A : Type 0} (xs ys : List A) (x : A) → slice_get (xs ++ x ∷ ys) (length xs) ≡ Some x
+pub slice_middle : {A : Type 0} (xs ys : List A) (x : A) → slice_get (xs ++ x ∷ ys) (length xs) ≡ Some x
 slice_middle [] ys x = refl
 slice_middle (z ∷ xs) ys x = slice_middle xs ys x
 
@@ -329,16 +319,16 @@ module _ (ciphers : Ciphers) (opens : OpensWhatItSeals ciphers) (fits : KeepsRan
       (λ b is. (subst (λ (k : Accepted). AreOctets k.payload) (same_Some got b is) routes.payload, pair)) v cause
 
   -- What was handed up by octets that came to this node.
-  record UpIs (w : World) (event : Event) (u : Handed) : Type 0 where
-    number : ℕ
-    octets : List ℕ
-    cost : ℕ
-    by : ArrivesBy w event number octets cost
-    is : HandedIsOf S (home number) u.note u.octets
+  pub record UpIs (w : World) (event : Event) (u : Handed) : Type 0 where
+    pub number : ℕ
+    pub octets : List ℕ
+    pub cost : ℕ
+    pub by : ArrivesBy w event number octets cost
+    pub is : HandedIsOf S (home number) u.note u.octets
 
-  record After (w : World) (event : Event) (before : List Handed) (v : World) (up : Option Handed) : Type 0 where
-    custody : Custody ciphers live S home v (before ++ option_to_list up)
-    handed : (u : Handed) → up ≡ Some u → UpIs w event u
+  pub record After (w : World) (event : Event) (before : List Handed) (v : World) (up : Option Handed) : Type 0 where
+    pub custody : Custody ciphers live S home v (before ++ option_to_list up)
+    pub handed : (u : Handed) → up ≡ Some u → UpIs w event u
 
   module _ (w : World) (before : List Handed) (c : Custody ciphers live S home w before) where
     abbrev ByArrival : Event → Step → Type 0
@@ -359,7 +349,7 @@ module _ (ciphers : Ciphers) (opens : OpensWhatItSeals ciphers) (fits : KeepsRan
         let k = arrival_keeps ciphers opens live S (one_send home apart sent rises) (tags_differ home apart sent rises) home w before c number y there octets cost (λ got e. let j = joins number y octets cost there by got e in (keeps number y octets cost there are got e (untagged got e), record { words = λ psk role m here. arrival_words w ok flown event says number y octets cost there (came_by w event number octets cost by) got e psk m role here; short = λ psk role m here. j.short psk m role here; coordinator = j.coordinator })) honest (falls number y octets cost there by) in
         record { custody = k.0; handed = λ u e. record { number = number; octets = octets; cost = cost; by = by; is = k.1 u e } }
 
-    after_event : (ok : WorldOk w) → All FlightFits w.flights → (x : Entry) → IsEvent x.event → step ciphers w x.event ≡ Ok (x.after, x.trace) → IfSome x.trace.happened.up (λ (u : Handed). ComesTo x.event u.node) → ((s : Sending) → x.trace.sent ≡ Some s → S (w.sends + 1) (sent_as home s))
+    pub after_event : (ok : WorldOk w) → All FlightFits w.flights → (x : Entry) → IsEvent x.event → step ciphers w x.event ≡ Ok (x.after, x.trace) → IfSome x.trace.happened.up (λ (u : Handed). ComesTo x.event u.node) → ((s : Sending) → x.trace.sent ≡ Some s → S (w.sends + 1) (sent_as home s))
         → Owed ciphers live w x → (given : List Issued) → Keyed w given → home 0 ≡ 0 → HomedAt home w → HomedAt home x.after → x.trace.happened.forged ≡ false → After w x.event before x.after x.trace.happened.up
     after_event ok flown x says is up_at is_sent owed given k first homed later honest = ⊎_elim came quiet (is_brought x.event)
       where
@@ -387,14 +377,14 @@ module _ (ciphers : Ciphers) (opens : OpensWhatItSeals ciphers) (fits : KeepsRan
   abbrev IsNoted : Handed → Type 0
   IsNoted u = (0 < u.note) × (0 < length u.octets)
 
-  noted : (w : World) (event : Event) (u : Handed) → UpIs w event u → IsNoted u
+  pub noted : (w : World) (event : Event) (u : Handed) → UpIs w event u → IsNoted u
   noted w event u h =
       let s = h.is.is in
       let p = at_number sent u.note s.sending s.is in
       let full : 0 < length s.sending.datagram = at_place (λ (z : Sending). 0 < length z.datagram) sent (u.note - 1) s.sending p.1 some in
       (p.0, subst (λ (xs : List ℕ). 0 < length xs) (ap (λ (z : SentAs). z.octets) s.of ∙ h.is.same) full)
 
-  was_sent : (w v : World) (event : Event) (u : Handed) (before : List Handed) (sent_before rest : List Sending) → sent ≡ sent_before ++ rest → v.sends ≡ length sent_before → UpIs w event u → ComesTo event u.node → Custody ciphers live S home v (before ++ u ∷ []) → WasSent u sent_before
+  pub was_sent : (w v : World) (event : Event) (u : Handed) (before : List Handed) (sent_before rest : List Sending) → sent ≡ sent_before ++ rest → v.sends ≡ length sent_before → UpIs w event u → ComesTo event u.node → Custody ciphers live S home v (before ++ u ∷ []) → WasSent u sent_before
   was_sent w v event u before sent_before rest same count h at c =
       let s = h.is.is in
       let p = at_number sent u.note s.sending s.is in
@@ -415,17 +405,17 @@ module _ (ciphers : Ciphers) (opens : OpensWhatItSeals ciphers) (fits : KeepsRan
         octets = ap (λ (z : SentAs). z.octets) s.of ∙ h.is.same;
       }
 
-  is_new : (v : World) (u : Handed) (before : List Handed) → All IsNoted before → IsNoted u → Custody ciphers live S home v (before ++ u ∷ []) → IsNew u before
+  pub is_new : (v : World) (u : Handed) (before : List Handed) → All IsNoted before → IsNoted u → Custody ciphers live S home v (before ++ u ∷ []) → IsNew u before
   is_new v u before all one c = pairs_last before u (ups_differ ciphers live v (before ++ u ∷ []) c.places (All-push IsNoted before u all one))
 
   -- # The run
 
-  none_lists : (o : Option Sending) (p : Option Handed) (a : Answer) → is_some o ≡ is_taken a → is_some p ≡ is_up a → (u : Handed) → p ≡ Some u → o ≡ None
-  none_lists None p a eo ep u e = refl
-  none_lists (Some s) p a eo ep u e =
+  pub none_lists : (o : Option Sending) (p : Option Handed) (a : Answer) (sends : Bool) → is_some o ≡ (is_taken a && sends) → is_some p ≡ is_up a → (u : Handed) → p ≡ Some u → o ≡ None
+  none_lists None p a sends eo ep u e = refl
+  none_lists (Some s) p a sends eo ep u e =
       let up : is_up a ≡ true = sym ep ∙ ap (λ (q : Option Handed). is_some q) e in
       let taken : is_taken a ≡ false = up_not_taken a up in
-      absurd (true_false (eo ∙ taken))
+      absurd (true_false (eo ∙ ap (λ b. b && sends) taken))
     where
       true_false : true ≡ false → ⊥
       true_false e = cc
@@ -433,70 +423,3 @@ module _ (ciphers : Ciphers) (opens : OpensWhatItSeals ciphers) (fits : KeepsRan
   one_list : {A : Type 0} (o : Option A) → option_to_list o ≡ one_of o
   one_list None = refl
   one_list (Some a) = refl
-
-  ups_from : (w : World) → WorldOk w → All FlightFits w.flights → (before : List Entry) → Keyed w (issued_of before) → w.sends ≡ length (sends_of before) → Custody ciphers live S home w (ups_of before) → All IsNoted (ups_of before)
-      → (entries : List Entry) → AreEvents (events_of entries) → FlightsAreOctets entries → IsRun ciphers w entries → sent ≡ sends_of before ++ sends_of entries → home 0 ≡ 0 → HomedAlong home w entries → OwedAlong ciphers live w entries → UpsAreSentAfter before entries
-  ups_from w ok flown before k count c all [] says fly run same first homed owed = tt
-  ups_from w ok flown before k count c all (x ∷ xs) says fly run same first homed owed = λ honest.
-      let event = All-head IsEvent x.event (events_of xs) says in
-      let right = event_right ciphers w x event run.2 in
-      let o = owed honest in
-      let next = after_event w (ups_of before) c ok flown x event run.2 right.traced.up_at (is_sent) o.0 (issued_of before) k first homed.0 (homed_here home x.after xs (homed.1 honest)) honest in
-      let keyed : Keyed x.after (issued_of before ++ x.trace.issued) = subst (KeyedIn (issued_of before)) run.2 (kept w (issued_of before) _ (step_keyed ciphers fits w ok flown (issued_of before) k x.event event)) honest in
-      let k' : Keyed x.after (issued_of (before ++ x ∷ [])) = subst (Keyed x.after) (sym (all_of_one (λ d. d.issued) before x)) keyed in
-      let g = taken_good ciphers fits w ok flown x event run.2 in
-      let ups_now : ups_of before ++ option_to_list x.trace.happened.up ≡ ups_of (before ++ x ∷ []) = ap (λ (us : List Handed). ups_of before ++ us) (one_list x.trace.happened.up) ∙ sym (all_of_one (λ d. one_of d.happened.up) before x) in
-      let sends_now : sends_of (before ++ x ∷ []) ≡ sends_of before ++ one_of x.trace.sent = all_of_one (λ d. one_of d.sent) before x in
-      let longer = length-append (sends_of before) (one_of x.trace.sent) in
-      let adds = right.adds.sends in
-      let length_now : length (sends_of (before ++ x ∷ [])) ≡ length (sends_of before ++ one_of x.trace.sent) = ap length sends_now in (
-        by_up x.trace.happened.up refl next right.traced.sent right.traced.up right.traced.up_at adds,
-        ups_from x.after g.0 (All-head EntryFlies x xs fly) (before ++ x ∷ []) k' (omega arith) (subst (Custody ciphers live S home x.after) ups_now next.custody) (subst (All IsNoted) ups_now (all_noted x.trace.happened.up next))
-            xs (All-tail IsEvent x.event (events_of xs) says) (All-tail EntryFlies x xs fly) run.3 (same ∙ sym (append_assoc (sends_of before) (one_of x.trace.sent) (sends_of xs)) ∙ ap (λ (ss : List Sending). ss ++ sends_of xs) (sym sends_now)) first (homed.1 honest) o.1,
-      )
-    where
-      is_sent : (s : Sending) → x.trace.sent ≡ Some s → S (w.sends + 1) (sent_as home s)
-      is_sent s e =
-          let all_sends : sent ≡ sends_of before ++ s ∷ sends_of xs = same ∙ ap (λ (q : Option Sending). sends_of before ++ (one_of q ++ sends_of xs)) e in
-          let there : slice_get sent (length (sends_of before)) ≡ Some s = ap (λ ss. slice_get ss (length (sends_of before))) all_sends ∙ slice_middle (sends_of before) (sends_of xs) s in
-          record { sending = s; is = number_at sent w.sends s (ap (slice_get sent) count ∙ there); of = refl }
-
-      all_noted : (p : Option Handed) → After w x.event (ups_of before) x.after p → All IsNoted (ups_of before ++ option_to_list p)
-      all_noted None h = subst (All IsNoted) (sym (append-nil (ups_of before))) all
-      all_noted (Some u) h = All-push IsNoted (ups_of before) u all (noted w x.event u (h.handed u refl))
-
-      by_up : (p : Option Handed) → x.trace.happened.up ≡ p → After w x.event (ups_of before) x.after p → is_some x.trace.sent ≡ is_taken x.trace.happened.answer → is_some p ≡ is_up x.trace.happened.answer → IfSome p (λ (u : Handed). ComesTo x.event u.node)
-          → x.after.sends ≡ w.sends + length (one_of x.trace.sent) → IfSome p (λ (up : Handed). WasSent up (sends_of before) × IsNew up (ups_of before))
-      by_up None e h st ut at adds = tt
-      by_up (Some u) e h st ut at adds =
-          let none : x.trace.sent ≡ None = none_lists x.trace.sent (Some u) x.trace.happened.answer st ut u refl in
-          let zero_more : length (one_of x.trace.sent) ≡ 0 = ap (λ (q : Option Sending). length (one_of q)) none in
-          let up = h.handed u refl in (
-            was_sent w x.after x.event u (ups_of before) (sends_of before) (sends_of (x ∷ xs)) same (omega arith) up at h.custody,
-            is_new x.after u (ups_of before) all (noted w x.event u up) h.custody,
-          )
-
--- # From the beginning
-
-some_sends : (ciphers : Ciphers) (w : World) (entries : List Entry) → AreEvents (events_of entries) → IsRun ciphers w entries → All (λ (s : Sending). 0 < length s.datagram) (sends_of entries)
-some_sends ciphers w [] says run = All-nil (λ (s : Sending). 0 < length s.datagram)
-some_sends ciphers w (x ∷ xs) says run =
-    let event = All-head IsEvent x.event (events_of xs) says in
-    All-append (λ (s : Sending). 0 < length s.datagram) (one_of x.trace.sent) (sends_of xs) (by_sent x.trace.sent (event_right ciphers w x event run.2).traced.send event) (some_sends ciphers x.after xs (All-tail IsEvent x.event (events_of xs) says) run.3)
-  where
-    by_sent : (o : Option Sending) → IfSome o (IsSendOf w x.event) → IsEvent x.event → All (λ (s : Sending). 0 < length s.datagram) (one_of o)
-    by_sent None h event = All-nil (λ (s : Sending). 0 < length s.datagram)
-    by_sent (Some s) h event = let is : IsEvent (events.Send s.from s.to s.datagram) = subst IsEvent h.fields event in All-push (λ (z : Sending). 0 < length z.datagram) [] s (All-nil (λ (z : Sending). 0 < length z.datagram)) is.2.0
-
--- Up to the first forged event every datagram that is handed up was sent to that node with the same octets, and none is handed up twice, where what is owed holds.
-pub ups_are_sent : (ciphers : Ciphers) → OpensWhatItSeals ciphers → KeepsRanges ciphers → (live : World → Flight → Bool) → ((w : World) (f : Flight) → live w (record f { lost = true }) ≡ true → live w f ≡ true)
-    → (entries : List Entry) → IsLineRun ciphers entries → FlightsAreOctets entries → OwedAlong ciphers live start entries → UpsAreSentAfter [] entries
-ups_are_sent ciphers opens fits live lost entries r fly owed =
-    let h = homes_from ciphers fits start start_ok (All-nil FlightFits) [] start_keyed entries r.events fly r.run in
-    ups_from ciphers opens fits live lost h.home h.apart (sends_of entries) (every_tag ciphers fits entries r fly) (some_sends ciphers start entries r.events r.run) start start_ok (All-nil FlightFits) [] start_keyed refl
-    (record { flights = All-nil (IsFlight ciphers); ranged = All-nil NodeRanged; sent = All-nil (FlightIsOf ciphers (SentUnder h.home (sends_of entries))); nodes = λ number x e. absurd (no_some x e); places = record { at_most = λ n i some. zero-le } })
-    (All-nil (λ (u : Handed). (0 < u.note) × (0 < length u.octets))) entries r.events fly r.run refl h.first h.along owed
-
--- no datagram that was sent is empty
-pub every_send : EverySendHasOctets
-every_send ciphers entries r = some_sends ciphers start entries r.events r.run

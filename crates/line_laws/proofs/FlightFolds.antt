@@ -145,7 +145,7 @@ module _ (ciphers : Ciphers) (v : World) (number : ℕ) (y : Node) (there : node
 abbrev pub NewSenders : World → World → Type 0
 NewSenders w v = All (HasSender v) (drop (length w.flights) v.flights)
 
-none_new : (w v : World) → length v.flights ≡ length w.flights → NewSenders w v
+pub none_new : (w v : World) → length v.flights ≡ length w.flights → NewSenders w v
 none_new w v e = subst (λ n. All (HasSender v) (drop n v.flights)) e (subst (All (HasSender v)) (sym (drop-length v.flights)) (All-nil (HasSender v)))
 
 module _ (ciphers : Ciphers) where
@@ -160,16 +160,16 @@ module _ (ciphers : Ciphers) where
       subst (λ xs. All (HasSender v) (drop (length w.flights) xs)) (sym flights) (subst (All (HasSender v)) (sym (drop-append_seam w.flights (flights_of ciphers number d))) all)
 
   -- nothing was sent
-  told_silent : {A : Type 0} (u : World) (number : ℕ) (d : NodeStep A) → d.frames ≡ [] → (told ciphers u number d).flights ≡ u.flights
+  pub told_silent : {A : Type 0} (u : World) (number : ℕ) (d : NodeStep A) → d.frames ≡ [] → (told ciphers u number d).flights ≡ u.flights
   unfolding told
   told_silent u number d none = ap (λ fs. u.flights ++ map (λ frame. flight_by number (spelled ciphers frame)) fs) none ∙ append-nil u.flights
 
 -- A node sent nothing, or it sent from the address that it has.
-data IsSentFrom {A : Type 0} (d : NodeStep A) : Type 0 where
+pub data IsSentFrom {A : Type 0} (d : NodeStep A) : Type 0 where
   Silent : d.frames ≡ [] → IsSentFrom d
   Speaks : AreFrom (node_address d.node) d.frames → ((a : ℕ) → node_address d.node ≡ Some a → a < 0xFFFE) → IsSentFrom d
 
-speaks : {A : Type 0} (x : Node) (d : NodeStep A) → DidOk x d → IsSentFrom d
+pub speaks : {A : Type 0} (x : Node) (d : NodeStep A) → DidOk x d → IsSentFrom d
 speaks x d did = Speaks did.from (λ a e. address_low d.node a did.node e)
 
 module _ (ciphers : Ciphers) (fits : KeepsRanges ciphers) (w : World) (ok : WorldOk w) (flown : All FlightFits w.flights) where
@@ -216,7 +216,7 @@ module _ (ciphers : Ciphers) (fits : KeepsRanges ciphers) (w : World) (ok : Worl
   call_sent number x A halted plan there (Activates meter y index first at low) = order_sent number x _ first there (λ m sized. activate_ok ciphers fits (own_of x) m sized y.eui index w.clock)
   call_sent number x A halted plan there (Kicks meter y first at) = order_sent number x _ first there (λ m sized. kick_ok ciphers fits (own_of x) m sized y.eui (given_at meter y at.there).eui)
 
-  one_told : {A : Type 0} (u v : World) (number : ℕ) (x : Node) (d : NodeStep A) → u.flights ≡ w.flights → u.nodes ≡ w.nodes → v.nodes ≡ (told ciphers u number d).nodes → v.flights ≡ (told ciphers u number d).flights → node_at w number ≡ Some x → IsSentFrom d → NewSenders w v
+  pub one_told : {A : Type 0} (u v : World) (number : ℕ) (x : Node) (d : NodeStep A) → u.flights ≡ w.flights → u.nodes ≡ w.nodes → v.nodes ≡ (told ciphers u number d).nodes → v.flights ≡ (told ciphers u number d).flights → node_at w number ≡ Some x → IsSentFrom d → NewSenders w v
   one_told u v number x d fs ns vn vf there (Silent none) = none_new w v (ap length (vf ∙ told_silent ciphers u number d none ∙ fs))
   one_told u v number x d fs ns vn vf there (Speaks from low) = told_senders ciphers w u v number x d fs ns vn vf there from low
 

@@ -1,12 +1,15 @@
 -- What holds of a line of nodes holds after the events of further reach.
-use Rattle.std.proofs.Common.{zero-le, ◌≡◌, ℕ, ◌+◌, ◌<◌, true, false, List, [], ◌∷◌, ◌++◌, length, get_or, Option, Some, None, Err, refl, sym, subst, arith}
-use Rattle.std.specs.Prelude.{IfSome}
+use Rattle.std.proofs.Common.{zero-le, ◌≡◌, ℕ, ◌+◌, ◌≤◌, ◌<◌, Bool, true, false, List, [], ◌∷◌, ◌++◌, length, get_or, Option, Some, None, Result, Ok, Err, refl, sym, subst, arith}
+use Rattle.std.specs.Prelude.{All, AllPairs, IfSome}
 use Rattle.std.proofs.lemmas.List.Elements.{All-push}
 use Rattle.std.proofs.lemmas.List.Quantifiers.{all_pairs_push}
 use Rattle.pan_discovery.specs.declared.message.Discovery.{Discovery}
 use Rattle.node_rules.specs.Ciphers.{Ciphers}
+use Rattle.node_rules.specs.Drafts.{Outgoing}
 use Rattle.node_rules.specs.Memory.{Memory, Node}
+use Rattle.node_rules.specs.NodeSteps.{NodeStep, acts}
 use Rattle.node_rules.specs.Plans.{Plan}
+use Rattle.reach_rules.specs.declared.refusal.BroadcastRefusal.{BroadcastRefusal}
 use Rattle.reach_rules.specs.declared.refusal.BroadcastRefusal.TheVariants as broadcasts
 use Rattle.reach_rules.specs.declared.refusal.AskRefusal.TheVariants as asks
 use Rattle.node_rules.specs.MemoryDrafts.{in_memory}
@@ -20,14 +23,17 @@ use Rattle.reach_rules.specs.Broadcasts.{broadcast}
 use Rattle.reach_rules.specs.PathAsking.{ask_path}
 use Rattle.line_rules.specs.Answers.{discovery_word, scan_word}
 use Rattle.line_rules.specs.declared.event.Answer.{Answer}
-use Rattle.line_rules.specs.Further.{beside_at, commanded, broadcasts_by, asks_by, scans_by, discovers_by, has_discovered, beacon_taken, scanning, discovery_flight, reaches, with_beside}
+use Rattle.line_rules.specs.Further.{beside_at, beside_after, commanded, has_reached, broadcasts_by, asks_by, scans_by, discovers_by, has_discovered, beacon_taken, scanning, discovery_flight, discovery_flights, reaches, with_beside}
 use Rattle.line_rules.specs.Nonces.{CounterRises, NonceParts, nonce_parts}
 use Rattle.line_rules.specs.Steps.{ran, told}
 use Rattle.line_rules.specs.Worlds.{World, Flight, Noticed, Trace, node_at}
 use Rattle.line_laws.specs.FurtherLines.{LineHolds, LogFits, CallsKeepTheLine, CommandsKeepTheLine, DiscoveryKeepsTheLine}
-use Rattle.line_laws.specs.Lines.{IsBelow, NodeOk, WorldOk, frontier}
+use Rattle.line_laws.specs.Lines.{IsBelow, NodeOk, Rising, WorldOk, frontier}
 use Rattle.line_laws.specs.Owed.{KeepsRanges}
+use Rattle.line_laws.specs.Sizes.{IsMemorySized}
 use Rattle.line_laws.proofs.FurtherForms.{AnyUnits, IsFurther, ask_is, broadcast_is, command_is, further_ok}
+use Rattle.mac_frames.specs.Grammar.{IsTarget}
+use Rattle.node_rules.specs.Frames.{to_all}
 use Rattle.line_laws.proofs.LaterMoves.{discovery_nonce}
 use Rattle.line_laws.proofs.Nodes.{DidOk, acts_ok}
 use Rattle.line_laws.proofs.Worlds.{at_place, counts_ok, told_ok, within}
@@ -136,3 +142,8 @@ module _ (ciphers : Ciphers) (fits : KeepsRanges ciphers) (r : World × Trace) (
 
 pub commands_keep : CommandsKeepTheLine
 commands_keep ciphers fits r ok runs silent number x there logs c = command_holds ciphers fits r ok runs silent number x there logs c
+
+-- # All of it
+
+pub all_target : IsTarget to_all
+all_target = (omega arith, λ e. omega arith)

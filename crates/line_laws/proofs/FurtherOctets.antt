@@ -1,8 +1,8 @@
 -- What further rules send is octets, so what flies on a line stays octets.
-use Rattle.std.proofs.Common.{⊎_elim, zero-le, inl, inr, ◌≡◌, ◌≢◌, ◌⊎◌, ℕ, ◌+◌, ◌≤◌, ◌<◌, Bool, true, false, List, [], ◌∷◌, ◌++◌, length, Option, Some, None, Result, Ok, Err, refl, sym, subst, arith}
+use Rattle.std.proofs.Common.{⊎_elim, inl, inr, ◌≡◌, ◌≢◌, ◌⊎◌, ℕ, ◌+◌, ◌≤◌, ◌<◌, Bool, true, false, List, [], ◌∷◌, ◌++◌, length, Option, Some, None, Result, Ok, Err, refl, subst, arith}
 use Rattle.std.specs.Prelude.{if◌then◌else◌, ◌==◌, ◌%◌, nat_lt, All, IfSome, position}
 use Rattle.std.proofs.lemmas.List.{length-append}
-use Rattle.std.proofs.lemmas.List.Elements.{All-append, All-cons, All-nil}
+use Rattle.std.proofs.lemmas.List.Elements.{All-append, All-cons, All-nil, All-weaker}
 use Rattle.byteorder.specs.Endian.{big_bytes}
 use Rattle.plc_base.specs.Fields.{AreOctets}
 use Rattle.plc_base.proofs.OctetLists.{front, both, big_octets}
@@ -19,7 +19,7 @@ use Rattle.path_requests.specs.declared.step.PathStep.TheVariants.{Forward, Answ
 use Rattle.path_requests.specs.declared.step.PathRefusal.{PathRefusal}
 use Rattle.path_requests.specs.declared.step.PathRefusal.TheVariants as refusals
 use Rattle.path_requests.specs.Messages.{IsPath, path_spelling}
-use Rattle.path_requests.specs.Taking.{ask_led, ask_taken, hop, taken, tell_led, tell_taken}
+use Rattle.path_requests.specs.Taking.{ask_led, hop, taken, tell_led, tell_taken}
 use Rattle.path_requests.specs.Walks.{ends_with, has, has_at, walk_octets}
 use Rattle.line_laws.proofs.FurtherForms.{SendsOn}
 use Rattle.std.specs.Option.{option_map_or}
@@ -37,7 +37,6 @@ use Rattle.pan_discovery.specs.Reading.{discovery_in}
 use Rattle.pan_discovery.specs.Agents.{kth_of}
 use Rattle.path_requests.proofs.Readings.{paths_spelled}
 use Rattle.broadcast_log.proofs.Spellings.{broadcast_spelled}
-use Rattle.node_rules.specs.declared.heard.Accepted.{Accepted}
 use Rattle.node_rules.specs.declared.heard.Reply.{Reply}
 use Rattle.node_rules.specs.declared.refusal.FrameRefusal.TheVariants as frames
 use Rattle.node_rules.specs.declared.refusal.LocalRefusal.TheVariants as locals
@@ -66,10 +65,11 @@ use Rattle.line_rules.specs.Events.{AreEvents, IsEvent}
 use Rattle.line_rules.specs.Forgery.{accepting}
 use Rattle.line_rules.specs.Further.{beside_at, discovery_flight, line_step, of_memory, reaches, with_beside}
 use Rattle.line_rules.specs.Logs.{LogsKept}
-use Rattle.line_rules.specs.Runs.{Entry, events_of}
+use Rattle.line_rules.specs.Runs.{Entry, IsRun, events_of}
 use Rattle.line_rules.specs.Steps.{Step, identity, psk_of, ran}
-use Rattle.line_rules.specs.Worlds.{World, Trace, node_at, start}
-use Rattle.line_laws.specs.FurtherLines.{EveryReachRunHolds, HoldsAfter, IsReachRun, LogsHold, StepHolds}
+use Rattle.line_rules.specs.Worlds.{World, node_at, start}
+use Rattle.line_laws.specs.FurtherLines.{EveryRunHolds, HoldsAfter, LogsHold, StepHolds}
+use Rattle.line_laws.specs.Laws.{EveryFlightIsOctets}
 use Rattle.line_laws.specs.Lines.{FlightFits, NodeFits, NodeOk, WorldOk}
 use Rattle.line_laws.specs.Stores.{IsReadable}
 use Rattle.line_laws.proofs.FurtherForms.{IsFurther, Goes, Rests, ask_is, broadcast_is, command_is}
@@ -78,7 +78,7 @@ use Rattle.line_laws.proofs.FurtherSteps.{line_steps_hold}
 use Rattle.line_laws.proofs.FurtherTellings.{After, Anew, Besides, Carries, Chooses, Flies, IsLineStep, Known, Moves, Opens, Speaks, Stays, Turns, Unbelieves, Unsends, fits_at, line_step_is, moved_ok}
 use Rattle.line_laws.proofs.MeterOctets.{joins_speaks}
 use Rattle.line_laws.proofs.Nodes.{ring_readable}
-use Rattle.line_laws.proofs.OctetCalls.{NodeSpeaks, DidSpeak, accept_speaks, acts_speaks}
+use Rattle.line_laws.proofs.OctetCalls.{NodeSpeaks, accept_speaks, acts_speaks}
 use Rattle.line_laws.proofs.OctetDrafts.{MemorySpeaks, OutSpeaks, PlanSpeaks, SentOctets, sealed_speak}
 use Rattle.line_laws.proofs.OctetRuns.{SpeaksIn, WorldSpeaks, event_speaks, pair_of, start_speaks, told_speaks}
 use Rattle.line_laws.proofs.Readings.{network_ranges}
@@ -251,7 +251,7 @@ module _ (w : World) (ok : WorldOk w) (s : WorldSpeaks w) (logs : LogsKept w) wh
   choice_speaks : (number : ℕ) (x : Node) (psk : Key) → node_at w number ≡ Some x → psk_of x ≡ Some psk → (m : Memory) → x.memory ≡ Some m → MemorySpeaks m → (b : Beside) (k : ℕ) → PlanSpeaks (with_beside b (λ y. choose_agent (identity network x psk) y k w.clock) m)
   choice_speaks number x psk there pair m here h b k = chosen_speaks m b (identity network x psk) k w.clock h (λ agent. joins_speaks x.eui psk (at_place NodeFits w.nodes number x there ok.fits).eui (pair_of w ok s number x m psk there here pair) m h (ring_readable x m (at_place NodeOk w.nodes number x there ok.nodes) here) w.clock agent)
 
-  line_speaks : (event : Event) (st : Step) → IsLineStep Octets Spelled network w event st → SpeaksIn w ok s st
+  pub line_speaks : (event : Event) (st : Step) → IsLineStep Octets Spelled network w event st → SpeaksIn w ok s st
   line_speaks event st (Known e t is) = event_speaks w ok s event st is
   line_speaks event st (Opens begun) = record { nodes = s.nodes; flights = s.flights }
   line_speaks event st (Anew e v t moves silent) = moved_speaks (ran w) v moves (steps_ran_ok network network_ranges w ok s.flights) refl ran_octets
@@ -269,7 +269,7 @@ module _ (w : World) (ok : WorldOk w) (s : WorldSpeaks w) (logs : LogsKept w) wh
       record { nodes = t.nodes; flights = t.flights }
 
   -- what nodes seal is octets
-  octets_speak : Speaks Octets Spelled network w
+  pub octets_speak : Speaks Octets Spelled network w
   octets_speak = record {
     broadcasts = λ number x m datagram are there here. broadcast_is Octets (beside_at w number) datagram m (λ own e none. one_octets to_all 4 _ (omega arith) (broadcast_octets (own_broadcast own (beside_at w number).log datagram) (omega arith) are.2));
     asks = λ number x m target there here. ask_is Octets (beside_at w number) target m (λ own hop e route. one_octets hop 5 _ (omega arith) (path_octets (Ask target (own ∷ [])) (omega arith)));
@@ -282,12 +282,12 @@ module _ (w : World) (ok : WorldOk w) (s : WorldSpeaks w) (logs : LogsKept w) wh
         let sp = broadcast_spelled d c.body (commands_fit network network_ranges w ok s.flights event says number x octets got c there comes is e) p in
         let few = sp.0.hops.1 in
         one_octets to_all 4 _ (omega arith) (broadcast_octets (hop_less d) (omega arith) (datagram_octets d (subst AreOctets sp.1 (commands_fit network network_ranges w ok s.flights event says number x octets got c there comes is e)))));
-    acknowledges = λ event number x octets got cost reply m says comes there is here. ack_speaks m reply;
+    acknowledges = λ event number x octets got cost reply m says comes there is owed here. ack_speaks m reply;
   }
 
 -- # Runs
 
-runs_hold : (w : World) → WorldOk w → WorldSpeaks w → LogsKept w → (entries : List Entry) → AreEvents (events_of entries) → IsReachRun w entries → All HoldsAfter entries
+runs_hold : (w : World) → WorldOk w → WorldSpeaks w → LogsKept w → (entries : List Entry) → AreEvents (events_of entries) → IsRun network w entries → All HoldsAfter entries
 runs_hold w ok s logs [] says run = All-nil HoldsAfter
 runs_hold w ok s logs (x ∷ xs) says run =
     let event = All-head IsEvent x.event (events_of xs) says in
@@ -296,5 +296,11 @@ runs_hold w ok s logs (x ∷ xs) says run =
     let next : WorldSpeaks x.after = subst (SpeaksIn w ok s) run.2 (line_speaks w ok s logs x.event (line_step network w x.event) (line_step_is Octets Spelled network network_ranges w ok s.flights logs (octets_speak w ok s logs) x.event event)) in
     All-cons HoldsAfter x xs (record { line = held.0.0; octets = next.flights; logs = kept; few = held.0.1 }) (runs_hold x.after held.0.0 next kept xs (All-tail IsEvent x.event (events_of xs) says) run.3)
 
-pub every_reach_run : EveryReachRunHolds
-every_reach_run entries says run = runs_hold start start_ok start_speaks tt entries says run
+pub every_run_holds : EveryRunHolds
+every_run_holds entries r = runs_hold start start_ok start_speaks tt entries r.events r.run
+
+abbrev EntryFlies : Entry → Type 0
+EntryFlies x = All FlightFits x.after.flights
+
+pub every_flight : EveryFlightIsOctets
+every_flight entries r = All-weaker HoldsAfter EntryFlies (λ x h. h.octets) entries (every_run_holds entries r)

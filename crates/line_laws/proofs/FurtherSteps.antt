@@ -178,7 +178,7 @@ ack_few x reply = acts_little x (Err locals.Store) (λ m. acknowledges in_memory
 node_sized : (x : Node) (m : Memory) → NodeOk x → x.memory ≡ Some m → IsMemorySized m
 node_sized x m ok here = subst (λ o. IfSome o IsMemorySized) here ok.sized
 
-ack_did : (x : Node) (reply : Reply) → NodeOk x → DidOk x (acknowledging x reply)
+pub ack_did : (x : Node) (reply : Reply) → NodeOk x → DidOk x (acknowledging x reply)
 ack_did x reply ok = acts_ok x (Err locals.Store) (λ m. acknowledges in_memory reply.to reply.number reply.origin m) ok (λ m here kept sized. further_ok AnyUnits x.role m sized _ (ack_is m reply))
 
 -- a choice is a joining, or nothing
@@ -201,28 +201,29 @@ choice_ok role m sized ciphers fits own same b k now = by_joined (meters.is_join
 
 -- # What nodes without further reach make of a command: nothing
 
-hears_nothing : (l : StationMemory) (got : Accepted) (cost note now : ℕ) (c : NeighbourCommand) → command_of got ≡ Some c → ((hear l got cost note now).frames ≡ []) × (unread (hear l got cost note now).answer ≡ None)
+pub hears_nothing : (l : StationMemory) (got : Accepted) (cost note now : ℕ) (c : NeighbourCommand) → command_of got ≡ Some c
+    → ((hear l got cost note now).frames ≡ []) × (unread (hear l got cost note now).answer ≡ None) × ((hear l got cost note now).memory ≡ l)
 unfolding resting choose_plan
 hears_nothing l got cost note now c e = by_path got.path (unit_in got.payload) e
   where
     Nothing : Hearing → Type 0
-    Nothing p = (p.frames ≡ []) × (unread p.answer ≡ None)
+    Nothing p = (p.frames ≡ []) × (unread p.answer ≡ None) × (p.memory ≡ l)
 
     by_code : (own from : ℕ) (all : Bool) (code : ℕ) (body : List ℕ) (s t : Bool) (m p : Hearing) → (if s then None else (if t then None else Some (record { from = from; to_all = all; code = code; body = body }))) ≡ Some c
         → Nothing (if s then m else (if t then p else resting l (Ok (heard_words.Local from all code body)) (Err drops.Store)))
     by_code own from all code body true t m p is = absurd (cc (is))
     by_code own from all code body false true m p is = absurd (cc (is))
-    by_code own from all code body false false m p is = (refl, refl)
+    by_code own from all code body false false m p is = (refl, refl, refl)
 
     by_address : (o : Option ℕ) (from : ℕ) (all : Bool) (unit : MeshUnit) → command_with from all (Some unit) ≡ Some c → Nothing (option_map_or (λ a. hear_sealed l a from all unit cost note now) o (drop_it l drops.BadUnit))
-    by_address None from all unit is = (refl, refl)
+    by_address None from all unit is = (refl, refl, refl)
     by_address (Some own) from all (units.Local code body) is = by_code own from all code body (code == 1) (code == 2) _ _ is
     by_address (Some own) from all (units.Whole mesh octets) is = absurd (cc (is))
     by_address (Some own) from all (units.Part mesh piece) is = absurd (cc (is))
     by_address (Some own) from all (units.Carried mesh body) is = absurd (cc (is))
 
     by_path : (p : Path) (o : Option MeshUnit) → command_on p o ≡ Some c → Nothing (hear_unit_in l p o cost note now)
-    by_path p None is = (refl, refl)
+    by_path p None is = (refl, refl, refl)
     by_path (paths.Sealed from all key) (Some unit) is = by_address (address_of l) from all unit is
     by_path (paths.Up from) (Some unit) is = absurd (cc (is))
     by_path (paths.Down from) (Some unit) is = absurd (cc (is))
@@ -233,7 +234,7 @@ module _ (ciphers : Ciphers) (x : Node) (got : Accepted) (cost note now : ℕ) w
   hears_as Coordinator = answering coordinator_reception (acts x (Err drops.Store) (λ m. coordinator_rules.hear_coordinator (record { eui = x.eui; ciphers = ciphers }) m got cost note now))
   hears_as (Meter psk) = answering meter_reception (acts x (Err drops.Store) (λ m. meters.hear_meter (identity ciphers x psk) m got cost note now))
 
-  command_silent : (c : NeighbourCommand) → command_of got ≡ Some c → (r : Role) → (hears_as r).frames ≡ []
+  pub command_silent : (c : NeighbourCommand) → command_of got ≡ Some c → (r : Role) → (hears_as r).frames ≡ []
   command_silent c e Coordinator = acts_quiet x (Err drops.Store) (λ m. coordinator_rules.hear_coordinator (record { eui = x.eui; ciphers = ciphers }) m got cost note now)
       (λ m. let n = hears_nothing m.station got cost note now c e in subst (λ o. (coordinator_rules.heard_by (record { eui = x.eui; ciphers = ciphers }) m now (hear m.station got cost note now) o).frames ≡ []) (sym n.1) n.0)
   command_silent c e (Meter psk) = acts_quiet x (Err drops.Store) (λ m. meters.hear_meter (identity ciphers x psk) m got cost note now)

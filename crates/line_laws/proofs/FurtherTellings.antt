@@ -132,12 +132,12 @@ use Rattle.line_laws.proofs.FurtherSteps.{ack_is}
 use Rattle.line_laws.proofs.FlightFolds.{AllOf, every_flight, told_all, lost_spelled}
 use Rattle.line_laws.proofs.HeadsSaid.{spelled_well}
 use Rattle.line_laws.proofs.LaterMoves.{discovery_nonce}
-use Rattle.line_laws.specs.FurtherLines.{BeaconsAreSpelled, FlightsSpelled, LineStepsSpell}
+use Rattle.line_laws.specs.FurtherLines.{BeaconsAreSpelled, FlightsSpelled}
 use Rattle.pan_discovery.specs.Messages.{IsDiscovery}
 use Rattle.node_rules.specs.Frames.{Sent, spelled}
 use Rattle.line_rules.specs.Further.{discovery_flight}
 use Rattle.line_rules.specs.Nonces.{IsSpelled}
-use Rattle.line_rules.specs.Steps.{flight_by}
+use Rattle.line_rules.specs.Steps.{flight_by, accepted_by, arrives, deliver, inject, restart}
 
 -- # Moves
 
@@ -176,22 +176,31 @@ pub record Tells (s t : Trace) : Type 0 where
 
 -- # Events
 
-pub data IsLineStep (U : List Outgoing → Type 0) (D : Discovery → Type 0) (ciphers : Ciphers) (w : World) : Event → Step → Type 1 where
+-- Old is what is known of an event as it is without further reach
+pub data IsLineStepBy (Old : Event → Step → Type 1) (U : List Outgoing → Type 0) (D : Discovery → Type 0) (ciphers : Ciphers) (w : World) : Event → Step
+    → Type 1 where
   -- as without further reach
-  Known : (event : Event) (s : Step) → IsStep ciphers w event s → IsLineStep U D ciphers w event s
+  Known : (event : Event) (s : Step) → Old event s → IsLineStepBy Old U D ciphers w event s
   -- neighbours are checked from now on
-  Opens : takes_setup w ≡ true → IsLineStep U D ciphers w events.Checks (Ok (record (set_up w) { checks_on = true }, trace_of (happened w said.Set)))
+  Opens : takes_setup w ≡ true → IsLineStepBy Old U D ciphers w events.Checks (Ok (record (set_up w) { checks_on = true }, trace_of (happened w said.Set)))
   -- moves alone
-  Anew : (event : Event) (v : World) (t : Trace) → Moves U D ciphers (ran w) v → IsSilent t → IsLineStep U D ciphers w event (Ok (v, t))
+  Anew : (event : Event) (v : World) (t : Trace) → Moves U D ciphers (ran w) v → IsSilent t → IsLineStepBy Old U D ciphers w event (Ok (v, t))
   -- as without further reach, and then moves
-  After : (event : Event) (r : World × Trace) (v : World) (t : Trace) → IsStep ciphers w event (Ok r) → WorldOk r.0 → r.0.running ≡ true → Moves U D ciphers r.0 v → Tells r.1 t → IsLineStep U D ciphers w event (Ok (v, t))
+  After : (event : Event) (r : World × Trace) (v : World) (t : Trace) → Old event (Ok r) → WorldOk r.0 → r.0.running ≡ true → Moves U D ciphers r.0 v
+      → Tells r.1 t → IsLineStepBy Old U D ciphers w event (Ok (v, t))
   -- the same, and it is not sent after all
-  Unsends : (event : Event) (r : World × Trace) (v : World) (t : Trace) → IsStep ciphers w event (Ok r) → WorldOk r.0 → r.0.running ≡ true → Moves U D ciphers r.0 v → Tells r.1 t → IsLineStep U D ciphers w event (Ok (sends_nothing w (v, t)))
+  Unsends : (event : Event) (r : World × Trace) (v : World) (t : Trace) → Old event (Ok r) → WorldOk r.0 → r.0.running ≡ true → Moves U D ciphers r.0 v
+      → Tells r.1 t → IsLineStepBy Old U D ciphers w event (Ok (sends_nothing w (v, t)))
   -- a request of a listed neighbour is dropped once it is accepted
   Unbelieves : (event : Event) (number : ℕ) (x : Node) (octets : List ℕ) (got : Accepted) → node_at w number ≡ Some x → IsEvent event → Comes w event number octets → (accepting ciphers x octets).answer ≡ Ok got
-      → IsLineStep U D ciphers w event (Ok (unbelieved ciphers w number (accepting ciphers x octets).node octets got))
+      → IsLineStepBy Old U D ciphers w event (Ok (unbelieved ciphers w number (accepting ciphers x octets).node octets got))
   -- a meter joins by an agent that it heard
-  Chooses : (number k : ℕ) (x : Node) (psk : Key) → number ≢ 0 → node_at w number ≡ Some x → psk_of x ≡ Some psk → IsLineStep U D ciphers w (events.Choose number k) (Ok (chooses_by ciphers w number x k (Some psk)))
+  Chooses : (number k : ℕ) (x : Node) (psk : Key) → number ≢ 0 → node_at w number ≡ Some x → psk_of x ≡ Some psk
+      → IsLineStepBy Old U D ciphers w (events.Choose number k) (Ok (chooses_by ciphers w number x k (Some psk)))
+
+-- that it is such an event
+abbrev pub IsLineStep : (List Outgoing → Type 0) → (Discovery → Type 0) → Ciphers → World → Event → Step → Type 1
+IsLineStep U D ciphers w event s = IsLineStepBy (IsStep ciphers w) U D ciphers w event s
 
 -- What is known of what the nodes of a world seal by further rules.
 pub record Speaks (U : List Outgoing → Type 0) (D : Discovery → Type 0) (ciphers : Ciphers) (w : World) : Type 0 where
@@ -204,6 +213,7 @@ pub record Speaks (U : List Outgoing → Type 0) (D : Discovery → Type 0) (cip
   pub commands : (event : Event) (number : ℕ) (x : Node) (octets : List ℕ) (got : Accepted) (cost : ℕ) (c : NeighbourCommand) (m : Memory) → IsEvent event → Comes w event number octets → node_at w number ≡ Some x → (accepting ciphers x octets).answer ≡ Ok got → command_of got ≡ Some c
       → (hears ciphers (accepting ciphers x octets).node got cost (note_by w octets got.path) w.clock).node.memory ≡ Some m → IsFurther U m (with_beside (beside_at w number) (λ y. hear_neighbours in_memory y c) m)
   pub acknowledges : (event : Event) (number : ℕ) (x : Node) (octets : List ℕ) (got : Accepted) (cost : ℕ) (reply : Reply) (m : Memory) → IsEvent event → Comes w event number octets → node_at w number ≡ Some x → (accepting ciphers x octets).answer ≡ Ok got
+      → due got.path (message_of got) (hears ciphers (accepting ciphers x octets).node got cost (note_by w octets got.path) w.clock).answer.answer ≡ Some reply
       → (hears ciphers (accepting ciphers x octets).node got cost (note_by w octets got.path) w.clock).node.memory ≡ Some m → IsFurther U m (acknowledges in_memory reply.to reply.number reply.origin m)
 
 -- what a node does by such plans makes and checks no pair tag
@@ -213,7 +223,7 @@ module _ (U : List Outgoing → Type 0) {A : Type 0} (x : Node) (halted : A) (do
   plan_untold m p (Rests answer failed) = (refl, refl)
   plan_untold m p (Goes answer failed ps us logs says few left) = (refl, refl)
 
-  untold : ((m : Memory) → x.memory ≡ Some m → IsFurther U m (does m)) → ((acts x halted does).made ≡ []) × ((acts x halted does).opened ≡ [])
+  pub untold : ((m : Memory) → x.memory ≡ Some m → IsFurther U m (does m)) → ((acts x halted does).made ≡ []) × ((acts x halted does).opened ≡ [])
   unfolding acts
   untold is = by_memory x.memory refl
     where
@@ -228,12 +238,15 @@ module _ (U : List Outgoing → Type 0) {A : Type 0} (x : Node) (halted : A) (do
 told_same : (s t : Trace) → t.happened.forged ≡ s.happened.forged → t.happened.up ≡ s.happened.up → t.sent ≡ s.sent → t.issued ≡ s.issued → t.taken ≡ s.taken → t.done ≡ s.done → t.made ≡ s.made → t.opened ≡ s.opened → Tells s t
 told_same s t a b c d e f g h = record { forged = a; up = b; sent = c; issued = d; taken = e; done = f; made = g; opened = h }
 
-module _ (U : List Outgoing → Type 0) (D : Discovery → Type 0) (ciphers : Ciphers) (fits : KeepsRanges ciphers) (w : World) (ok : WorldOk w) (flown_are : All FlightFits w.flights) (logs : LogsKept w) (speaks : Speaks U D ciphers w) where
+module _ (U : List Outgoing → Type 0) (D : Discovery → Type 0) (ciphers : Ciphers) (fits : KeepsRanges ciphers) (w : World) (ok : WorldOk w)
+    (flown_are : All FlightFits w.flights) (logs : LogsKept w) (speaks : Speaks U D ciphers w)
+    (Old : Event → Step → Type 1) (fails : (event : Event) (fault : StepFault) → Old event (Err fault)) (old : (event : Event) → IsEvent event
+    → Old event (step ciphers w event)) where
   abbrev Is : Event → Step → Type 1
-  Is event s = IsLineStep U D ciphers w event s
+  Is event s = IsLineStepBy Old U D ciphers w event s
 
   failed : (event : Event) (fault : StepFault) → Is event (Err fault)
-  failed event fault = Known event (Err fault) (OldFails event fault)
+  failed event fault = Known event (Err fault) (fails event fault)
 
   branch : (event : Event) (b : Bool) (p q : Step) → (b ≡ true → Is event p) → (b ≡ false → Is event q) → Is event (if b then p else q)
   branch event true p q s t = s refl
@@ -326,33 +339,59 @@ module _ (U : List Outgoing → Type 0) (D : Discovery → Type 0) (ciphers : Ci
   unfolding choose
   choose_step number k = once _ _ (at_meter _ number _ (λ ne x there. chooses_step number k x ne there (psk_of x) refl))
 
-  ticks_step : (seconds : ℕ) → Is (events.Tick seconds) (ticks w seconds)
+  ticks_step : (seconds : ℕ) → IsEvent (events.Tick seconds) → Is (events.Tick seconds) (ticks w seconds)
   unfolding ticks tick
-  ticks_step seconds = by_start (has_begun w) (tick_good ciphers fits w ok flown_are seconds)
+  ticks_step seconds says = by_start (has_begun w) (tick_good ciphers fits w ok flown_are seconds) (old (events.Tick seconds) says)
     where
+      r : World × Trace
+      r = (record (ran w) { clock = w.clock + seconds; nodes = map (ticked (w.clock + seconds)) w.nodes }, trace_of (happened w said.Ticked))
+
+      as_before : Bool → Step
+      as_before b = if b then Ok (
+        record (ran w) { clock = w.clock + seconds; nodes = map (ticked (w.clock + seconds)) w.nodes },
+        trace_of (happened w said.Ticked),
+      ) else Err faults.Setup
+
       taken : (r : World × Trace) → StepGood w (Ok r) → WorldOk r.0
       taken r (Taken q good few told) = good
 
-      by_start : (b : Bool) → StepGood w (if b then Ok (record (ran w) { clock = w.clock + seconds; nodes = map (ticked (w.clock + seconds)) w.nodes }, trace_of (happened w said.Ticked)) else Err faults.Setup) → Is (events.Tick seconds) (after_ok (λ r. (record r.0 { beside = map (tick_beside (w.clock + seconds)) w.beside }, r.1)) (if b then Ok (record (ran w) { clock = w.clock + seconds; nodes = map (ticked (w.clock + seconds)) w.nodes }, trace_of (happened w said.Ticked)) else Err faults.Setup))
-      by_start false g = failed _ faults.Setup
-      by_start true g =
-          let r : World × Trace = (record (ran w) { clock = w.clock + seconds; nodes = map (ticked (w.clock + seconds)) w.nodes }, trace_of (happened w said.Ticked)) in
-          After _ r (record r.0 { beside = map (tick_beside (w.clock + seconds)) w.beside }) r.1 (Ticks seconds) (taken r g) refl (Besides r.0 w.checks_on (map (tick_beside (w.clock + seconds)) w.beside)) (told_same r.1 r.1 refl refl refl refl refl refl refl refl)
+      by_start : (b : Bool) → StepGood w (as_before b) → Old (events.Tick seconds) (as_before b)
+          → Is (events.Tick seconds) (after_ok (λ r. (record r.0 { beside = map (tick_beside (w.clock + seconds)) w.beside }, r.1)) (as_before b))
+      by_start false g known = failed _ faults.Setup
+      by_start true g known =
+          After _ r (record r.0 { beside = map (tick_beside (w.clock + seconds)) w.beside }) r.1 known (taken r g) refl
+          (Besides r.0 w.checks_on (map (tick_beside (w.clock + seconds)) w.beside)) (told_same r.1 r.1 refl refl refl refl refl refl refl refl)
 
-  restarts_step : (number : ℕ) (x : Node) → node_at w number ≡ Some x → (o : Result Beside BadStore) → restarted x.store.records ≡ o → Is (events.Restart number) (Ok (restarts_by ciphers w number x o))
+  restarts_step : (number : ℕ) (x : Node) → node_at w number ≡ Some x → Old (events.Restart number) (Ok (acted ciphers w number (restarts x)))
+      → (o : Result Beside BadStore) → restarted x.store.records ≡ o
+      → Is (events.Restart number) (Ok (restarts_by ciphers w number x o))
   unfolding told
-  restarts_step number x there (Err bad) e = absurd (restarts_read ciphers w logs number x there bad e)
-  restarts_step number x there (Ok b) e =
+  restarts_step number x there known (Err bad) e = absurd (restarts_read ciphers w logs number x there bad e)
+  restarts_step number x there known (Ok b) e =
       let r : World × Trace = acted ciphers w number (restarts x) in
-      After _ r (restarts_by ciphers w number x (Ok b)).0 r.1 (Restarts number x there) (told_ok ciphers fits (ran w) number x (restarts x) (steps_ran_ok ciphers fits w ok flown_are) there (restarts_ok x (at_place NodeOk w.nodes number x there ok.nodes)) (λ e. absurd (true_false e))) refl (Besides r.0 r.0.checks_on (restarts_by ciphers w number x (Ok b)).0.beside) (told_same r.1 r.1 refl refl refl refl refl refl refl refl)
+      After _ r (restarts_by ciphers w number x (Ok b)).0 r.1 known
+      (told_ok ciphers fits (ran w) number x (restarts x) (steps_ran_ok ciphers fits w ok flown_are) there
+      (restarts_ok x (at_place NodeOk w.nodes number x there ok.nodes)) (λ e. absurd (true_false e))) refl
+      (Besides r.0 r.0.checks_on (restarts_by ciphers w number x (Ok b)).0.beside) (told_same r.1 r.1 refl refl refl refl refl refl refl refl)
 
-  restart_step : (number : ℕ) → Is (events.Restart number) (restarts_further ciphers w number)
-  unfolding restarts_further
-  restart_step number = once _ _ (at_node _ number _ (λ x there. restarts_step number x there (restarted x.store.records) refl))
+  restart_step : (number : ℕ) → IsEvent (events.Restart number) → Is (events.Restart number) (restarts_further ciphers w number)
+  unfolding restarts_further restart
+  restart_step number says = by_node (has_begun w) (node_at w number) refl (old (events.Restart number) says)
+    where
+      by_node : (b : Bool) (o : Option Node) → node_at w number ≡ o
+          → Old (events.Restart number) (if b then option_map_or (λ x. Ok (acted ciphers w number (restarts x))) o (Err faults.Node) else Err faults.Setup)
+          → Is (events.Restart number) (if b then option_map_or (λ x. Ok (restarts_by ciphers w number x (restarted x.store.records))) o (Err faults.Node) else
+          Err faults.Setup)
+      by_node false o e known = failed _ faults.Setup
+      by_node true None e known = failed _ faults.Node
+      by_node true (Some x) e known = restarts_step number x e known (restarted x.store.records) refl
 
   -- # Octets that come
 
-  module _ (event : Event) (number : ℕ) (x : Node) (octets : List ℕ) (cost : ℕ) (got : Accepted) (there : node_at w number ≡ Some x) (says : IsEvent event) (comes_so : Comes w event number octets) (low : cost ≤ 255) (is : (accepting ciphers x octets).answer ≡ Ok got) (good : WorldOk (heard ciphers w number (accepting ciphers x octets).node octets got cost).0) where
+  module _ (event : Event) (number : ℕ) (x : Node) (octets : List ℕ) (cost : ℕ) (got : Accepted) (there : node_at w number ≡ Some x) (says : IsEvent event)
+      (comes_so : Comes w event number octets) (low : cost ≤ 255) (is : (accepting ciphers x octets).answer ≡ Ok got)
+      (good : WorldOk (heard ciphers w number (accepting ciphers x octets).node octets got cost).0)
+      (before : Old event (Ok (heard ciphers w number (accepting ciphers x octets).node octets got cost))) where
     abbrev y : Node
     y = (accepting ciphers x octets).node
 
@@ -361,9 +400,6 @@ module _ (U : List Outgoing → Type 0) (D : Discovery → Type 0) (ciphers : Ci
 
     abbrev r : World × Trace
     r = heard ciphers w number y octets got cost
-
-    before : IsStep ciphers w event (Ok r)
-    before = Hears event number x octets cost got there says comes_so low is
 
     now_there : node_at r.0 number ≡ Some d.node
     unfolding told
@@ -388,8 +424,9 @@ module _ (U : List Outgoing → Type 0) (D : Discovery → Type 0) (ciphers : Ci
     with_moves : Moves U D ciphers r.0 with_it.0
     with_moves = Besides r.0 r.0.checks_on with_it.0.beside
 
-    acknowledged_step : (reply : Reply) → Is event (Ok (acknowledged ciphers w number (acknowledging d.node reply) with_it))
-    acknowledged_step reply = by_memory (is_some a.node.memory)
+    acknowledged_step : (reply : Reply) → due got.path (message_of got) d.answer.answer ≡ Some reply
+        → Is event (Ok (acknowledged ciphers w number (acknowledging d.node reply) with_it))
+    acknowledged_step reply owed = by_memory (is_some a.node.memory)
       where
         a : NodeStep (Result (Unit {0}) LocalRefusal)
         a = acknowledging d.node reply
@@ -398,18 +435,20 @@ module _ (U : List Outgoing → Type 0) (D : Discovery → Type 0) (ciphers : Ci
         v = told ciphers with_it.0 number a
 
         moves : Moves U D ciphers r.0 v
-        moves = Turns r.0 with_it.0 v with_moves (Carries with_it.0 number d.node _ (Err locals.Store) (λ m. acknowledges in_memory reply.to reply.number reply.origin m) now_there (λ m here. speaks.acknowledges event number x octets got cost reply m says comes_so there is here))
+        moves = Turns r.0 with_it.0 v with_moves (Carries with_it.0 number d.node _ (Err locals.Store)
+            (λ m. acknowledges in_memory reply.to reply.number reply.origin m) now_there (λ m here. speaks.acknowledges event number x octets got cost reply m
+            says comes_so there is owed here))
 
         by_memory : (t : Bool) → Is event (Ok (if t then adds_frames v with_it.1 a else sends_nothing w (v, with_it.1)))
         by_memory true = After event r v (adds_frames v with_it.1 a).1 before good goes_on moves (told_same r.1 (adds_frames v with_it.1 a).1 refl refl refl refl refl refl refl refl)
         by_memory false = Unsends event r v with_it.1 before good goes_on moves (told_same r.1 with_it.1 refl refl refl refl refl refl refl refl)
 
     checked_step : Is event (Ok (checked ciphers w number got d r))
-    checked_step = by_due (due got.path (message_of got) d.answer.answer)
+    checked_step = by_due (due got.path (message_of got) d.answer.answer) refl
       where
-        by_due : (o : Option Reply) → Is event (Ok (acknowledged_if ciphers w number d.node o with_it))
-        by_due None = After event r with_it.0 with_it.1 before good goes_on with_moves (told_same r.1 with_it.1 refl refl refl refl refl refl refl refl)
-        by_due (Some reply) = acknowledged_step reply
+        by_due : (o : Option Reply) → due got.path (message_of got) d.answer.answer ≡ o → Is event (Ok (acknowledged_if ciphers w number d.node o with_it))
+        by_due None e = After event r with_it.0 with_it.1 before good goes_on with_moves (told_same r.1 with_it.1 refl refl refl refl refl refl refl refl)
+        by_due (Some reply) e = acknowledged_step reply e
 
     heard_by_step : (o : Option NeighbourCommand) → command_of got ≡ o → Is event (Ok (heard_by ciphers w number y octets got cost o))
     heard_by_step None e = by_checks w.checks_on
@@ -430,9 +469,10 @@ module _ (U : List Outgoing → Type 0) (D : Discovery → Type 0) (ciphers : Ci
   discovers_step event number x there octets link None here = rests _ _ (silent said.Halted)
   discovers_step event number x there octets link (Some m) here = discovered_step event number x there discovery_word (beacon_taken number (discovery_in octets) link) (hear_discovery x.role m.station (beside_at w number).scan octets link) (λ frame e. speaks.beacons number x m octets link frame there here e)
 
-  comes_step : (event : Event) (number : ℕ) (x : Node) (octets : List ℕ) (cost : ℕ) → node_at w number ≡ Some x → IsEvent event → Comes w event number octets → cost ≤ 255 → Is event (Ok (comes ciphers w number x octets cost))
-  unfolding comes acts
-  comes_step event number x octets cost there says comes_so low = by_kind (is_discovery octets)
+  comes_step : (event : Event) (number : ℕ) (x : Node) (octets : List ℕ) (cost : ℕ) → node_at w number ≡ Some x → IsEvent event → Comes w event number octets
+      → cost ≤ 255 → Old event (Ok (arrives ciphers w number x octets cost)) → Is event (Ok (comes ciphers w number x octets cost))
+  unfolding comes acts arrives
+  comes_step event number x octets cost there says comes_so low known = by_kind (is_discovery octets)
     where
       heard_world : (got : Accepted) → (accepting ciphers x octets).answer ≡ Ok got → WorldOk (heard ciphers w number (accepting ciphers x octets).node octets got cost).0
       heard_world got e =
@@ -443,52 +483,90 @@ module _ (U : List Outgoing → Type 0) (D : Discovery → Type 0) (ciphers : Ci
           let routes = accepted_routes ciphers fits octets are a.memory.station (ring_readable x a.memory (at_place NodeOk w.nodes number x there ok.nodes) a.there) _ got (accept_is a.memory.station x.eui (arrived ciphers octets)) a.is in
           heard_ok ciphers fits w ok flown_are logs number x (accepting ciphers x octets).node there (accepting ciphers x octets) refl did (λ m here. acts_down x (Err frames.Halted) plan m here) octets got cost routes
 
-      by_answer : (o : Result Accepted FrameRefusal) → (accepting ciphers x octets).answer ≡ o → Is event (Ok (accepted_further ciphers w number octets cost (accepting ciphers x octets)))
-      by_answer (Err reason) e = rw e (Known event _ (TurnsDown event number x octets reason (accepting ciphers x octets) there says comes_so refl e))
-      by_answer (Ok got) e = rw e (further_step event number x octets cost got there says comes_so low e (heard_world got e))
+      d : NodeStep (Result Accepted FrameRefusal)
+      d = accepting ciphers x octets
+
+      by_answer : (o : Result Accepted FrameRefusal) → (accepting ciphers x octets).answer ≡ o
+          → Old event (Ok (accepted_by ciphers w number octets cost (record d { answer = o })))
+          → Is event (Ok (accepted_further ciphers w number octets cost (record d { answer = o })))
+      by_answer (Err reason) e it = Known event _ it
+      by_answer (Ok got) e it = further_step event number x octets cost got there says comes_so low e (heard_world got e) it
 
       by_kind : (b : Bool) → Is event (Ok (if b then discovers_by w number x octets cost x.memory else accepted_further ciphers w number octets cost (accepting ciphers x octets)))
       by_kind true = discovers_step event number x there octets cost x.memory refl
-      by_kind false = by_answer (accepting ciphers x octets).answer refl
+      by_kind false = by_answer (accepting ciphers x octets).answer refl known
 
   delivers_step : (flight number cost : ℕ) → IsEvent (events.Deliver flight number cost) → Is (events.Deliver flight number cost) (delivers ciphers w flight number cost)
-  unfolding delivers
-  delivers_step flight number cost says = once _ _ (at_node _ number _ (λ x hx. at_flight _ flight _ (λ f e. comes_step _ number x f.octets cost hx says (OfFlight flight number cost f e) says.2.1)))
+  unfolding delivers deliver
+  delivers_step flight number cost says = by_node (has_begun w) (node_at w number) refl (flight_at w flight) refl (old (events.Deliver flight number cost) says)
+    where
+      by_lost : (x : Node) (f : Flight) → node_at w number ≡ Some x → flight_at w flight ≡ Some f → (b : Bool)
+          → Old (events.Deliver flight number cost) (if b then Err faults.Flight else Ok (arrives ciphers w number x f.octets cost))
+          → Is (events.Deliver flight number cost) (if b then Err faults.Flight else Ok (comes ciphers w number x f.octets cost))
+      by_lost x f hx hf true known = failed _ faults.Flight
+      by_lost x f hx hf false known = comes_step _ number x f.octets cost hx says (OfFlight flight number cost f hf) says.2.1 known
+
+      by_node : (b : Bool) (o : Option Node) → node_at w number ≡ o → (p : Option Flight) → flight_at w flight ≡ p
+          → Old (events.Deliver flight number cost)
+          (if b then option_map_or (λ x. option_map_or (λ f. if f.lost then Err faults.Flight else Ok (arrives ciphers w number x f.octets cost)) p
+          (Err faults.Flight)) o (Err faults.Node) else Err faults.Setup)
+          → Is (events.Deliver flight number cost) (if b then option_map_or
+          (λ x. option_map_or (λ f. if f.lost then Err faults.Flight else Ok (comes ciphers w number x f.octets cost)) p (Err faults.Flight)) o
+          (Err faults.Node) else Err faults.Setup)
+      by_node false o ho p hp known = failed _ faults.Setup
+      by_node true None ho p hp known = failed _ faults.Node
+      by_node true (Some x) ho None hp known = failed _ faults.Flight
+      by_node true (Some x) ho (Some f) hp known = by_lost x f ho hp f.lost known
 
   injects_step : (number cost : ℕ) (octets : List ℕ) → IsEvent (events.Inject number cost octets) → Is (events.Inject number cost octets) (injects ciphers w number cost octets)
-  unfolding injects
-  injects_step number cost octets says = once _ _ (at_node _ number _ (λ x hx. comes_step _ number x octets cost hx says (OfScript number cost octets) says.1.1))
+  unfolding injects inject
+  injects_step number cost octets says = by_node (has_begun w) (node_at w number) refl (old (events.Inject number cost octets) says)
+    where
+      by_node : (b : Bool) (o : Option Node) → node_at w number ≡ o
+          → Old (events.Inject number cost octets) (if b then option_map_or (λ x. Ok (arrives ciphers w number x octets cost)) o (Err faults.Node) else Err
+          faults.Setup)
+          → Is (events.Inject number cost octets) (if b then option_map_or (λ x. Ok (comes ciphers w number x octets cost)) o (Err faults.Node) else Err
+          faults.Setup)
+      by_node false o ho known = failed _ faults.Setup
+      by_node true None ho known = failed _ faults.Node
+      by_node true (Some x) ho known = comes_step _ number x octets cost ho says (OfScript number cost octets) says.1.1 known
 
   -- every event of a line with further reach is one of them
-  pub line_step_is : (event : Event) → IsEvent event → IsLineStep U D ciphers w event (line_step ciphers w event)
-  line_step_is (events.Coordinator eui key) e = Known (events.Coordinator eui key) _ (step_is ciphers w (events.Coordinator eui key) e)
-  line_step_is (events.Meter eui psk) e = Known (events.Meter eui psk) _ (step_is ciphers w (events.Meter eui psk) e)
-  line_step_is (events.Depot node) e = Known (events.Depot node) _ (step_is ciphers w (events.Depot node) e)
-  line_step_is (events.Near a b cost) e = Known (events.Near a b cost) _ (step_is ciphers w (events.Near a b cost) e)
-  line_step_is (events.Counter node value) e = Known (events.Counter node value) _ (step_is ciphers w (events.Counter node value) e)
-  line_step_is (events.Number node value) e = Known (events.Number node value) _ (step_is ciphers w (events.Number node value) e)
-  line_step_is (events.Allow node) e = Known (events.Allow node) _ (step_is ciphers w (events.Allow node) e)
-  line_step_is (events.Rand node value) e = Known (events.Rand node value) _ (step_is ciphers w (events.Rand node value) e)
-  line_step_is (events.Join node agent) e = Known (events.Join node agent) _ (step_is ciphers w (events.Join node agent) e)
-  line_step_is (events.Leave node) e = Known (events.Leave node) _ (step_is ciphers w (events.Leave node) e)
-  line_step_is (events.Send from to datagram) e = Known (events.Send from to datagram) _ (step_is ciphers w (events.Send from to datagram) e)
-  line_step_is (events.Lose flight) e = Known (events.Lose flight) _ (step_is ciphers w (events.Lose flight) e)
-  line_step_is (events.Break node next) e = Known (events.Break node next) _ (step_is ciphers w (events.Break node next) e)
-  line_step_is (events.Cut node nth keeps_new) e = Known (events.Cut node nth keeps_new) _ (step_is ciphers w (events.Cut node nth keeps_new) e)
-  line_step_is (events.Rekey index key) e = Known (events.Rekey index key) _ (step_is ciphers w (events.Rekey index key) e)
-  line_step_is (events.Challenge node) e = Known (events.Challenge node) _ (step_is ciphers w (events.Challenge node) e)
-  line_step_is (events.Activate node index) e = Known (events.Activate node index) _ (step_is ciphers w (events.Activate node index) e)
-  line_step_is (events.Kick node) e = Known (events.Kick node) _ (step_is ciphers w (events.Kick node) e)
-  line_step_is (events.Show node) e = Known (events.Show node) _ (step_is ciphers w (events.Show node) e)
-  line_step_is (events.Deliver flight node cost) e = delivers_step flight node cost e
-  line_step_is (events.Inject node cost octets) e = injects_step node cost octets e
-  line_step_is (events.Tick seconds) e = ticks_step seconds
-  line_step_is (events.Restart node) e = restart_step node
-  line_step_is events.Checks e = checks_step
-  line_step_is (events.Bcast node datagram) e = bcast_step node datagram e.1
-  line_step_is (events.Scan node) e = scan_step node
-  line_step_is (events.Choose node k) e = choose_step node k
-  line_step_is (events.Path from to) e = path_step from to
+  pub line_step_by : (event : Event) → IsEvent event → IsLineStepBy Old U D ciphers w event (line_step ciphers w event)
+  line_step_by (events.Coordinator eui key) e = Known (events.Coordinator eui key) _ (old (events.Coordinator eui key) e)
+  line_step_by (events.Meter eui psk) e = Known (events.Meter eui psk) _ (old (events.Meter eui psk) e)
+  line_step_by (events.Depot node) e = Known (events.Depot node) _ (old (events.Depot node) e)
+  line_step_by (events.Near a b cost) e = Known (events.Near a b cost) _ (old (events.Near a b cost) e)
+  line_step_by (events.Counter node value) e = Known (events.Counter node value) _ (old (events.Counter node value) e)
+  line_step_by (events.Number node value) e = Known (events.Number node value) _ (old (events.Number node value) e)
+  line_step_by (events.Allow node) e = Known (events.Allow node) _ (old (events.Allow node) e)
+  line_step_by (events.Rand node value) e = Known (events.Rand node value) _ (old (events.Rand node value) e)
+  line_step_by (events.Join node agent) e = Known (events.Join node agent) _ (old (events.Join node agent) e)
+  line_step_by (events.Leave node) e = Known (events.Leave node) _ (old (events.Leave node) e)
+  line_step_by (events.Send from to datagram) e = Known (events.Send from to datagram) _ (old (events.Send from to datagram) e)
+  line_step_by (events.Lose flight) e = Known (events.Lose flight) _ (old (events.Lose flight) e)
+  line_step_by (events.Break node next) e = Known (events.Break node next) _ (old (events.Break node next) e)
+  line_step_by (events.Cut node nth keeps_new) e = Known (events.Cut node nth keeps_new) _ (old (events.Cut node nth keeps_new) e)
+  line_step_by (events.Rekey index key) e = Known (events.Rekey index key) _ (old (events.Rekey index key) e)
+  line_step_by (events.Challenge node) e = Known (events.Challenge node) _ (old (events.Challenge node) e)
+  line_step_by (events.Activate node index) e = Known (events.Activate node index) _ (old (events.Activate node index) e)
+  line_step_by (events.Kick node) e = Known (events.Kick node) _ (old (events.Kick node) e)
+  line_step_by (events.Show node) e = Known (events.Show node) _ (old (events.Show node) e)
+  line_step_by (events.Deliver flight node cost) e = delivers_step flight node cost e
+  line_step_by (events.Inject node cost octets) e = injects_step node cost octets e
+  line_step_by (events.Tick seconds) e = ticks_step seconds e
+  line_step_by (events.Restart node) e = restart_step node e
+  line_step_by events.Checks e = checks_step
+  line_step_by (events.Bcast node datagram) e = bcast_step node datagram e.1
+  line_step_by (events.Scan node) e = scan_step node
+  line_step_by (events.Choose node k) e = choose_step node k
+  line_step_by (events.Path from to) e = path_step from to
+
+pub line_step_is : (U : List Outgoing → Type 0) (D : Discovery → Type 0) (ciphers : Ciphers) (fits : KeepsRanges ciphers) (w : World) (ok : WorldOk w)
+    (flown_are : All FlightFits w.flights) (logs : LogsKept w) (speaks : Speaks U D ciphers w)
+    (event : Event) → IsEvent event → IsLineStep U D ciphers w event (line_step ciphers w event)
+line_step_is U D ciphers fits w ok flown_are logs speaks event says = line_step_by U D ciphers fits w ok flown_are logs speaks (IsStep ciphers w) OldFails
+    (step_is ciphers w) event says
 
 -- # What is known of any units
 
@@ -504,7 +582,7 @@ fits_at ciphers w logs number x octets got cost m there here = by_memory x.memor
     by_memory None s h = absurd (cc (s))
     by_memory (Some n) s h = logs_fit (beside_at w number) x.store.records h
 
-any_speaks : (D : Discovery → Type 0) (ciphers : Ciphers) (w : World) → LogsKept w → D (requests.Request 0)
+pub any_speaks : (D : Discovery → Type 0) (ciphers : Ciphers) (w : World) → LogsKept w → D (requests.Request 0)
     → ((number : ℕ) (x : Node) (m : Memory) (octets : List ℕ) (link : ℕ) (frame : Discovery) → node_at w number ≡ Some x → x.memory ≡ Some m → (hear_discovery x.role m.station (beside_at w number).scan octets link).sent ≡ Some frame → D frame)
     → Speaks AnyUnits D ciphers w
 any_speaks D ciphers w logs request beacons = record {
@@ -513,7 +591,7 @@ any_speaks D ciphers w logs request beacons = record {
   scans = request;
   beacons = beacons;
   commands = λ event number x octets got cost c m says comes there is e here. command_is AnyUnits tt (beside_at w number) (fits_at ciphers w logs number x octets got cost m there here) m c (λ own message to next here e o. tt) (λ own d here e none. tt);
-  acknowledges = λ event number x octets got cost reply m says comes there is here. ack_is m reply;
+  acknowledges = λ event number x octets got cost reply m says comes there is owed here. ack_is m reply;
 }
 
 -- # What holds of each flight
@@ -546,8 +624,9 @@ flights_spelled : (ciphers : Ciphers) (s : Step) → AllOf ciphers (IsSpelled ci
 flights_spelled ciphers (Ok r) h = h
 flights_spelled ciphers (Err fault) h = tt
 
-pub line_steps_spell : LineStepsSpell
-line_steps_spell ciphers fits w ok flown logs beacons all event says =
+pub spelled_by : (ciphers : Ciphers) → KeepsRanges ciphers → (w : World) → WorldOk w → All FlightFits w.flights → LogsKept w → BeaconsAreSpelled w
+    → All (IsSpelled ciphers) w.flights → (event : Event) → IsEvent event → FlightsSpelled ciphers (line_step ciphers w event)
+spelled_by ciphers fits w ok flown logs beacons all event says =
     flights_spelled ciphers (line_step ciphers w event) (every_line_flight AnyUnits IsDiscovery ciphers (IsSpelled ciphers) (spelled_well ciphers) (lost_spelled ciphers) (found_spelled ciphers) w event (line_step ciphers w event)
     (line_step_is AnyUnits IsDiscovery ciphers fits w ok flown logs (any_speaks IsDiscovery ciphers w logs (omega arith) beacons) event says) all)
 
@@ -568,7 +647,7 @@ module _ (U : List Outgoing → Type 0) (D : Discovery → Type 0) (ciphers : Ci
   moved_ok v u (Turns z between y first rest) ok runs = let m = moved_ok v between first ok runs in moved_ok between u rest m.0 m.1
 
   -- no mark falls
-  moved_follows : (w v u : World) → Follows w v → Moves U D ciphers v u → WorldOk v → v.running ≡ true → Follows w u
+  pub moved_follows : (w v u : World) → Follows w v → Moves U D ciphers v u → WorldOk v → v.running ≡ true → Follows w u
   moved_follows w v u f (Stays z) ok runs = f
   moved_follows w v u f (Carries z number x A halted does there is) ok runs = told_follows w v (told ciphers v number (acts x halted does)) number x (acts x halted does) f there (told_nodes ciphers v number (acts x halted does)) (of_did x (acts x halted does) (carried_did v ok number x halted does there is))
   moved_follows w v u f (Flies z number x frame there known) ok runs = record { at = λ n y here. let l = f.at n y here in record { node = l.node; there = l.there; role = l.role; eui = l.eui; raised = l.raised } }

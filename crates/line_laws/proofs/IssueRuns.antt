@@ -1,35 +1,29 @@
 -- The law that a joined meter holds only keys that were issued to it.
-use Rattle.std.proofs.Common.{◌≡◌, ◌≢◌, ⊎_elim, ℕ, suc, false, List, [], ◌∷◌, ◌++◌, get_or, Option, Some, None, Ok, Err, refl, sym, ap, ◌∙◌, subst, append_assoc, append-nil}
+use Rattle.std.proofs.Common.{◌≡◌, ◌≢◌, ⊎_elim, ℕ, suc, false, List, [], ◌∷◌, ◌++◌, get_or, Option, Some, None, Ok, Err, refl, sym, ap, ◌∙◌, append_assoc, append-nil}
 use Rattle.std.specs.Prelude.{All, IfSome, slice_get}
 use Rattle.std.specs.Int.{bytes_high_first}
 use Rattle.std.proofs.lemmas.Bool.{cases_eq}
 use Rattle.std.proofs.lemmas.Option.{slice_get-get_or}
-use Rattle.std.proofs.lemmas.List.Elements.{All-nil, All-head, All-tail}
+use Rattle.std.proofs.lemmas.List.Elements.{All-head, All-tail}
 use Rattle.plc_base.proofs.NumbersOfOctets.{bytes_high_first-big_from}
 use Rattle.plc_base.specs.declared.address.Eui.{Eui}
 use Rattle.plc_base.specs.declared.key.Key.{Key}
 use Rattle.group_keys.specs.KeyRing as ring
 use Rattle.group_keys.specs.KeyBook as books
-use Rattle.node_rules.specs.Ciphers.{Ciphers}
-use Rattle.line_rules.specs.Events.{IsEvent, IsEui, AreEvents}
+use Rattle.line_rules.specs.Events.{IsEui}
 use Rattle.node_rules.specs.Memory.{Memory, Role, Coordinator, Meter, Node}
 use Rattle.line_rules.specs.Worlds.{World, Issued, Trace, node_at, start}
 use Rattle.line_rules.specs.Steps.{Step}
-use Rattle.line_rules.specs.Runs.{Entry, IsRun, all_of, issued, events_of}
+use Rattle.line_rules.specs.Runs.{Entry, all_of, issued}
 use Rattle.line_rules.specs.SafeRuns.{IsIssued, HoldsIssued, HasIssuedKeys, HasOnlyIssuedKeys}
 use Rattle.line_laws.specs.Stores.{IsKept}
-use Rattle.line_laws.specs.Owed.{KeepsRanges}
-use Rattle.line_laws.specs.Laws.{FlightsAreOctets}
-use Rattle.line_laws.specs.Issued.{IsIssuedAfter, OnlyIssuedKeys}
-use Rattle.line_laws.proofs.IssuedNamed.{IssuedAreNamed, issued_named}
 use Rattle.line_laws.proofs.Keeping.{Left}
 use Rattle.line_laws.proofs.Nodes.{NodeOk}
 use Rattle.line_laws.proofs.Worlds.{FlightFits, WorldOk, at_place}
-use Rattle.line_laws.proofs.Running.{start_ok, taken_good}
-use Rattle.line_laws.proofs.IssueWords.{Among, Here, Later, Each, each_append}
+use Rattle.line_laws.proofs.IssueWords.{Among, Here, Later, Each}
 use Rattle.line_laws.proofs.IssueNodes.{GivenAt, RingOk, MeterOk}
 use Rattle.line_laws.proofs.IssueWorlds.{Keyed}
-use Rattle.line_laws.proofs.IssueSteps.{StepKeyed, Fails, Taken, step_keyed}
+use Rattle.line_laws.proofs.IssueSteps.{StepKeyed, Fails, Taken}
 
 -- # EUIs by their numbers
 
@@ -58,7 +52,7 @@ each_from : (P : Issued → Type 0) (xs : List Issued) → All P xs → Each P x
 each_from P [] h = tt
 each_from P (x ∷ xs) h = (All-head P x xs h, each_from P xs (All-tail P x xs h))
 
-abbrev IsNamed : Issued → Type 0
+abbrev pub IsNamed : Issued → Type 0
 IsNamed i = IsEui i.eui
 
 abbrev issued_as : Eui → ℕ → Key → Issued
@@ -129,23 +123,3 @@ all_of_one told (y ∷ ys) x = ap (λ zs. told y.trace ++ zs) (all_of_one told y
 
 abbrev pub EntryFlies : Entry → Type 0
 EntryFlies x = All FlightFits x.after.flights
-
-abbrev EntryNamed : Entry → Type 0
-EntryNamed x = All IsNamed x.trace.issued
-
-pub only_from : (ciphers : Ciphers) → KeepsRanges ciphers → (w : World) → WorldOk w → All FlightFits w.flights → (before : List Entry) → Keyed w (issued before) → Each IsNamed (issued before)
-    → (entries : List Entry) → AreEvents (events_of entries) → FlightsAreOctets entries → IssuedAreNamed entries → IsRun ciphers w entries → IsIssuedAfter before entries
-only_from ciphers fits w ok flown before k names [] says fly named run = tt
-only_from ciphers fits w ok flown before k names (x ∷ xs) says fly named run = λ honest.
-    let event = All-head IsEvent x.event (events_of xs) says in
-    let g = taken_good ciphers fits w ok flown x event run.2 in
-    let same = all_of_one (λ d. d.issued) before x in
-    let next : Keyed x.after (issued before ++ x.trace.issued) = subst (Kept (issued before)) run.2 (kept w (issued before) _ (step_keyed ciphers fits w ok flown (issued before) k x.event event)) honest in
-    let k' : Keyed x.after (issued (before ++ x ∷ [])) = subst (Keyed x.after) (sym same) next in
-    let names' : Each IsNamed (issued (before ++ x ∷ [])) = subst (Each IsNamed) (sym same) (each_append IsNamed (issued before) x.trace.issued names (each_from IsNamed x.trace.issued (All-head EntryNamed x xs named))) in (
-      world_holds x.after (issued (before ++ x ∷ [])) g.0 k' names',
-      only_from ciphers fits x.after g.0 (All-head EntryFlies x xs fly) (before ++ x ∷ []) k' names' xs (All-tail IsEvent x.event (events_of xs) says) (All-tail EntryFlies x xs fly) (All-tail EntryNamed x xs named) run.3,
-    )
-
-pub only_issued : OnlyIssuedKeys
-only_issued ciphers fits entries r fly = only_from ciphers fits start start_ok (All-nil FlightFits) [] start_keyed tt entries r.events fly (issued_named ciphers fits entries r fly) r.run

@@ -146,9 +146,10 @@ module _ (ciphers : Ciphers) (fits : KeepsRanges ciphers) where
   sized_at x m ok there = subst (λ o. IfSome o IsMemorySized) there ok.sized
 
   -- a call that leaves the ring, the session and the book
-  pub quiet_told : {A : Type 0} (w : World) (given : List Issued) (k : Keyed w given) (number : ℕ) (x : Node) → node_at w number ≡ Some x → NodeOk x → (halted : A) (plan : Memory → Plan Memory A)
-      → ((m : Memory) → IsMemorySized m → Quietly m (plan m)) → Keyed (told ciphers w number (acts x halted plan)) given
-  quiet_told w given k number x there ok halted plan q = ⊎_elim
+  pub quiet_told_at : {A : Type 0} (w : World) (given : List Issued) (k : Keyed w given) (number : ℕ) (x : Node) → node_at w number ≡ Some x → NodeOk x
+      → (halted : A) (plan : Memory → Plan Memory A)
+      → ((m : Memory) → x.memory ≡ Some m → IsMemorySized m → Quietly m (plan m)) → Keyed (told ciphers w number (acts x halted plan)) given
+  quiet_told_at w given k number x there ok halted plan q = ⊎_elim
       (λ (e : number ≡ 0). subst (Keyed _) (append-nil given) (told_coordinator ciphers w number x (acts x halted plan) there (quiet_did e).eui given [] k e (quiet_did e)))
       (λ (ne : number ≢ 0). let d = meter_did ne in told_meter ciphers w number x (acts x halted plan) there d.eui given k ne d)
       (cases_eq number 0)
@@ -157,17 +158,24 @@ module _ (ciphers : Ciphers) (fits : KeepsRanges ciphers) where
       quiet_did e =
           let c = k.coordinator x (ap (slice_get w.nodes) (sym e) ∙ there) in
           coordinator_acts k.book given x halted plan [] ok c (λ a. None) (λ m here said. refl)
-          (λ m here kept. quiet_coordinator k.book None m (plan m) (q m (sized_at x m ok here)) (c.ring m.station.ring kept.station.ring.stored) kept.station.range.ring)
+          (λ m here kept. quiet_coordinator k.book None m (plan m) (q m here (sized_at x m ok here)) (c.ring m.station.ring kept.station.ring.stored)
+          kept.station.range.ring)
 
       meter_did : number ≢ 0 → MeterDid k.book given x (acts x halted plan)
       meter_did ne =
           let h = k.meters number x ne there in
           sound_acts k.book given x halted plan ok h.ring h.session (λ m here kept session ring.
-          let t = q m (sized_at x m ok here) in
+          let t = q m here (sized_at x m ok here) in
           record { puts = t.ring (RingOk k.book given x.eui) tt ring kept.station.range.ring; session = subst (PeerIs x.eui) (sym t.session) session; made = subst (Each (TagOk k.book given)) (sym t.made) tt })
 
+  pub quiet_told : {A : Type 0} (w : World) (given : List Issued) (k : Keyed w given) (number : ℕ) (x : Node) → node_at w number ≡ Some x → NodeOk x
+      → (halted : A) (plan : Memory → Plan Memory A)
+      → ((m : Memory) → IsMemorySized m → Quietly m (plan m)) → Keyed (told ciphers w number (acts x halted plan)) given
+  quiet_told w given k number x there ok halted plan q = quiet_told_at w given k number x there ok halted plan (λ m here sized. q m sized)
+
   -- a call of a meter by itself
-  own_told : {A : Type 0} (w : World) (given : List Issued) (k : Keyed w given) (number : ℕ) (x : Node) → number ≢ 0 → node_at w number ≡ Some x → NodeOk x → (halted : A) (plan : Memory → Plan Memory A)
+  pub own_told : {A : Type 0} (w : World) (given : List Issued) (k : Keyed w given) (number : ℕ) (x : Node) → number ≢ 0 → node_at w number ≡ Some x → NodeOk x
+      → (halted : A) (plan : Memory → Plan Memory A)
       → ((m : Memory) → IfSome m.station.ring IsReadable → PeerIs x.eui m.session → MeterPlan x.eui m.station.ring None (plan m)) → ((m : Memory) → (plan m).opened ≡ []) → Keyed (told ciphers w number (acts x halted plan)) given
   own_told {A = A} w given k number x ne there ok halted plan f none =
       let h = k.meters number x ne there in

@@ -1,7 +1,7 @@
 -- Every meter to which keys are issued is named by an EUI of 8 octets.
 use Rattle.std.proofs.Common.{◌≡◌, ℕ, Bool, true, false, List, [], ◌∷◌, ◌+◌, ◌++◌, Option, Some, None, Result, Ok, Err, refl, sym, subst}
 use Rattle.std.specs.Prelude.{All}
-use Rattle.std.proofs.lemmas.List.Elements.{All-nil, All-cons, All-head, All-tail}
+use Rattle.std.proofs.lemmas.List.Elements.{All-nil, All-cons}
 use Rattle.plc_base.specs.declared.address.Eui.{Eui}
 use Rattle.plc_base.specs.declared.key.Key.{Key}
 use Rattle.plc_base.specs.Grant.{Granted}
@@ -25,14 +25,13 @@ use Rattle.line_rules.specs.Answers.{sent_word}
 use Rattle.node_rules.specs.NodeSteps.{NodeStep, acts, answering, of_station}
 use Rattle.line_rules.specs.declared.event.Event.{Event}
 use Rattle.line_rules.specs.Answers.{Reception, meter_reception, coordinator_reception}
-use Rattle.line_rules.specs.Events.{IsEvent, AreEvents}
+use Rattle.line_rules.specs.Events.{IsEvent}
 use Rattle.line_rules.specs.Forgery.{Comes, accepting}
-use Rattle.line_rules.specs.Runs.{Entry, IsRun, events_of}
-use Rattle.line_rules.specs.Worlds.{World, Issued, Trace, node_at, start}
-use Rattle.line_rules.specs.Steps.{Step, step, identity, hears, note_by, issued_at, issued_by, issued_of, sent_if, is_taken, tag_of, acted}
+use Rattle.line_rules.specs.Runs.{Entry}
+use Rattle.line_rules.specs.Worlds.{World, Issued, Trace, node_at}
+use Rattle.line_rules.specs.Steps.{Step, identity, hears, note_by, issued_at, issued_by, issued_of, sent_if, is_taken, tag_of, acted}
 use Rattle.line_laws.specs.Stores.{HasEui, IsNamed}
 use Rattle.line_laws.specs.Owed.{KeepsRanges}
-use Rattle.line_laws.specs.Laws.{IsLineRun, FlightsAreOctets}
 use Rattle.line_laws.proofs.Planned.{planned_failed}
 use Rattle.line_laws.proofs.StoreBook.{looked_up}
 use Rattle.line_laws.proofs.Answered.{acts_answered}
@@ -45,11 +44,10 @@ use Rattle.line_laws.proofs.IssueCoordinator.{keyed_in}
 use Rattle.line_laws.proofs.IssueSteps.{keyed_same, no_keys}
 use Rattle.line_laws.proofs.IssueWords.{Each}
 use Rattle.line_laws.proofs.KeyedAnswers.{IsGrantedTo, hears_keyed, keyed_granted}
-use Rattle.line_laws.proofs.Running.{start_ok, taken_good}
-use Rattle.line_laws.proofs.Tellings.{IsStep, Fails, Makes, Rests, Shows, Acts, BreaksLink, SendsFrom, AllowsMeter, Sets, SetsTwo, Provides, TurnsDown, Hears, Loses, Ticks, Restarts, Cuts, step_is}
+use Rattle.line_laws.proofs.Tellings.{IsStep, Fails, Makes, Rests, Shows, Acts, BreaksLink, SendsFrom, AllowsMeter, Sets, SetsTwo, Provides, TurnsDown, Hears, Loses, Ticks, Restarts, Cuts}
 
 -- the meter of an issue has an EUI of 8 octets
-abbrev IssueNamed : Issued → Type 0
+abbrev pub IssueNamed : Issued → Type 0
 IssueNamed i = HasEui i.eui
 
 -- so have all of a run
@@ -99,7 +97,7 @@ module _ (ciphers : Ciphers) (y : Node) (good : NodeOk y) (got : Accepted) (cost
       by_role Coordinator = coordinator_named (acts y (Err drops.Store) plan).answer refl
       by_role (Meter psk) = subst (λ o. Each IssueNamed (issued_of o)) (sym (no_keys (acts y (Err drops.Store) (λ m. meters.hear_meter (identity ciphers y psk) m got cost note now)).answer)) tt
 
-abbrev StepNamed : Step → Type 0
+abbrev pub StepNamed : Step → Type 0
 StepNamed (Ok r) = Each IssueNamed r.1.issued
 StepNamed (Err fault) = Unit {0}
 
@@ -114,7 +112,7 @@ module _ (ciphers : Ciphers) (fits : KeepsRanges ciphers) (w : World) (ok : Worl
   sent_named from to datagram tag true r h = h
   sent_named from to datagram tag false r h = h
 
-  names : (event : Event) (s : Step) → IsStep ciphers w event s → StepNamed s
+  pub names : (event : Event) (s : Step) → IsStep ciphers w event s → StepNamed s
   names event s (Fails e fault) = tt
   names event s (Makes e x is) = tt
   names event s (Rests e quiet) = tt
@@ -139,22 +137,3 @@ module _ (ciphers : Ciphers) (fits : KeepsRanges ciphers) (w : World) (ok : Worl
 all_of_each : (xs : List Issued) → Each IssueNamed xs → All IssueNamed xs
 all_of_each [] h = All-nil IssueNamed
 all_of_each (x ∷ xs) h = All-cons IssueNamed x xs h.0 (all_of_each xs h.1)
-
-abbrev EntryNamed : Entry → Type 0
-EntryNamed x = All IssueNamed x.trace.issued
-
-abbrev EntryFlies : Entry → Type 0
-EntryFlies x = All FlightFits x.after.flights
-
-named_from : (ciphers : Ciphers) → KeepsRanges ciphers → (w : World) → WorldOk w → All FlightFits w.flights → (entries : List Entry) → AreEvents (events_of entries) → FlightsAreOctets entries → IsRun ciphers w entries → IssuedAreNamed entries
-named_from ciphers fits w ok flown [] says fly run = All-nil EntryNamed
-named_from ciphers fits w ok flown (x ∷ xs) says fly run =
-    let event = All-head IsEvent x.event (events_of xs) says in
-    let g = taken_good ciphers fits w ok flown x event run.2 in
-    let here : Each IssueNamed x.trace.issued = subst StepNamed run.2 (names ciphers fits w ok flown x.event (step ciphers w x.event) (step_is ciphers w x.event event)) in
-    All-cons EntryNamed x xs (all_of_each x.trace.issued here)
-    (named_from ciphers fits x.after g.0 (All-head EntryFlies x xs fly) xs (All-tail IsEvent x.event (events_of xs) says) (All-tail EntryFlies x xs fly) run.3)
-
--- so it is in every run
-pub issued_named : (ciphers : Ciphers) → KeepsRanges ciphers → (entries : List Entry) → IsLineRun ciphers entries → FlightsAreOctets entries → IssuedAreNamed entries
-issued_named ciphers fits entries r fly = named_from ciphers fits start start_ok (All-nil FlightFits) entries r.events fly r.run

@@ -1,5 +1,5 @@
 -- The law that a meter that was kicked stays out.
-use Rattle.std.proofs.Common.{◌≡◌, ◌≢◌, ⊎_elim, ℕ, zero, suc, ◌<◌, true, false, List, [], ◌∷◌, ◌++◌, length, Option, Some, None, Ok, refl, sym, ap, ◌∙◌, subst, arith}
+use Rattle.std.proofs.Common.{◌≡◌, ◌≢◌, ⊎_elim, ℕ, zero, suc, ◌<◌, true, false, List, [], ◌∷◌, ◌++◌, Option, Some, None, refl, sym, ap, ◌∙◌, subst, arith}
 use Rattle.std.specs.Prelude.{All, IfSome, slice_get}
 use Rattle.std.proofs.lemmas.Bool.{cases_eq, eqb-true}
 use Rattle.std.proofs.lemmas.Option.{same_Some}
@@ -9,49 +9,39 @@ use Rattle.plc_base.specs.declared.key.Key.{Key}
 use Rattle.plc_base.specs.Grant.{Granted}
 use Rattle.group_keys.specs.KeyBook as books
 use Rattle.line_rules.specs.Agreement.{HasKey, NodeHasKey, NeverStood, IsKicked, NeverAllowed, is_kick_of, is_allow_of}
-use Rattle.line_rules.specs.Events.{IsEvent, IsEui, AreEvents}
-use Rattle.line_rules.specs.Laws.{GoesOn}
-use Rattle.line_rules.specs.Runs.{Entry, IsRun, NoneForged, events_of}
+use Rattle.line_rules.specs.Events.{IsEui}
+use Rattle.line_rules.specs.Further.{line_step}
+use Rattle.line_rules.specs.Runs.{Entry, NoneForged}
 use Rattle.line_rules.specs.SafeRuns.{IsIssued, HoldsIssued, HasIssuedKeys}
-use Rattle.line_rules.specs.Steps.{step, kick}
 use Rattle.line_rules.specs.Worlds.{World, Issued, node_at, start}
 use Rattle.line_rules.specs.declared.event.Event.{Event}
 use Rattle.line_rules.specs.declared.event.Event.TheVariants as events
-use Rattle.line_rules.proofs.StepsOn.{steps}
 use Rattle.node_rules.specs.Ciphers.{Ciphers, network}
 use Rattle.node_rules.specs.Memory.{Memory, Role, Coordinator, Meter, Node}
 use Rattle.line_laws.specs.Kicked.{EveryKickedMeterStaysOut}
+use Rattle.line_laws.specs.LineAccounts.{ShutIn}
 use Rattle.line_laws.specs.Owed.{KeepsRanges}
-use Rattle.line_laws.proofs.BookGrowth.{Goes, GoesBy, goes}
+use Rattle.line_laws.proofs.FurtherAgrees.{line_keys_other, line_keys_stood, line_names}
+use Rattle.line_laws.proofs.FurtherGrowth.{line_steps_shut}
+use Rattle.line_laws.proofs.FurtherOctets.{every_flight}
+use Rattle.line_laws.proofs.FurtherRestarts.{line_kicks_shut}
 use Rattle.line_laws.proofs.Homes.{at_length}
-use Rattle.line_laws.proofs.IssueRuns.{start_keyed, Kept, kept, world_holds}
-use Rattle.line_laws.proofs.IssueSteps.{step_keyed}
+use Rattle.line_laws.proofs.IssueRuns.{start_keyed, world_holds}
 use Rattle.line_laws.proofs.IssueWords.{Each, each_append, each_weaker}
 use Rattle.line_laws.proofs.IssueWorlds.{Keyed, IsMeter}
-use Rattle.line_laws.proofs.IssuedNamed.{issued_named}
-use Rattle.line_laws.proofs.KeysStood.{IssuedBy, StoodIn, ToOther, keys_stood, keys_other}
-use Rattle.line_laws.proofs.OctetRuns.{every_flight}
+use Rattle.line_laws.proofs.IssuedNamed.{StepNamed}
+use Rattle.line_laws.proofs.KeysStood.{IssuedBy, StoodIn, ToOther}
+use Rattle.line_laws.proofs.LineRuns.{AreLawful, Lawful, Stood, books_on, keyed_on, lawful, on}
 use Rattle.line_laws.proofs.Readings.{network_ranges}
-use Rattle.line_laws.proofs.Running.{start_ok, taken_good}
-use Rattle.line_laws.proofs.ShutSteps.{ShutAt, ShutBy, event_shut, kicked_out}
-use Rattle.line_laws.proofs.Tellings.{step_is}
-use Rattle.line_laws.proofs.Worlds.{FlightFits, WorldOk, at_place, within as place_within}
+use Rattle.line_laws.proofs.Running.{start_ok}
+use Rattle.line_laws.proofs.ShutSteps.{ShutAt}
+use Rattle.line_laws.proofs.Worlds.{WorldOk, at_place, within as place_within}
 
 abbrev IsNamed : Issued → Type 0
 IsNamed i = IsEui i.eui
 
-abbrev EntryFlies : Entry → Type 0
-EntryFlies x = All FlightFits x.after.flights
-
-abbrev EntryNamed : Entry → Type 0
-EntryNamed x = All IsNamed x.trace.issued
-
 abbrev IsHonest : Entry → Type 0
 IsHonest x = x.trace.happened.forged ≡ false
-
-each_from : (P : Issued → Type 0) (xs : List Issued) → All P xs → Each P xs
-each_from P [] h = tt
-each_from P (x ∷ xs) h = (All-head P x xs h, each_from P xs (All-tail P x xs h))
 
 each_place : (P : Issued → Type 0) (xs : List Issued) (place : ℕ) (i : Issued) → slice_get xs place ≡ Some i → Each P xs → P i
 each_place P [] place i e h = absurd (cc)
@@ -61,7 +51,6 @@ each_place P (x ∷ xs) (suc place) i e h = each_place P xs place i e h.1
 -- What holds of a world in a run without a forged event, with what was issued up to then.
 record Now (w : World) (given : List Issued) : Type 0 where
   ok : WorldOk w
-  flown : All FlightFits w.flights
   keyed : Keyed w given
   named : Each IsNamed given
 
@@ -108,13 +97,17 @@ module _ (w : World) (given : List Issued) (now : Now w given) (key : Key) where
 
 -- # One event
 
-module _ (ciphers : Ciphers) (fits : KeepsRanges ciphers) (key : Key) (w : World) (given : List Issued) (now : Now w given) (x : Entry) (says : IsEvent x.event) (is : step ciphers w x.event ≡ Ok (x.after, x.trace)) where
-  next : EntryFlies x → EntryNamed x → IsHonest x → Now x.after (given ++ x.trace.issued)
-  next fly named honest = record {
-    ok = (taken_good ciphers fits w now.ok now.flown x says is).0;
-    flown = fly;
-    keyed = subst (Kept given) is (kept w given _ (step_keyed ciphers fits w now.ok now.flown given now.keyed x.event says)) honest;
-    named = each_append IsNamed given x.trace.issued now.named (each_from IsNamed x.trace.issued named);
+module _ (ciphers : Ciphers) (fits : KeepsRanges ciphers) (key : Key) (w : World) (given : List Issued) (now : Now w given) (x : Entry)
+    (l : Lawful ciphers w x) where
+  abbrev s : Stood w
+  s = l.before
+
+  next : IsHonest x → Now x.after (given ++ x.trace.issued)
+  next honest = record {
+    ok = l.after.ok;
+    keyed = keyed_on ciphers fits w x l given now.keyed honest;
+    named = each_append IsNamed given x.trace.issued now.named
+        (subst StepNamed l.step (line_names ciphers fits w s.ok s.flown s.logs x.event l.says));
   }
 
   first_is : (n : ℕ) (y : Node) → node_at w n ≡ Some y → y.role ≡ Coordinator → n ≡ 0
@@ -126,22 +119,24 @@ module _ (ciphers : Ciphers) (fits : KeepsRanges ciphers) (key : Key) (w : World
   -- where the key does not stand at the coordinator, it is issued to nobody
   issues_none : (NodeHasKey w 0 key → ⊥) → Each (NotThis key) x.trace.issued
   issues_none absent =
-      let stood : Each (StoodIn ciphers fits w now.ok now.flown first_is) x.trace.issued = subst (IssuedBy ciphers fits w now.ok now.flown first_is (StoodIn ciphers fits w now.ok now.flown first_is)) is (keys_stood ciphers fits w now.ok now.flown first_is x.event (step ciphers w x.event) (step_is ciphers w x.event says)) in
-      each_weaker (StoodIn ciphers fits w now.ok now.flown first_is) (NotThis key) (λ i h e. absent (subst (NodeHasKey w 0) e h)) x.trace.issued stood
+      let P : Issued → Type 0 = StoodIn ciphers fits w s.ok s.flown first_is in
+      let stood : Each P x.trace.issued = subst (IssuedBy ciphers fits w s.ok s.flown first_is P) l.step
+      (line_keys_stood ciphers fits w s.ok s.flown s.logs first_is x.event l.says) in
+      each_weaker P (NotThis key) (λ i h e. absent (subst (NodeHasKey w 0) e h)) x.trace.issued stood
 
   -- to a meter that is shut out nothing is issued
   issues_other : (eui : Eui) → ShutAt eui w → w.running ≡ true → Each (NotTo key eui) x.trace.issued
   issues_other eui shut running =
-      let P : Issued → Type 0 = ToOther ciphers fits w now.ok now.flown first_is eui shut running in
-      let other : Each P x.trace.issued = subst (IssuedBy ciphers fits w now.ok now.flown first_is P) is (keys_other ciphers fits w now.ok now.flown first_is eui shut running x.event (step ciphers w x.event) (step_is ciphers w x.event says)) in
+      let P : Issued → Type 0 = ToOther ciphers fits w s.ok s.flown first_is eui shut running in
+      let other : Each P x.trace.issued = subst (IssuedBy ciphers fits w s.ok s.flown first_is P) l.step
+      (line_keys_other ciphers fits w s.ok s.flown s.logs first_is eui shut running x.event l.says) in
       each_weaker P (NotTo key eui) (λ i h e same. h (ap books.eui_number e)) x.trace.issued other
 
   -- nodes stay, with their EUIs
   eui_stays : (number : ℕ) (z y : Node) → node_at w number ≡ Some z → node_at x.after number ≡ Some y → y.eui ≡ z.eui
   eui_stays number z y there later =
       let inside = place_within w.nodes number z there in
-      let on : 0 < length w.nodes → Goes ciphers fits w now.ok now.flown given now.keyed x.after = subst (GoesBy ciphers fits w now.ok now.flown given now.keyed) is (goes ciphers fits w now.ok now.flown given now.keyed x.event (step ciphers w x.event) (step_is ciphers w x.event says)) in
-      let old = (on (omega arith)).euis number y inside later in
+      let old = (books_on ciphers fits w x l given now.keyed (omega arith)).euis number y inside later in
       sym old.2 ∙ ap (λ (n : Node). n.eui) (same_Some _ _ (sym old.1 ∙ there))
 
 -- # After the kick
@@ -162,32 +157,37 @@ abbrev HoldsNot : ℕ → Key → Entry → Type 0
 HoldsNot number key x = NodeHasKey x.after number key → ⊥
 
 module _ (ciphers : Ciphers) (fits : KeepsRanges ciphers) (number : ℕ) (key : Key) where
-  out_on : (w : World) (given : List Issued) (x : Entry) → number ≢ 0 → IsOut number key w given → IsEvent x.event → step ciphers w x.event ≡ Ok (x.after, x.trace) → EntryFlies x → EntryNamed x → IsHonest x → is_allow_of number x.event ≡ false
-      → IsOut number key x.after (given ++ x.trace.issued)
-  out_on w given x ne out says is fly named honest other =
-      let on : GoesOn w x.after = steps ciphers w x.after x.event x.trace is in
+  out_on : (w : World) (given : List Issued) (x : Entry) → number ≢ 0 → IsOut number key w given → Lawful ciphers w x → IsHonest x
+      → is_allow_of number x.event ≡ false → IsOut number key x.after (given ++ x.trace.issued)
+  out_on w given x ne out l honest other =
+      let s = l.before in
+      let goes = on ciphers fits w x l in
       let inside = place_within w.nodes number out.meter out.there in
-      let longer = on.nodes in
+      let longer = goes.nodes in
       let y = at_length x.after.nodes number (omega arith) in
-      let same : y.one.eui ≡ out.meter.eui = eui_stays ciphers fits key w given out.now x says is number out.meter y.one out.there y.is in
-      let shut : ShutAt out.meter.eui x.after = subst (ShutBy out.meter.eui) is (event_shut out.meter.eui ciphers fits w out.now.ok out.now.flown out.shut x.event number out.meter says other out.running out.there refl out.now.keyed.apart) in
+      let same : y.one.eui ≡ out.meter.eui = eui_stays ciphers fits key w given out.now x l number out.meter y.one out.there y.is in
+      let shut : ShutAt out.meter.eui x.after = subst (ShutIn out.meter.eui) l.step
+      (line_steps_shut out.meter.eui ciphers fits w s.ok s.flown s.logs out.shut x.event number out.meter l.says other out.running out.there refl
+      out.now.keyed.apart) in
       record {
-        now = next ciphers fits key w given out.now x says is fly named honest;
+        now = next ciphers fits key w given out.now x l honest;
         meter = y.one;
         there = y.is;
         shut = subst (λ (u : Eui). ShutAt u x.after) (sym same) shut;
-        running = on.running out.running;
+        running = goes.running out.running;
         none = subst (λ (u : Eui). Each (NotTo key u) (given ++ x.trace.issued)) (sym same)
-            (each_append (NotTo key out.meter.eui) given x.trace.issued out.none (issues_other ciphers fits key w given out.now x says is out.meter.eui out.shut out.running));
+            (each_append (NotTo key out.meter.eui) given x.trace.issued out.none (issues_other ciphers fits key w given out.now x l out.meter.eui out.shut
+            out.running));
       }
 
-  stays_out : (w : World) (given : List Issued) → number ≢ 0 → IsOut number key w given → (after rest : List Entry) → AreEvents (events_of (after ++ rest)) → All EntryFlies (after ++ rest) → All EntryNamed (after ++ rest) → IsRun ciphers w (after ++ rest)
+  stays_out : (w : World) (given : List Issued) → number ≢ 0 → IsOut number key w given → (after rest : List Entry) → AreLawful ciphers w (after ++ rest)
       → NoneForged after → NeverAllowed number after → All (HoldsNot number key) after
-  stays_out w given ne out [] rest says fly named run honest other = All-nil (HoldsNot number key)
-  stays_out w given ne out (x ∷ xs) rest says fly named run honest other =
-      let o = out_on w given x ne out (All-head IsEvent x.event (events_of (xs ++ rest)) says) run.2 (All-head EntryFlies x (xs ++ rest) fly) (All-head EntryNamed x (xs ++ rest) named) (All-head IsHonest x xs honest) (All-head (λ (y : Entry). is_allow_of number y.event ≡ false) x xs other) in
+  stays_out w given ne out [] rest l honest other = All-nil (HoldsNot number key)
+  stays_out w given ne out (x ∷ xs) rest l honest other =
+      let o = out_on w given x ne out l.0 (All-head IsHonest x xs honest) (All-head (λ (y : Entry). is_allow_of number y.event ≡ false) x xs other) in
       All-cons (HoldsNot number key) x xs (out_holds_none number key x.after (given ++ x.trace.issued) ne o)
-      (stays_out x.after (given ++ x.trace.issued) ne o xs rest (All-tail IsEvent x.event (events_of (xs ++ rest)) says) (All-tail EntryFlies x (xs ++ rest) fly) (All-tail EntryNamed x (xs ++ rest) named) run.3 (All-tail IsHonest x xs honest) (All-tail (λ (y : Entry). is_allow_of number y.event ≡ false) x xs other))
+      (stays_out x.after (given ++ x.trace.issued) ne o xs rest l.1 (All-tail IsHonest x xs honest)
+      (All-tail (λ (y : Entry). is_allow_of number y.event ≡ false) x xs other))
 
   -- # The kick, and before it
 
@@ -195,18 +195,17 @@ module _ (ciphers : Ciphers) (fits : KeepsRanges ciphers) (number : ℕ) (key : 
   kick_of (events.Kick node) e = ap events.Kick (eqb-true _ _ e)
   kick_of _ e = absurd (cc)
 
-  kicks_out : (w : World) (given : List Issued) (k : Entry) → Now w given → IsEvent k.event → step ciphers w k.event ≡ Ok (k.after, k.trace) → EntryFlies k → EntryNamed k → IsHonest k → IsKicked number k → Each (NotThis key) (given ++ k.trace.issued)
-      → (number ≢ 0) × (IsOut number key k.after (given ++ k.trace.issued))
-  kicks_out w given k now says is fly named honest kicked none =
-      let later = next ciphers fits key w given now k says is fly named honest in
+  kicks_out : (w : World) (given : List Issued) (k : Entry) → Now w given → Lawful ciphers w k → IsHonest k → IsKicked number k
+      → Each (NotThis key) (given ++ k.trace.issued) → (number ≢ 0) × (IsOut number key k.after (given ++ k.trace.issued))
+  kicks_out w given k now l honest kicked none =
+      let later = next ciphers fits key w given now k l honest in
       let kind = kick_of k.event kicked.event in
-      let done : kick ciphers w number ≡ Ok (k.after, k.trace) = ap (step ciphers w) (sym kind) ∙ is in
-      let o = kicked_out ciphers w now.ok number k.after k.trace done kicked.answer later.ok in
-      let on : GoesOn w k.after = steps ciphers w k.after k.event k.trace is in
+      let o = line_kicks_shut ciphers w now.ok number k.after k.trace (ap (line_step ciphers w) (sym kind) ∙ l.step) kicked.answer later.ok in
+      let goes = on ciphers fits w k l in
       let inside = place_within w.nodes number o.1.0 o.1.1 in
-      let longer = on.nodes in
+      let longer = goes.nodes in
       let y = at_length k.after.nodes number (omega arith) in
-      let same : y.one.eui ≡ o.1.0.eui = eui_stays ciphers fits key w given now k says is number o.1.0 y.one o.1.1 y.is in (
+      let same : y.one.eui ≡ o.1.0.eui = eui_stays ciphers fits key w given now k l number o.1.0 y.one o.1.1 y.is in (
         o.0,
         record {
           now = later;
@@ -218,36 +217,30 @@ module _ (ciphers : Ciphers) (fits : KeepsRanges ciphers) (number : ℕ) (key : 
         },
       )
 
-  out_from : (w : World) (given : List Issued) → Now w given → (NodeHasKey w 0 key → ⊥) → Each (NotThis key) given → (before after rest : List Entry) (k : Entry)
-      → AreEvents (events_of (before ++ k ∷ after ++ rest)) → All EntryFlies (before ++ k ∷ after ++ rest) → All EntryNamed (before ++ k ∷ after ++ rest) → IsRun ciphers w (before ++ k ∷ after ++ rest)
-      → NoneForged (before ++ k ∷ after) → IsKicked number k → NeverAllowed number after → NeverStood key (before ++ k ∷ []) → All (HoldsNot number key) (before ++ k ∷ after)
-  out_from w given now absent none [] after rest k says fly named run honest kicked other never =
-      let event = All-head IsEvent k.event (events_of (after ++ rest)) says in
-      let flown = All-head EntryFlies k (after ++ rest) fly in
-      let names = All-head EntryNamed k (after ++ rest) named in
+  out_from : (w : World) (given : List Issued) → Now w given → (NodeHasKey w 0 key → ⊥) → Each (NotThis key) given
+      → (before after rest : List Entry) (k : Entry) → AreLawful ciphers w (before ++ k ∷ after ++ rest)
+      → NoneForged (before ++ k ∷ after) → IsKicked number k → NeverAllowed number after → NeverStood key (before ++ k ∷ [])
+      → All (HoldsNot number key) (before ++ k ∷ after)
+  out_from w given now absent none [] after rest k l honest kicked other never =
       let true_is = All-head IsHonest k after honest in
-      let all = each_append (NotThis key) given k.trace.issued none (issues_none ciphers fits key w given now k event run.2 absent) in
-      let o = kicks_out w given k now event run.2 flown names true_is kicked all in
+      let all = each_append (NotThis key) given k.trace.issued none (issues_none ciphers fits key w given now k l.0 absent) in
+      let o = kicks_out w given k now l.0 true_is kicked all in
       All-cons (HoldsNot number key) k after (out_holds_none number key k.after (given ++ k.trace.issued) o.0 o.1)
-      (stays_out k.after (given ++ k.trace.issued) o.0 o.1 after rest (All-tail IsEvent k.event (events_of (after ++ rest)) says) (All-tail EntryFlies k (after ++ rest) fly) (All-tail EntryNamed k (after ++ rest) named) run.3 (All-tail IsHonest k after honest) other)
-  out_from w given now absent none (x ∷ xs) after rest k says fly named run honest kicked other never =
-      let event = All-head IsEvent x.event (events_of (xs ++ k ∷ after ++ rest)) says in
-      let later = next ciphers fits key w given now x event run.2 (All-head EntryFlies x (xs ++ k ∷ after ++ rest) fly) (All-head EntryNamed x (xs ++ k ∷ after ++ rest) named) (All-head IsHonest x (xs ++ k ∷ after) honest) in
-      let all = each_append (NotThis key) given x.trace.issued none (issues_none ciphers fits key w given now x event run.2 absent) in
+      (stays_out k.after (given ++ k.trace.issued) o.0 o.1 after rest l.1 (All-tail IsHonest k after honest) other)
+  out_from w given now absent none (x ∷ xs) after rest k l honest kicked other never =
+      let later = next ciphers fits key w given now x l.0 (All-head IsHonest x (xs ++ k ∷ after) honest) in
+      let all = each_append (NotThis key) given x.trace.issued none (issues_none ciphers fits key w given now x l.0 absent) in
       let gone = All-head (HoldsNot 0 key) x (xs ++ k ∷ []) never in
       All-cons (HoldsNot number key) x (xs ++ k ∷ after) (nobody_holds x.after (given ++ x.trace.issued) later key number gone all)
-      (out_from x.after (given ++ x.trace.issued) later gone all xs after rest k (All-tail IsEvent x.event (events_of (xs ++ k ∷ after ++ rest)) says) (All-tail EntryFlies x (xs ++ k ∷ after ++ rest) fly) (All-tail EntryNamed x (xs ++ k ∷ after ++ rest) named) run.3
-      (All-tail IsHonest x (xs ++ k ∷ after) honest) kicked other (All-tail (HoldsNot 0 key) x (xs ++ k ∷ []) never))
+      (out_from x.after (given ++ x.trace.issued) later gone all xs after rest k l.1 (All-tail IsHonest x (xs ++ k ∷ after) honest) kicked other
+      (All-tail (HoldsNot 0 key) x (xs ++ k ∷ []) never))
 
 -- # Every run
 
 start_now : Now start []
-start_now = record { ok = start_ok; flown = All-nil FlightFits; keyed = start_keyed; named = tt }
+start_now = record { ok = start_ok; keyed = start_keyed; named = tt }
 
 pub every_kick : EveryKickedMeterStaysOut
 every_kick entries r number before after rest k key split honest kicked other never =
-    let fly = every_flight entries r in
-    let named = issued_named network network_ranges entries r fly in
     out_from network network_ranges number key start [] start_now (λ h. h) tt before after rest k
-    (subst (λ es. AreEvents (events_of es)) split r.events) (subst (All EntryFlies) split fly) (subst (All EntryNamed) split named) (subst (IsRun network start) split r.run)
-    honest kicked other never
+    (subst (AreLawful network start) split (lawful network network_ranges entries r (every_flight entries r))) honest kicked other never

@@ -7,7 +7,7 @@ use Rattle.node_rules.specs.Ciphers.{Ciphers}
 use Rattle.line_rules.specs.Laws.{KeepsFlights}
 use Rattle.line_rules.specs.Runs.{Entry, IsRun}
 use Rattle.line_rules.specs.Worlds.{World, Flight, start}
-use Rattle.line_rules.proofs.StepsOn.{steps}
+use Rattle.line_rules.proofs.StepsOn.{line_steps}
 use Rattle.line_laws.specs.Laws.{FlightsAreOctets}
 use Rattle.line_laws.specs.Network.{world_after, LastFlightsSayAll}
 
@@ -28,7 +28,7 @@ all_octets : (ciphers : Ciphers) (w : World) (entries : List Entry) → IsRun ci
 all_octets ciphers w [] run all = (all, All-nil EntryFlies)
 all_octets ciphers w (x ∷ xs) run all =
     let later = all_octets ciphers x.after xs run.3 all in
-    let on = steps ciphers w x.after x.event x.trace run.2 in
+    let on = line_steps ciphers w x.after x.event x.trace run.2 in
     (were_octets w.flights x.after.flights on.flights later.0, All-cons EntryFlies x xs later.0 later.1)
 
 pub last_say_all : LastFlightsSayAll

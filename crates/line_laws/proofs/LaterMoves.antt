@@ -63,7 +63,7 @@ spelled number frame is = record {
   plain = λ e. (inr (record { frame = frame; spelled = (is, refl); nonce = discovery_nonce frame }), refl);
 }
 
-is_flight : (number : ℕ) (frame : Discovery) → IsFlight network (discovery_flight number frame)
+pub is_flight : (number : ℕ) (frame : Discovery) → IsFlight network (discovery_flight number frame)
 is_flight number frame = record { sealed = λ k e. absurd (none_some k e); plain = λ e. (Discovers frame refl, refl) }
 
 drop_front : (fs gs : List Flight) → drop (length fs) (fs ++ gs) ≡ gs

@@ -28,7 +28,7 @@ counter_of (heads.Sealed ack seq pan to from counter index) = counter
 counter_of (heads.Up ack version seq pan to from) = 0
 counter_of (heads.Down ack version seq pan to from) = 0
 
-abbrev to_of : MacHead → ℕ
+abbrev pub to_of : MacHead → ℕ
 to_of (heads.Sealed ack seq pan to from counter index) = to
 to_of (heads.Up ack version seq pan to from) = 0
 to_of (heads.Down ack version seq pan to from) = 0

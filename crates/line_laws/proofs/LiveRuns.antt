@@ -6,7 +6,6 @@ use Rattle.std.specs.Option.{option_map, option_map_or, option_and_then}
 use Rattle.std.proofs.lemmas.Bool.{and_parts, cases_eq, eqb-true, eq-eqb}
 use Rattle.std.proofs.lemmas.Option.{same_Some, none-some}
 use Rattle.std.proofs.lemmas.Slice.Eq.{bytes_eq-Decides}
-use Rattle.std.proofs.lemmas.List.Elements.{All-nil, All-head, All-tail}
 use Rattle.plc_base.specs.Keeper.{Records}
 use Rattle.plc_base.specs.declared.address.Eui.{Eui}
 use Rattle.plc_base.specs.declared.key.Key.{Key}
@@ -32,13 +31,12 @@ use Rattle.node_rules.specs.NodeSteps.{of_station}
 use Rattle.line_rules.specs.Answers.{frame_word}
 use Rattle.line_rules.specs.declared.event.Event.{Event}
 use Rattle.line_rules.specs.declared.event.StepFault.TheVariants as faults
-use Rattle.line_rules.specs.Events.{IsEvent, AreEvents}
+use Rattle.line_rules.specs.Events.{IsEvent}
 use Rattle.line_rules.specs.Forgery.{Comes, OfFlight, OfScript, accepting}
-use Rattle.line_rules.specs.Runs.{Entry, IsRun, events_of, issued}
-use Rattle.line_rules.specs.Worlds.{World, Flight, Trace, Issued, node_at, has_octets, start}
+use Rattle.line_rules.specs.Runs.{Entry}
+use Rattle.line_rules.specs.Worlds.{World, Flight, Trace, Issued, node_at, has_octets}
 use Rattle.line_rules.specs.Steps.{Step, memory_by, once_begun, has_begun, on_flight, ran, told, trace_of, happened, heard, hears, note_by, arrives, deliver, inject, step}
-use Rattle.line_laws.specs.Live.{holding, marks_of, admits, book_in, book_of, home_by, home, is_past, is_live, live, FlightsFall, FlightsAlwaysFall, EveryFlightFalls}
-use Rattle.line_laws.specs.Laws.{FlightsAreOctets}
+use Rattle.line_laws.specs.Live.{holding, marks_of, admits, book_in, book_of, home_by, home, is_past, is_live, live, FlightsFall}
 use Rattle.line_laws.specs.Owed.{AreOctets, KeepsRanges}
 use Rattle.line_laws.specs.Places.{LiveFalls, first_place, opened_by, opened_at}
 use Rattle.line_laws.specs.Stores.{IsBookKept, IsKept}
@@ -52,14 +50,13 @@ use Rattle.line_laws.proofs.CoordinatorCalls.{accept_failed, admitted_fits}
 use Rattle.line_laws.proofs.ForgeryRight.{some_passes, any_at}
 use Rattle.line_laws.proofs.Nodes.{NodeOk}
 use Rattle.line_laws.proofs.Worlds.{FlightFits, WorldOk, within as place_within, at_place}
-use Rattle.line_laws.proofs.Running.{start_ok, taken_good}
+use Rattle.line_laws.proofs.Running.{taken_good}
 use Rattle.line_laws.proofs.AddressBook.{Grows, one_book}
 use Rattle.line_laws.proofs.AddressWorlds.{one_meter, above_nought, meter_address, coordinator_address}
 use Rattle.line_laws.proofs.FlightFolds.{came_octets}
 use Rattle.line_laws.proofs.IssueNodes.{acts_whole}
 use Rattle.line_laws.proofs.IssueWorlds.{Keyed, IsMeter}
-use Rattle.line_laws.proofs.IssueSteps.{step_keyed}
-use Rattle.line_laws.proofs.IssueRuns.{Kept, kept, all_of_one, start_keyed, EntryFlies}
+use Rattle.line_laws.proofs.IssueRuns.{kept}
 use Rattle.line_laws.proofs.Tellings.{step_is}
 use Rattle.line_laws.proofs.BookGrowth.{Goes, GoesBy, goes}
 
@@ -329,14 +326,14 @@ module _ (ciphers : Ciphers) (w : World) where
       after (Ok g) = heard ciphers w number (accepting ciphers x octets).node octets g cost
       after (Err reason) = (told ciphers (ran w) number (accepting ciphers x octets), trace_of (happened w (frame_word reason)))
 
-  taken_begun : (s : Step) (r : World × Trace) → once_begun w s ≡ Ok r → s ≡ Ok r
+  pub taken_begun : (s : Step) (r : World × Trace) → once_begun w s ≡ Ok r → s ≡ Ok r
   taken_begun s r e = by_test (has_begun w) e
     where
       by_test : (b : Bool) → (if b then s else Err faults.Setup) ≡ Ok r → s ≡ Ok r
       by_test true h = h
       by_test false h = absurd (cc)
 
-  ok_is : (s : Step) (p r : World × Trace) → s ≡ Ok p → s ≡ Ok r → p ≡ r
+  pub ok_is : (s : Step) (p r : World × Trace) → s ≡ Ok p → s ≡ Ok r → p ≡ r
   ok_is s p r e f = cc
 
   -- What a node made of octets that came, over a link of a cost.
@@ -362,35 +359,41 @@ module _ (ciphers : Ciphers) (w : World) where
 
 -- # A frame that is accepted
 
-module _ (ciphers : Ciphers) (fits : KeepsRanges ciphers) (w : World) (ok : WorldOk w) (flown : All FlightFits w.flights) (x : Entry) (says : IsEvent x.event) (e : step ciphers w x.event ≡ Ok (x.after, x.trace))
-    (number : ℕ) (octets : List ℕ) (node : Node) (comes : Comes w x.event number octets) (there : node_at w number ≡ Some node) (got : Accepted) (is : (accepting ciphers node octets).answer ≡ Ok got) (by : ℕ) (all : Bool) (key : Key) (path : got.path ≡ paths.Sealed by all key) where
+-- What became of a node in an event, once it had accepted octets.
+pub record Became (v : World) (number : ℕ) (z : Node) : Type 0 where
+  pub node : Node
+  pub there : node_at v number ≡ Some node
+  pub role : node.role ≡ z.role
+  pub eui : node.eui ≡ z.eui
+  pub raised : Raised (marks_of z) (marks_of node)
+
+-- The head of octets that a node accepted, and that its counter was admitted and is so no more by what the node has become.
+pub record Admission (v : World) (number : ℕ) (octets : List ℕ) (node : Node) (all : Bool) : Type 0 where
+  pub to : ℕ
+  pub from : ℕ
+  pub counter : ℕ
+  pub head : (ack : Bool) × (seq : ℕ) × (pan : ℕ) × (index : ℕ) × (head_in octets ≡ heads.Sealed ack seq pan to from counter index)
+  pub address : all ≡ false → node_address node ≡ Some to
+  pub open_before : admits (marks_of node) from counter ≡ true
+  pub left : Node
+  pub left_there : node_at v number ≡ Some left
+  pub role : left.role ≡ node.role
+  pub eui : left.eui ≡ node.eui
+  pub shut_after : admits (marks_of left) from counter ≡ false
+
+module _ (ciphers : Ciphers) (fits : KeepsRanges ciphers) (w : World) (ok : WorldOk w) (flown : All FlightFits w.flights) (event : Event) (says : IsEvent event)
+    (number : ℕ) (octets : List ℕ) (node : Node) (comes : Comes w event number octets) (there : node_at w number ≡ Some node) (got : Accepted) (is : (accepting ciphers node octets).answer ≡ Ok got) (by : ℕ) (all : Bool) (key : Key) (path : got.path ≡ paths.Sealed by all key) where
   abbrev plan : Memory → Plan Memory (Result Accepted FrameRefusal)
   plan m = of_station m (accept m.station node.eui (arrived ciphers octets))
 
-  -- Its head, and that its counter was admitted and is so no more by what the node has become.
-  pub record Admission : Type 0 where
-    pub to : ℕ
-    pub from : ℕ
-    pub counter : ℕ
-    pub head : (ack : Bool) × (seq : ℕ) × (pan : ℕ) × (index : ℕ) × (head_in octets ≡ heads.Sealed ack seq pan to from counter index)
-    pub address : all ≡ false → node_address node ≡ Some to
-    pub open_before : admits (marks_of node) from counter ≡ true
-    pub left : Node
-    pub left_there : node_at x.after number ≡ Some left
-    pub role : left.role ≡ node.role
-    pub eui : left.eui ≡ node.eui
-    pub shut_after : admits (marks_of left) from counter ≡ false
-
-  pub admission : Admission
-  admission =
-      let are = came_octets ciphers fits w ok flown x.event number octets says comes in
+  pub admitted_once : (v : World) → Became v number (accepting ciphers node octets).node → Admission v number octets node all
+  admitted_once v b =
+      let are = came_octets ciphers fits w ok flown event number octets says comes in
       let a = acts_whole node frames.Halted frames.Store plan (λ m. accept_failed ciphers fits octets are m.station _ (accept_is m.station node.eui (arrived ciphers octets))) got is in
       let one : Taken a.memory.station octets all (plan a.memory).memory.station = taken_is ciphers fits octets are a.memory.station node.eui got by all key path a.is in
       let held : marks_of node ≡ a.memory.station.marks = ap (marks_held node.role node.store.records) a.there in
-      let h = comes_heard ciphers w x.event number octets node got x.after x.trace comes there is e in
-      let did = heard_marks ciphers fits w ok flown x.event number node octets h.cost got there says comes is in
+      let did = (heard_marks ciphers fits w ok flown event number node octets 0 got there says comes is).0 in
       let z : Node = (accepting ciphers node octets).node in
-      let y : Node = hearer ciphers w node octets got h.cost in
       let left : marks_of z ≡ marks.kept_after a.memory.station.marks one.from one.counter = ap (marks_held z.role z.store.records) a.leaves ∙ one.left in
       let shut : admits (marks_of z) one.from one.counter ≡ false = subst (λ t. admits t one.from one.counter ≡ false) (sym left) (kept_past a.memory.station.marks one.from one.counter one.fits) in
       record {
@@ -400,102 +403,120 @@ module _ (ciphers : Ciphers) (fits : KeepsRanges ciphers) (w : World) (ok : Worl
         head = one.head;
         address = λ single. ap (λ (q : Option Memory). option_and_then (λ (m : Memory). address_of m.station) q) a.there ∙ one.own single;
         open_before = subst (λ t. admits t one.from one.counter ≡ true) (sym held) (room_admits a.memory.station.marks one.from one.counter one.fits one.room);
-        left = y;
-        left_there = ap (λ ns. slice_get ns number) h.nodes ∙ slice_get-set w.nodes number y (place_within w.nodes number node there);
-        role = did.1.role ∙ did.0.role;
-        eui = did.1.eui ∙ did.0.eui;
-        shut_after = not_admitted z y did.1.raised one.from one.counter shut;
+        left = b.node;
+        left_there = b.there;
+        role = b.role ∙ did.role;
+        eui = b.eui ∙ did.eui;
+        shut_after = not_admitted z b.node b.raised one.from one.counter shut;
       }
 
+module _ (ciphers : Ciphers) (fits : KeepsRanges ciphers) (w : World) (ok : WorldOk w) (flown : All FlightFits w.flights) (x : Entry) (says : IsEvent x.event) (e : step ciphers w x.event ≡ Ok (x.after, x.trace))
+    (number : ℕ) (octets : List ℕ) (node : Node) (comes : Comes w x.event number octets) (there : node_at w number ≡ Some node) (got : Accepted) (is : (accepting ciphers node octets).answer ≡ Ok got) (by : ℕ) (all : Bool) (key : Key) (path : got.path ≡ paths.Sealed by all key) where
+  pub admission : Admission x.after number octets node all
+  admission =
+      let h = comes_heard ciphers w x.event number octets node got x.after x.trace comes there is e in
+      let did = (heard_marks ciphers fits w ok flown x.event number node octets h.cost got there says comes is).1 in
+      let y : Node = hearer ciphers w node octets got h.cost in
+      admitted_once ciphers fits w ok flown x.event says number octets node comes there got is by all key path x.after (record {
+        node = y;
+        there = ap (λ ns. slice_get ns number) h.nodes ∙ slice_get-set w.nodes number y (place_within w.nodes number node there);
+        role = did.role;
+        eui = did.eui;
+        raised = did.raised;
+      })
+
 -- # An event
+
+-- an event after which marks are no lower, and the book has each address
+module _ (ciphers : Ciphers) (w : World) (ok : WorldOk w) (given : List Issued) (k : Keyed w given) (x : Entry) (okv : WorldOk x.after) (follow : Follows w x.after)
+    (later : 0 < length w.nodes → (c : Node) → node_at x.after 0 ≡ Some c → (b : books.Book) → IsBookKept b c.store.records → Grows k.book b) where
+  book_grows : 0 < length w.nodes → Grows (book_of w) (book_of x.after)
+  book_grows some =
+      let c = first_node w.nodes some in
+      let d = follow.at 0 c.node c.there in
+      subst (λ b. Grows b (book_of x.after)) (sym (some_book w given ok k some)) (later some d.node d.there (book_of x.after) (world_book x.after okv d.node d.there))
+
+  falls_so : (f : Flight) → live x.after f ≡ true → live w f ≡ true
+  falls_so = falls_to w x.after follow book_grows
+
+  pub head_falls_so : (h : MacHead) → is_live x.after h ≡ true → is_live w h ≡ true
+  head_falls_so = head_falls w x.after follow book_grows
+
+  -- octets that a node accepts as a frame to it alone were live, and are not any more
+  pub passes_so : (number : ℕ) (octets : List ℕ) (node : Node) → node_at w number ≡ Some node → Admission x.after number octets node false → (is_live w (head_in octets) ≡ true) × (is_live x.after (head_in octets) ≡ false)
+  passes_so number octets node there one =
+      let inside = place_within w.nodes number node there in
+      let some : 0 < length w.nodes = omega arith in
+      let home_k : home k.book node ≡ Some one.to = home_is w given ok k number node one.to there (one.address refl) in
+      let home_w : home (book_of w) node ≡ Some one.to = subst (λ b. home b node ≡ Some one.to) (sym (some_book w given ok k some)) home_k in
+      let home_v : home (book_of x.after) one.left ≡ Some one.to = home_later (book_of w) (book_of x.after) (book_grows some) node one.left one.role one.eui one.to home_w in
+      let past : list_any (is_past (book_of x.after) one.to one.from one.counter) x.after.nodes ≡ true =
+      any_at (is_past (book_of x.after) one.to one.from one.counter) x.after.nodes number one.left one.left_there (past_is (book_of x.after) one.to one.from one.counter one.left (record { at = home_v; none = one.shut_after })) in (
+        subst (λ q. is_live w q ≡ true) (sym one.head.4) (was_live one.to one.from one.counter home_k one.open_before),
+        subst (λ q. is_live x.after q ≡ false) (sym one.head.4) (ap not past),
+      )
+    where
+      was_live : (to from counter : ℕ) → home k.book node ≡ Some to → admits (marks_of node) from counter ≡ true → not (list_any (is_past (book_of w) to from counter) w.nodes) ≡ true
+      was_live to from counter mine admitted = by_any (list_any (is_past (book_of w) to from counter) w.nodes) refl
+        where
+          by_any : (b : Bool) → list_any (is_past (book_of w) to from counter) w.nodes ≡ b → not b ≡ true
+          by_any false q = refl
+          by_any true q = absurd (
+              let p = some_passes (is_past (book_of w) to from counter) w.nodes q in
+              let old = past_says (book_of w) to from counter p.one p.is in
+              let inside = place_within w.nodes p.place p.one p.there in
+              let some : 0 < length w.nodes = omega arith in
+              let home_p : home k.book p.one ≡ Some to = subst (λ b. home b p.one ≡ Some to) (some_book w given ok k some) old.at in
+              let number_is : p.place ≡ number = one_home w given ok k p.place number p.one node to p.there there home_p mine in
+              let this : p.one ≡ node = same_Some _ _ (sym p.there ∙ ap (slice_get w.nodes) number_is ∙ there) in
+              let none : admits (marks_of node) from counter ≡ false = subst (λ (n : Node). admits (marks_of n) from counter ≡ false) this old.none in
+              cc (none, admitted)
+              )
+
+  -- where what a node accepts was admitted, and is not any more
+  module _ (admit : (number : ℕ) (octets : List ℕ) (node : Node) → Comes w x.event number octets → node_at w number ≡ Some node → (got : Accepted) → (accepting ciphers node octets).answer ≡ Ok got → (by : ℕ) (key : Key) → got.path ≡ paths.Sealed by false key
+      → Admission x.after number octets node false) where
+    module _ (number : ℕ) (octets : List ℕ) (node : Node) (comes : Comes w x.event number octets) (there : node_at w number ≡ Some node) where
+      passes_by : (got : Accepted) → (accepting ciphers node octets).answer ≡ Ok got → (place : ℕ) (f : Flight) → opened_by w octets got.path ≡ Some place → slice_get w.flights place ≡ Some f → (live w f ≡ true) × (live x.after f ≡ false)
+      passes_by got is place f at here =
+          let o = opened_one w octets got.path place at in
+          let same : f.octets ≡ octets = place_octets w.flights octets o.key place f o.first here in
+          let p = passes_so number octets node there (admit number octets node comes there got is o.by o.key o.is) in
+          (subst (λ q. is_live w (head_in q) ≡ true) (sym same) p.0, subst (λ q. is_live x.after (head_in q) ≡ false) (sym same) p.1)
+
+      opened_falls : LiveFalls live w x.after (opened_at w octets (accepting ciphers node octets).answer)
+      opened_falls = record { falls = falls_so; passes = λ place f at here. by_answer (accepting ciphers node octets).answer refl place f at here }
+        where
+          by_answer : (r : Result Accepted FrameRefusal) → (accepting ciphers node octets).answer ≡ r → (place : ℕ) (f : Flight) → opened_at w octets r ≡ Some place → slice_get w.flights place ≡ Some f → (live w f ≡ true) × (live x.after f ≡ false)
+          by_answer (Err reason) is place f at here = absurd (none-some place at)
+          by_answer (Ok got) is place f at here = passes_by got is place f at here
+
+    pub falls_where : FlightsFall ciphers w x
+    falls_where = record {
+      falls = none_falls w x.after follow book_grows;
+      opened = λ number octets node comes there. opened_falls number octets node comes there;
+    }
 
 module _ (ciphers : Ciphers) (fits : KeepsRanges ciphers) (w : World) (ok : WorldOk w) (flown : All FlightFits w.flights) (given : List Issued) (k : Keyed w given) (x : Entry) (says : IsEvent x.event) (e : step ciphers w x.event ≡ Ok (x.after, x.trace)) where
   follow : Follows w x.after
   follow = entry_follows ciphers fits w ok flown x says e
 
-  later : 0 < length w.nodes → Goes ciphers fits w ok flown given k x.after
-  later = subst (GoesBy ciphers fits w ok flown given k) e (goes ciphers fits w ok flown given k x.event (step ciphers w x.event) (step_is ciphers w x.event says))
+  okv : WorldOk x.after
+  okv = (taken_good ciphers fits w ok flown x says e).0
 
-  book_grows : 0 < length w.nodes → Grows (book_of w) (book_of x.after)
-  book_grows some =
-      let okv = (taken_good ciphers fits w ok flown x says e).0 in
-      let c = first_node w.nodes some in
-      let d = follow.at 0 c.node c.there in
-      subst (λ b. Grows b (book_of x.after)) (sym (some_book w given ok k some)) ((later some).grows d.node d.there (book_of x.after) (world_book x.after okv d.node d.there))
+  goes_on : 0 < length w.nodes → Goes ciphers fits w ok flown given k x.after
+  goes_on = subst (GoesBy ciphers fits w ok flown given k) e (goes ciphers fits w ok flown given k x.event (step ciphers w x.event) (step_is ciphers w x.event says))
 
-  falls_by : (f : Flight) → live x.after f ≡ true → live w f ≡ true
-  falls_by = falls_to w x.after follow book_grows
+  later : 0 < length w.nodes → (c : Node) → node_at x.after 0 ≡ Some c → (b : books.Book) → IsBookKept b c.store.records → Grows k.book b
+  later some = (goes_on some).grows
 
   pub head_falls_by : (h : MacHead) → is_live x.after h ≡ true → is_live w h ≡ true
-  head_falls_by = head_falls w x.after follow book_grows
+  head_falls_by = head_falls_so ciphers w ok given k x okv follow later
 
-  module _ (number : ℕ) (octets : List ℕ) (node : Node) (comes : Comes w x.event number octets) (there : node_at w number ≡ Some node) where
-    -- octets that a node accepts as a frame to it alone were live, and are not any more
-    pub passes_one : (got : Accepted) → (accepting ciphers node octets).answer ≡ Ok got → (by : ℕ) (key : Key) → got.path ≡ paths.Sealed by false key → (is_live w (head_in octets) ≡ true) × (is_live x.after (head_in octets) ≡ false)
-    passes_one got is by key path =
-        let one = admission ciphers fits w ok flown x says e number octets node comes there got is by false key path in
-        let inside = place_within w.nodes number node there in
-        let some : 0 < length w.nodes = omega arith in
-        let home_k : home k.book node ≡ Some one.to = home_is w given ok k number node one.to there (one.address refl) in
-        let home_w : home (book_of w) node ≡ Some one.to = subst (λ b. home b node ≡ Some one.to) (sym (some_book w given ok k some)) home_k in
-        let home_v : home (book_of x.after) one.left ≡ Some one.to = home_later (book_of w) (book_of x.after) (book_grows some) node one.left one.role one.eui one.to home_w in
-        let past : list_any (is_past (book_of x.after) one.to one.from one.counter) x.after.nodes ≡ true =
-        any_at (is_past (book_of x.after) one.to one.from one.counter) x.after.nodes number one.left one.left_there (past_is (book_of x.after) one.to one.from one.counter one.left (record { at = home_v; none = one.shut_after })) in (
-          subst (λ q. is_live w q ≡ true) (sym one.head.4) (was_live one.to one.from one.counter home_k one.open_before),
-          subst (λ q. is_live x.after q ≡ false) (sym one.head.4) (ap not past),
-        )
-      where
-        was_live : (to from counter : ℕ) → home k.book node ≡ Some to → admits (marks_of node) from counter ≡ true → not (list_any (is_past (book_of w) to from counter) w.nodes) ≡ true
-        was_live to from counter mine admitted = by_any (list_any (is_past (book_of w) to from counter) w.nodes) refl
-          where
-            by_any : (b : Bool) → list_any (is_past (book_of w) to from counter) w.nodes ≡ b → not b ≡ true
-            by_any false q = refl
-            by_any true q = absurd (
-                let p = some_passes (is_past (book_of w) to from counter) w.nodes q in
-                let old = past_says (book_of w) to from counter p.one p.is in
-                let inside = place_within w.nodes p.place p.one p.there in
-                let some : 0 < length w.nodes = omega arith in
-                let home_p : home k.book p.one ≡ Some to = subst (λ b. home b p.one ≡ Some to) (some_book w given ok k some) old.at in
-                let number_is : p.place ≡ number = one_home w given ok k p.place number p.one node to p.there there home_p mine in
-                let this : p.one ≡ node = same_Some _ _ (sym p.there ∙ ap (slice_get w.nodes) number_is ∙ there) in
-                let none : admits (marks_of node) from counter ≡ false = subst (λ (n : Node). admits (marks_of n) from counter ≡ false) this old.none in
-                cc (none, admitted)
-                )
-
-    passes_by : (got : Accepted) → (accepting ciphers node octets).answer ≡ Ok got → (place : ℕ) (f : Flight) → opened_by w octets got.path ≡ Some place → slice_get w.flights place ≡ Some f → (live w f ≡ true) × (live x.after f ≡ false)
-    passes_by got is place f at here =
-        let o = opened_one w octets got.path place at in
-        let same : f.octets ≡ octets = place_octets w.flights octets o.key place f o.first here in
-        let p = passes_one got is o.by o.key o.is in
-        (subst (λ q. is_live w (head_in q) ≡ true) (sym same) p.0, subst (λ q. is_live x.after (head_in q) ≡ false) (sym same) p.1)
-
-    opened_falls : LiveFalls live w x.after (opened_at w octets (accepting ciphers node octets).answer)
-    opened_falls = record { falls = falls_by; passes = λ place f at here. by_answer (accepting ciphers node octets).answer refl place f at here }
-      where
-        by_answer : (r : Result Accepted FrameRefusal) → (accepting ciphers node octets).answer ≡ r → (place : ℕ) (f : Flight) → opened_at w octets r ≡ Some place → slice_get w.flights place ≡ Some f → (live w f ≡ true) × (live x.after f ≡ false)
-        by_answer (Err reason) is place f at here = absurd (none-some place at)
-        by_answer (Ok got) is place f at here = passes_by got is place f at here
+  pub passes_one : (number : ℕ) (octets : List ℕ) (node : Node) → Comes w x.event number octets → node_at w number ≡ Some node → (got : Accepted) → (accepting ciphers node octets).answer ≡ Ok got → (by : ℕ) (key : Key) → got.path ≡ paths.Sealed by false key
+      → (is_live w (head_in octets) ≡ true) × (is_live x.after (head_in octets) ≡ false)
+  passes_one number octets node comes there got is by key path =
+      passes_so ciphers w ok given k x okv follow later number octets node there (admission ciphers fits w ok flown x says e number octets node comes there got is by false key path)
 
   pub event_falls : FlightsFall ciphers w x
-  event_falls = record {
-    falls = none_falls w x.after follow book_grows;
-    opened = λ number octets node comes there. opened_falls number octets node comes there;
-  }
-
--- # Runs
-
-module _ (ciphers : Ciphers) (fits : KeepsRanges ciphers) where
-  falls_from : (w : World) → WorldOk w → All FlightFits w.flights → (before : List Entry) → Keyed w (issued before) → (entries : List Entry) → AreEvents (events_of entries) → FlightsAreOctets entries → IsRun ciphers w entries → FlightsAlwaysFall ciphers w entries
-  falls_from w ok flown before k [] says fly run = tt
-  falls_from w ok flown before k (x ∷ xs) says fly run =
-      let event = All-head IsEvent x.event (events_of xs) says in
-      let g = taken_good ciphers fits w ok flown x event run.2 in (
-        event_falls ciphers fits w ok flown (issued before) k x event run.2,
-        λ honest.
-            let next : Keyed x.after (issued before ++ x.trace.issued) = subst (Kept (issued before)) run.2 (kept w (issued before) _ (step_keyed ciphers fits w ok flown (issued before) k x.event event)) honest in
-            let k' : Keyed x.after (issued (before ++ x ∷ [])) = subst (Keyed x.after) (sym (all_of_one (λ d. d.issued) before x)) next in
-            falls_from x.after g.0 (All-head EntryFlies x xs fly) (before ++ x ∷ []) k' xs (All-tail IsEvent x.event (events_of xs) says) (All-tail EntryFlies x xs fly) run.3,
-      )
-
-pub every_flight : EveryFlightFalls
-every_flight ciphers fits entries r fly = falls_from ciphers fits start start_ok (All-nil FlightFits) [] start_keyed entries r.events fly r.run
+  event_falls = falls_where ciphers w ok given k x okv follow later (λ number octets node comes there got is by key path. admission ciphers fits w ok flown x says e number octets node comes there got is by false key path)

@@ -1,7 +1,7 @@
 -- No run has a loop before it is forged.
 use Rattle.std.proofs.Common.{◌≡◌, inl, inr, ℕ, ◌≤◌, ◌<◌, false, List, [], ◌∷◌, ◌++◌, length, Option, Some, None, Ok, Err, refl, sym, ap, ◌∙◌, subst, arith}
 use Rattle.std.proofs.lemmas.Option.{same_Some, none-some}
-use Rattle.std.proofs.lemmas.List.Elements.{All-nil, All-head, All-tail, All-weaker}
+use Rattle.std.proofs.lemmas.List.Elements.{All-nil, All-weaker}
 use Rattle.plc_base.specs.declared.key.Key.{Key}
 use Rattle.plc_base.specs.Grant.{Granted}
 use Rattle.group_keys.specs.KeyBook as books
@@ -17,34 +17,21 @@ use Rattle.node_rules.specs.Memory.{Node}
 use Rattle.node_rules.specs.NodeSteps.{acts}
 use Rattle.line_rules.specs.declared.event.Event.{Event}
 use Rattle.line_rules.specs.declared.event.Event.TheVariants as events
-use Rattle.line_rules.specs.Events.{IsEvent, AreEvents}
-use Rattle.line_rules.specs.Laws.{GoesOn}
 use Rattle.line_rules.specs.Worlds.{World, Flight, Trace, Issued, node_at, start}
-use Rattle.line_rules.specs.Runs.{Entry, IsRun, events_of, issued}
+use Rattle.line_rules.specs.Further.{line_step}
 use Rattle.line_rules.specs.Steps.{Step, psk_of, step}
-use Rattle.line_rules.proofs.StepsOn.{steps}
 use Rattle.line_laws.specs.Owed.{KeepsRanges}
 use Rattle.line_laws.proofs.Worlds.{WorldOk, within}
-use Rattle.line_laws.proofs.AddressBook as books_grow
-use Rattle.line_laws.proofs.BookGrowth.{Goes, GoesBy, goes}
-use Rattle.line_laws.proofs.HomeGrants.{WasLeft, LeftBy, takes_own, depot_left, depot_booked}
-use Rattle.line_laws.proofs.Homes.{homes_of, meter_home, at_length, addressed, homes_grow, addressed_before}
-use Rattle.line_laws.proofs.IssueRuns.{Kept, kept, all_of_one, start_keyed}
-use Rattle.line_laws.proofs.IssueSteps.{step_keyed}
+use Rattle.line_laws.proofs.HomeGrants.{WasLeft, LeftBy, depot_left, depot_booked}
+use Rattle.line_laws.proofs.Homes.{homes_of, meter_home, at_length}
+use Rattle.line_laws.proofs.IssueRuns.{kept, start_keyed}
 use Rattle.line_laws.proofs.IssueWorlds.{Keyed}
-use Rattle.line_laws.proofs.Tellings.{step_is}
-use Rattle.line_laws.proofs.Running.{start_ok, taken_good}
 use Rattle.line_laws.proofs.RankSaid.{MessageBacked, UnitBacked, Says, IsWhole, IsPart, IsCarried, IsOther}
 use Rattle.line_laws.proofs.RouteParts as parts
 use Rattle.line_laws.proofs.RouteParts.{At, Own, IsNearer, FlightBacked, IsLetter, RoutingHolds, Reached}
-use Rattle.line_laws.proofs.RouteSteps.{StepHolds, Fails, Taken, event_holds}
-use Rattle.line_laws.proofs.LoopFree.{no_loop}
-use Rattle.line_laws.proofs.OctetRuns.{WorldSpeaks, SpeaksIn, event_speaks, start_speaks}
-use Rattle.line_laws.proofs.RangeRuns.{WorldRanged, RangedIn, calls_read, event_ranged, start_ranged}
-use Rattle.line_laws.proofs.Readings.{network_ranges}
-use Rattle.line_laws.proofs.Homed.{Homes, Grows, HomesFit, DepotFits}
-use Rattle.line_laws.specs.Laws.{IsLineRun}
-use Rattle.line_laws.specs.Loops.{stored, AreLoopFree}
+use Rattle.line_laws.proofs.RouteSteps.{StepHolds, Fails, Taken}
+use Rattle.line_laws.proofs.Homed.{Homes, Grows, DepotFits}
+use Rattle.line_laws.specs.Loops.{stored}
 
 -- # Homes that are given
 
@@ -113,66 +100,24 @@ module _ (ciphers : Ciphers) (fits : KeepsRanges ciphers) (w v : World) (ok : Wo
       depot_home number x c psk g hx hc pair (subst (LeftBy ciphers w number x c psk hx hc pair) e (depot_left ciphers w number x c psk hx hc pair)) is
   depot_fits _ t e = tt
 
-abbrev HoldsBy : Homes → World → Step → Type 0
+  -- and so with further reach
+  pub line_depot_fits : (event : Event) (t : Trace) → line_step ciphers w event ≡ Ok (v, t) → DepotFits ciphers (homes_of kv.book v) w event
+  line_depot_fits (events.Depot number) t e = depot_fits (events.Depot number) t e
+  line_depot_fits _ t e = tt
+
+abbrev pub HoldsBy : Homes → World → Step → Type 0
 HoldsBy h w (Ok r) = r.1.happened.forged ≡ false → Reached network h w r.0
 HoldsBy h w (Err fault) = Unit {0}
 
-holds_by : (h : Homes) (w : World) (s : Step) → StepHolds network h w s → HoldsBy h w s
+pub holds_by : (h : Homes) (w : World) (s : Step) → StepHolds network h w s → HoldsBy h w s
 holds_by h w s (Fails fault) = tt
 holds_by h w s (Taken r holds) = holds
 
--- What holds of a world of the network that was reached with no event forged.
-record Sound (w : World) (before : List Entry) : Type 0 where
-  ok : WorldOk w
-  speaks : WorldSpeaks w
-  ranged : WorldRanged w
-  keyed : Keyed w (issued before)
-  routes : RoutingHolds network (homes_of keyed.book w) w
-
-loop_free_from : (w : World) (before : List Entry) → Sound w before → (entries : List Entry) → AreEvents (events_of entries) → IsRun network w entries → AreLoopFree w entries
-loop_free_from w before o [] says run = tt
-loop_free_from w before o (x ∷ xs) says run = λ honest.
-    let event = All-head IsEvent x.event (events_of xs) says in
-    let flown = o.speaks.flights in
-    let k = o.keyed in
-    let made = step_is network w x.event event in
-    let g = taken_good network network_ranges w o.ok flown x event run.2 in
-    let next : Keyed x.after (issued before ++ x.trace.issued) = subst (Kept (issued before)) run.2 (kept w (issued before) _ (step_keyed network network_ranges w o.ok flown (issued before) k x.event event)) honest in
-    let more : List Issued = issued (before ++ x ∷ []) in
-    let k2 : Keyed x.after more = subst (Keyed x.after) (sym (all_of_one (λ d. d.issued) before x)) next in
-    let on : GoesOn w x.after = steps network w x.after x.event x.trace run.2 in
-    let later : 0 < length w.nodes → Goes network network_ranges w o.ok flown (issued before) k x.after = subst (GoesBy network network_ranges w o.ok flown (issued before) k) run.2 (goes network network_ranges w o.ok flown (issued before) k x.event (step network w x.event) made) in
-    let longer : length w.nodes ≤ length x.after.nodes = on.nodes in
-    let book : 0 < length w.nodes → books_grow.Grows k.book k2.book = λ some.
-    let c = at_length x.after.nodes 0 (omega arith) in
-    (later some).grows c.one c.is k2.book (k2.coordinator c.one c.is).book_kept in
-    let h : Homes = homes_of k2.book x.after in
-    let grown : Grows (homes_of k.book w) h = homes_grow w x.after (issued before) more o.ok g.0 k k2 longer book (λ some. (later some).euis) in
-    let fit : HomesFit network h w = record {
-      addressed = addressed_before w x.after (issued before) more o.ok g.0 k k2 longer book (λ some. (later some).euis);
-      took = λ number y frame cost there are got e right psk role m here agreed took granted t tagged.
-          grown number granted.address (takes_own network network_ranges w o.ok flown (issued before) k number y frame cost there are got e right psk role m here agreed took granted t tagged);
-    } in
-    let euis : (n : ℕ) (y : Node) → n < length w.nodes → node_at x.after n ≡ Some y → (z : Node) × (node_at w n ≡ Some z) × (z.eui ≡ y.eui) = λ n y lt there. (later (omega arith)).euis n y lt there in
-    let depot : DepotFits network h w x.event = depot_fits network network_ranges w x.after o.ok (issued before) more k k2 longer euis x.event x.trace run.2 in
-    let after = subst (HoldsBy h w) run.2 (holds_by h w _ (event_holds network network_ranges h w (calls_read w o.ok o.speaks o.ranged) o.ok flown fit (grow_homes network (homes_of k.book w) h grown w o.routes) x.event event depot)) honest in
-    let sound : Sound x.after (before ++ x ∷ []) = record {
-      ok = g.0;
-      speaks = subst (SpeaksIn w o.ok o.speaks) run.2 (event_speaks w o.ok o.speaks x.event (step network w x.event) made);
-      ranged = subst (RangedIn w o.ok o.speaks o.ranged) run.2 (event_ranged w o.ok o.speaks o.ranged x.event (step network w x.event) made) honest;
-      keyed = k2;
-      routes = after.holds;
-    } in
-    (no_loop network h x.after (addressed x.after more g.0 k2) after.holds, after.later, loop_free_from x.after (before ++ x ∷ []) sound xs (All-tail IsEvent x.event (events_of xs) says) run.3)
-
-pub start_routes : RoutingHolds network (homes_of start_keyed.book start) start
-start_routes = record {
-  ranks = record { backed = All-nil (FlightBacked network (homes_of start_keyed.book start) start); not_own = λ i x there dest own. absurd (none-some x there) };
+pub start_routed : (b : books.Book) → RoutingHolds network (homes_of b start) start
+start_routed b = record {
+  ranks = record { backed = All-nil (FlightBacked network (homes_of b start) start); not_own = λ i x there dest own. absurd (none-some x there) };
   routes = record { routes = λ i x there dest next e. absurd (none-some x there) };
 }
 
-start_sound : Sound start []
-start_sound = record { ok = start_ok; speaks = start_speaks; ranged = start_ranged; keyed = start_keyed; routes = start_routes }
-
-pub every_run : (entries : List Entry) → IsLineRun network entries → AreLoopFree start entries
-every_run entries r = loop_free_from start [] start_sound entries r.events r.run
+pub start_routes : RoutingHolds network (homes_of start_keyed.book start) start
+start_routes = start_routed start_keyed.book

@@ -4,7 +4,6 @@ use Rattle.std.specs.Prelude.{All, slice_get, slice_set}
 use Rattle.std.specs.Option.{option_map}
 use Rattle.std.proofs.lemmas.Bool.{cases_eq}
 use Rattle.std.proofs.lemmas.Option.{same_Some}
-use Rattle.std.proofs.lemmas.List.Elements.{All-nil, All-head, All-tail}
 use Rattle.plc_base.specs.Grant.{Granted}
 use Rattle.plc_base.specs.declared.address.Eui.{Eui}
 use Rattle.plc_base.specs.declared.key.Key.{Key}
@@ -31,16 +30,15 @@ use Rattle.node_rules.specs.Coordinators as coordinator_rules
 use Rattle.node_rules.specs.MemoryDrafts.{with_station}
 use Rattle.node_rules.specs.NodeSteps.{NodeStep, acts, stays, answering, changing, of_station}
 use Rattle.line_rules.specs.Answers.{sent_word}
-use Rattle.line_rules.specs.Events.{IsEvent, AreEvents}
+use Rattle.line_rules.specs.Events.{IsEvent}
 use Rattle.line_rules.specs.Forgery.{Comes, accepting}
-use Rattle.line_rules.specs.Runs.{Entry, IsRun, events_of}
-use Rattle.line_rules.specs.Worlds.{World, node_at, start}
+use Rattle.line_rules.specs.Runs.{Entry}
+use Rattle.line_rules.specs.Worlds.{World, node_at}
 use Rattle.line_rules.specs.Steps.{Step, set_up, ran, told, acted, sending, sent_if, is_taken, tag_of, hears, offered_near, note_by, identity, psk_of, restarts, ticked, step}
-use Rattle.line_laws.specs.Live.{marks_of, MarksRise, MarksAlwaysRise, EveryMarkRises}
+use Rattle.line_laws.specs.Live.{marks_of, MarksRise}
 use Rattle.line_laws.specs.Stores.{IsReadable, IsKept, HasEui, IsPair}
 use Rattle.line_laws.specs.Sizes.{IsMemorySized}
 use Rattle.line_laws.specs.Owed.{KeepsRanges}
-use Rattle.line_laws.specs.Laws.{FlightsAreOctets}
 use Rattle.line_laws.proofs.MarkOrder.{Raised, raised_same, raised_trans, raised_admits}
 use Rattle.line_laws.proofs.Nodes.{PlanOk, NodeOk, DidFits, DidOk, acts_fits, acts_ok, ring_readable, node_kept}
 use Rattle.line_laws.proofs.NodeCalls.{RoutesFit, random_ok, join_ok, leave_ok, send_ok, near_ok, counter_ok, number_ok, broke_ok, provision_ok}
@@ -51,9 +49,7 @@ use Rattle.line_laws.proofs.Answered.{acts_answered, depot_grants}
 use Rattle.line_laws.proofs.Worlds.{NodeFits, FlightFits, WorldOk, within as place_within, at_place}
 use Rattle.line_laws.proofs.StepsOk.{coordinator_acts, hears_ok, restarts_ok}
 use Rattle.line_laws.proofs.FlightFolds.{address_low, came_octets}
-use Rattle.line_laws.proofs.IssueRuns.{EntryFlies}
 use Rattle.line_laws.proofs.OctetRuns.{psk_role}
-use Rattle.line_laws.proofs.Running.{start_ok, taken_good}
 use Rattle.line_laws.proofs.Tellings.{IsCall, Gives, Joins, Leaves, Sends, Breaks, Nears, Counts, Numbers, Accepts, Provisions, Depots, Allows, Rekeys, Turns, Challenges, Activates, Kicks, workshop, preset_call, IsStep, Fails, Makes, Rests, Shows, Acts, BreaksLink, SendsFrom, AllowsMeter, Sets, SetsTwo, Provides, TurnsDown, Hears, Loses, Ticks, Restarts, Cuts, step_is}
 
 -- # Nodes
@@ -287,16 +283,3 @@ marks_rise w v f = record {
 
 pub entry_follows : (ciphers : Ciphers) (fits : KeepsRanges ciphers) (w : World) (ok : WorldOk w) (flown : All FlightFits w.flights) (x : Entry) → IsEvent x.event → step ciphers w x.event ≡ Ok (x.after, x.trace) → Follows w x.after
 entry_follows ciphers fits w ok flown x says e = subst (FollowsIn ciphers fits w ok flown) e (follows ciphers fits w ok flown x.event (step ciphers w x.event) (step_is ciphers w x.event says))
-
-module _ (ciphers : Ciphers) (fits : KeepsRanges ciphers) where
-  marks_from_here : (w : World) → WorldOk w → All FlightFits w.flights → (entries : List Entry) → AreEvents (events_of entries) → FlightsAreOctets entries → IsRun ciphers w entries → MarksAlwaysRise w entries
-  marks_from_here w ok flown [] says fly run = tt
-  marks_from_here w ok flown (x ∷ xs) says fly run =
-      let event = All-head IsEvent x.event (events_of xs) says in
-      let g = taken_good ciphers fits w ok flown x event run.2 in (
-        marks_rise w x.after (entry_follows ciphers fits w ok flown x event run.2),
-        marks_from_here x.after g.0 (All-head EntryFlies x xs fly) xs (All-tail IsEvent x.event (events_of xs) says) (All-tail EntryFlies x xs fly) run.3,
-      )
-
-pub every_mark : EveryMarkRises
-every_mark ciphers fits entries r fly = marks_from_here ciphers fits start start_ok (All-nil FlightFits) entries r.events fly r.run

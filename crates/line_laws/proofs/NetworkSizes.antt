@@ -1,18 +1,17 @@
 -- In every run of the network what waits is loads that a frame carries, commands among them.
 use Rattle.std.proofs.Common.{◌≤◌, List, [], ◌∷◌, Option, Some, None}
 use Rattle.std.specs.Prelude.{All, IfSome}
-use Rattle.std.proofs.lemmas.List.Elements.{All-nil, All-cons, All-head, All-tail, All-weaker}
+use Rattle.std.proofs.lemmas.List.Elements.{All-nil, All-cons, All-head, All-tail}
 use Rattle.node_rules.specs.Laws.{IsLoad, IsWithin, IsWithinSizes}
 use Rattle.node_rules.specs.Memory.{Body, Load, Datagram, Command, Memory, Node}
 use Rattle.line_rules.specs.Runs.{Entry}
 use Rattle.line_rules.specs.SafeRuns.{IsSized}
 use Rattle.line_rules.specs.Worlds.{World}
-use Rattle.line_laws.specs.Laws.{EveryNetworkRunIsSized}
 use Rattle.line_laws.specs.Sizes.{IsAnyLoad}
 use Rattle.line_laws.proofs.Nodes.{NodeOk}
 use Rattle.line_laws.proofs.OctetCalls.{NodeSpeaks}
 use Rattle.line_laws.proofs.OctetDrafts.{BodySpeaks, MemorySpeaks, IsCommandShort}
-use Rattle.line_laws.proofs.OctetRuns.{WorldSpeaks, EntrySpeaks, every_entry}
+use Rattle.line_laws.proofs.OctetRuns.{WorldSpeaks}
 use Rattle.line_laws.proofs.Running.{node_sized}
 use Rattle.line_laws.proofs.Worlds.{WorldOk}
 
@@ -57,11 +56,8 @@ nodes_within : (xs : List Node) → All NodeOk xs → All NodeSpeaks xs → All 
 nodes_within [] ok s = All-nil NodeWithin
 nodes_within (x ∷ xs) ok s = All-cons NodeWithin x xs (node_within x (All-head NodeOk x xs ok) (All-head NodeSpeaks x xs s)) (nodes_within xs (All-tail NodeOk x xs ok) (All-tail NodeSpeaks x xs s))
 
-world_within : (w : World) → WorldOk w → WorldSpeaks w → IsSized w
+pub world_within : (w : World) → WorldOk w → WorldSpeaks w → IsSized w
 world_within w ok s = record { nodes = ok.count; memories = nodes_within w.nodes ok.nodes s.nodes }
 
-abbrev EntrySized : Entry → Type 0
+abbrev pub EntrySized : Entry → Type 0
 EntrySized x = IsSized x.after × (x.trace.happened.flights ≤ 24)
-
-pub every_size : EveryNetworkRunIsSized
-every_size entries r = All-weaker EntrySpeaks EntrySized (λ x h. (world_within x.after h.0 h.1, h.2)) entries (every_entry entries r)

@@ -1,34 +1,22 @@
 -- Whose address a sealed flight has, and that no two nodes have one address and no two flights under one key one nonce before an event is forged.
-use Rattle.std.proofs.Common.{◌≡◌, ◌≢◌, ⊎_elim, ℕ, ◌<◌, List, [], ◌∷◌, ◌++◌, length, drop, get_or, Option, Some, None, Ok, refl, sym, ap, ◌∙◌, subst, arith}
+use Rattle.std.proofs.Common.{◌≡◌, ◌≢◌, ⊎_elim, ℕ, ◌<◌, List, [], ◌∷◌, ◌++◌, length, drop, get_or, Option, Some, None, refl, sym, ap, ◌∙◌, subst, arith}
 use Rattle.std.specs.Prelude.{All, AllPairs, IfSome, slice_get}
 use Rattle.std.proofs.lemmas.Bool.{cases_eq}
-use Rattle.std.proofs.lemmas.List.Elements.{All-nil, All-cons, All-head, All-tail}
+use Rattle.std.proofs.lemmas.List.Elements.{All-cons, All-head, All-tail}
 use Rattle.plc_base.specs.declared.key.Key.{Key}
 use Rattle.mac_frames.specs.Reading.{head_in}
 use Rattle.group_keys.specs.KeyBook as books
-use Rattle.node_rules.specs.Ciphers.{Ciphers}
 use Rattle.node_rules.specs.Memory.{Node, node_address}
-use Rattle.line_rules.specs.Events.{IsEvent, AreEvents}
-use Rattle.line_rules.specs.Worlds.{World, Flight, Issued, node_at, start}
-use Rattle.line_rules.specs.Runs.{Entry, IsRun, events_of, issued}
+use Rattle.line_rules.specs.Worlds.{World, Flight, Issued, node_at}
 use Rattle.line_rules.specs.SafeRuns.{HasAddress}
-use Rattle.line_rules.specs.Nonces.{NonceParts, nonce_in_head, nonce_parts, CounterRises, HasAnotherNonce, HasSender, AreAddressed, AddressesDiffer, AreApart, NoncesDiffer}
-use Rattle.line_rules.specs.Laws.{SameFlight, KeepsFlights, GoesOn}
-use Rattle.line_rules.specs.Steps.{step}
-use Rattle.line_rules.proofs.StepsOn.{steps}
-use Rattle.line_laws.specs.Owed.{KeepsRanges}
-use Rattle.line_laws.specs.Laws.{FlightsAreOctets, EverySenderIsRight, EveryAddressDiffers, EveryNonceDiffers}
-use Rattle.line_laws.proofs.Worlds.{FlightFits, WorldOk}
-use Rattle.line_laws.proofs.Running.{start_ok, taken_good}
+use Rattle.line_rules.specs.Nonces.{NonceParts, nonce_in_head, nonce_parts, CounterRises, HasAnotherNonce, HasSender, AddressesDiffer}
+use Rattle.line_rules.specs.Laws.{SameFlight, KeepsFlights}
+use Rattle.line_laws.proofs.Worlds.{WorldOk}
 use Rattle.line_laws.proofs.AddressBook.{Grows}
 use Rattle.line_laws.proofs.AddressWorlds.{one_meter, above_nought, meter_address, coordinator_address, addresses_differ}
 use Rattle.line_laws.proofs.IssueWorlds.{Keyed}
-use Rattle.line_laws.proofs.IssueSteps.{step_keyed}
-use Rattle.line_laws.proofs.IssueRuns.{Kept, kept, all_of_one, start_keyed, EntryFlies}
-use Rattle.line_laws.proofs.Tellings.{step_is}
 use Rattle.line_laws.proofs.Homes.{at_length}
-use Rattle.line_laws.proofs.FlightFolds.{NewSenders, SendersIn, senders}
-use Rattle.line_laws.proofs.BookGrowth.{Goes, GoesBy, goes}
+use Rattle.line_laws.proofs.FlightFolds.{NewSenders}
 pub use Rattle.line_laws.specs.Keyed.{IsHome, AtHome}
 
 -- # Homes
@@ -123,65 +111,12 @@ module _ (v : World) (given : List Issued) (k : Keyed v given) (ok : WorldOk v) 
       by_key None = tt
       by_key (Some key) = by_parts (nonce_parts f) (nonce_parts g) rises hf hg
 
-  nonces_differ : All (AtHome k.book v) v.flights → AllPairs HasAnotherNonce v.flights
+  pub nonces_differ : All (AtHome k.book v) v.flights → AllPairs HasAnotherNonce v.flights
   nonces_differ homes i j d lt inside =
       another (get_or v.flights i d) (get_or v.flights j d) (ok.rising.pairs i j d lt inside) (ok.rising.homes i d (omega arith)) (ok.rising.homes j d inside) (homes i d (omega arith)) (homes j d inside)
 
-  nodes_apart : AddressesDiffer v
+  pub nodes_apart : AddressesDiffer v
   nodes_apart i j a hi hj =
       let x = some_node v i a hi in
       let y = some_node v j a hj in
       addresses_differ v given ok k i j x.node y.node a x.there y.there x.address y.address
-
--- # Runs
-
-module _ (ciphers : Ciphers) (fits : KeepsRanges ciphers) where
-  senders_at : (w : World) → WorldOk w → All FlightFits w.flights → (x : Entry) → IsEvent x.event → step ciphers w x.event ≡ Ok (x.after, x.trace) → NewSenders w x.after
-  senders_at w ok flown x says e = subst (SendersIn ciphers fits w ok flown) e (senders ciphers fits w ok flown x.event (step ciphers w x.event) (step_is ciphers w x.event says))
-
-  senders_from : (w : World) → WorldOk w → All FlightFits w.flights → (entries : List Entry) → AreEvents (events_of entries) → FlightsAreOctets entries → IsRun ciphers w entries → AreAddressed w entries
-  senders_from w ok flown [] says fly run = tt
-  senders_from w ok flown (x ∷ xs) says fly run =
-      let event = All-head IsEvent x.event (events_of xs) says in
-      let g = taken_good ciphers fits w ok flown x event run.2 in (
-        senders_at w ok flown x event run.2,
-        senders_from x.after g.0 (All-head EntryFlies x xs fly) xs (All-tail IsEvent x.event (events_of xs) says) (All-tail EntryFlies x xs fly) run.3,
-      )
-
-  apart_from : (w : World) → WorldOk w → All FlightFits w.flights → (before : List Entry) → Keyed w (issued before) → (entries : List Entry) → AreEvents (events_of entries) → FlightsAreOctets entries → IsRun ciphers w entries → AreApart entries
-  apart_from w ok flown before k [] says fly run = tt
-  apart_from w ok flown before k (x ∷ xs) says fly run = λ honest.
-      let event = All-head IsEvent x.event (events_of xs) says in
-      let g = taken_good ciphers fits w ok flown x event run.2 in
-      let next : Keyed x.after (issued before ++ x.trace.issued) = subst (Kept (issued before)) run.2 (kept w (issued before) _ (step_keyed ciphers fits w ok flown (issued before) k x.event event)) honest in
-      let k' : Keyed x.after (issued (before ++ x ∷ [])) = subst (Keyed x.after) (sym (all_of_one (λ d. d.issued) before x)) next in (
-        nodes_apart x.after (issued (before ++ x ∷ [])) k' g.0,
-        apart_from x.after g.0 (All-head EntryFlies x xs fly) (before ++ x ∷ []) k' xs (All-tail IsEvent x.event (events_of xs) says) (All-tail EntryFlies x xs fly) run.3,
-      )
-
-  nonces_from : (w : World) (ok : WorldOk w) → All FlightFits w.flights → (before : List Entry) (k : Keyed w (issued before)) → All (AtHome k.book w) w.flights → (entries : List Entry) → AreEvents (events_of entries) → FlightsAreOctets entries → IsRun ciphers w entries → NoncesDiffer entries
-  nonces_from w ok flown before k homes [] says fly run = tt
-  nonces_from w ok flown before k homes (x ∷ xs) says fly run = λ honest.
-      let event = All-head IsEvent x.event (events_of xs) says in
-      let g = taken_good ciphers fits w ok flown x event run.2 in
-      let next : Keyed x.after (issued before ++ x.trace.issued) = subst (Kept (issued before)) run.2 (kept w (issued before) _ (step_keyed ciphers fits w ok flown (issued before) k x.event event)) honest in
-      let k' : Keyed x.after (issued (before ++ x ∷ [])) = subst (Keyed x.after) (sym (all_of_one (λ d. d.issued) before x)) next in
-      let on : GoesOn w x.after = steps ciphers w x.after x.event x.trace run.2 in
-      let later : 0 < length w.nodes → Goes ciphers fits w ok flown (issued before) k x.after = subst (GoesBy ciphers fits w ok flown (issued before) k) run.2 (goes ciphers fits w ok flown (issued before) k x.event (step ciphers w x.event) (step_is ciphers w x.event event)) in
-      let book : 0 < length w.nodes → Grows k.book k'.book = λ some.
-      let nodes = on.nodes in
-      let c = at_length x.after.nodes 0 (omega arith) in
-      (later some).grows c.one c.is k'.book (k'.coordinator c.one c.is).book_kept in
-      let all = later_homes w x.after (issued before) (issued (before ++ x ∷ [])) k k' g.0 book (λ some. (later some).euis) on.flights ok.rising.homes homes (senders_at w ok flown x event run.2) in (
-        nonces_differ x.after (issued (before ++ x ∷ [])) k' g.0 all,
-        nonces_from x.after g.0 (All-head EntryFlies x xs fly) (before ++ x ∷ []) k' all xs (All-tail IsEvent x.event (events_of xs) says) (All-tail EntryFlies x xs fly) run.3,
-      )
-
-pub every_sender : EverySenderIsRight
-every_sender ciphers fits entries r fly = senders_from ciphers fits start start_ok (All-nil FlightFits) entries r.events fly r.run
-
-pub every_address : EveryAddressDiffers
-every_address ciphers fits entries r fly = apart_from ciphers fits start start_ok (All-nil FlightFits) [] start_keyed entries r.events fly r.run
-
-pub every_nonce : EveryNonceDiffers
-every_nonce ciphers fits entries r fly = nonces_from ciphers fits start start_ok (All-nil FlightFits) [] start_keyed (All-nil (AtHome start_keyed.book start)) entries r.events fly r.run

@@ -1,7 +1,7 @@
 -- Every event of a run of the network keeps that what nodes hold and what flies is octets.
 use Rattle.std.proofs.Common.{◌≡◌, ℕ, ◌+◌, ◌-◌, ◌<◌, ◌≤◌, Bool, true, false, List, [], ◌∷◌, Some, None, Result, Ok, Err, refl, sym, ap, ◌∙◌, subst, arith}
 use Rattle.std.specs.Prelude.{All, IfSome, ◌==◌, if◌then◌else◌, slice_get}
-use Rattle.std.proofs.lemmas.List.Elements.{All-nil, All-cons, All-head, All-tail, All-push, All-set, All-append, All-map, All-weaker}
+use Rattle.std.proofs.lemmas.List.Elements.{All-nil, All-push, All-set, All-append, All-map, All-weaker}
 use Rattle.std.proofs.lemmas.Option.{same_Some}
 use Rattle.plc_base.specs.Grant.{Granted}
 use Rattle.plc_base.specs.declared.key.Key.{Key}
@@ -29,12 +29,10 @@ use Rattle.node_rules.specs.Meters as meters
 use Rattle.node_rules.specs.NodeSteps.{NodeStep, acts, stays, answering, changing, of_station}
 use Rattle.node_rules.specs.Plans.{Plan}
 use Rattle.node_rules.specs.StoreReading.{first_grant}
-use Rattle.line_rules.specs.Events.{IsEvent, AreEvents}
+use Rattle.line_rules.specs.Events.{IsEvent}
 use Rattle.line_rules.specs.Forgery.{Comes, accepting}
-use Rattle.line_rules.specs.Runs.{Entry, IsRun, events_of}
 use Rattle.line_rules.specs.Worlds.{World, Flight, node_at, flight_at, start}
-use Rattle.line_rules.specs.Steps.{Step, step, set_up, ran, told, blank_node, ticked, flights_of, flight_by, acted, sending, sent_if, is_taken, tag_of, hears, offered_near, heard, note_by, identity, restarts, psk_of}
-use Rattle.line_laws.specs.Laws.{IsLineRun, EveryFlightIsOctets}
+use Rattle.line_rules.specs.Steps.{Step, set_up, ran, told, blank_node, ticked, flights_of, flight_by, acted, sending, sent_if, is_taken, tag_of, hears, offered_near, heard, note_by, identity, restarts, psk_of}
 use Rattle.line_laws.specs.Stores.{IsReadable, HasEui}
 use Rattle.line_laws.specs.Owed.{AreOctets}
 use Rattle.line_laws.proofs.Answered.{acts_answered}
@@ -48,9 +46,8 @@ use Rattle.line_laws.proofs.OctetCalls.{NodeSpeaks, DidSpeak, acts_speaks, answe
 use Rattle.line_laws.proofs.OctetDrafts.{MemorySpeaks, SentOctets, PlanSpeaks}
 use Rattle.line_laws.proofs.BookGrowth.{psk_meter}
 use Rattle.line_laws.proofs.Readings.{held, network_ranges}
-use Rattle.line_laws.proofs.Running.{start_ok, taken_good}
 use Rattle.line_laws.proofs.StoreMarks.{accept_is}
-use Rattle.line_laws.proofs.Tellings.{IsCall, Gives, Joins, Leaves, Sends, Breaks, Nears, Counts, Numbers, Accepts, Provisions, Depots, Allows, Rekeys, Turns, Challenges, Activates, Kicks, IsMade, OfCoordinator, OfMeter, preset_call, IsStep, Fails, Makes, Rests, Shows, Acts, BreaksLink, SendsFrom, AllowsMeter, Sets, SetsTwo, Provides, TurnsDown, Hears, Loses, Ticks, Restarts, Cuts, step_is}
+use Rattle.line_laws.proofs.Tellings.{IsCall, Gives, Joins, Leaves, Sends, Breaks, Nears, Counts, Numbers, Accepts, Provisions, Depots, Allows, Rekeys, Turns, Challenges, Activates, Kicks, IsMade, OfCoordinator, OfMeter, preset_call, IsStep, Fails, Makes, Rests, Shows, Acts, BreaksLink, SendsFrom, AllowsMeter, Sets, SetsTwo, Provides, TurnsDown, Hears, Loses, Ticks, Restarts, Cuts}
 use Rattle.line_laws.proofs.Worlds.{NodeFits, FlightFits, WorldOk, at_place}
 
 -- What the nodes of a line hold, and what flies, is octets.
@@ -228,26 +225,5 @@ module _ (w : World) (ok : WorldOk w) (s : WorldSpeaks w) where
 
 -- # Runs
 
--- what holds after each event
-abbrev pub EntrySpeaks : Entry → Type 0
-EntrySpeaks x = WorldOk x.after × WorldSpeaks x.after × (x.trace.happened.flights ≤ 24)
-
-speaks_from : (w : World) → WorldOk w → WorldSpeaks w → (entries : List Entry) → AreEvents (events_of entries) → IsRun network w entries → All EntrySpeaks entries
-speaks_from w ok s [] says run = All-nil EntrySpeaks
-speaks_from w ok s (x ∷ xs) says run =
-    let event = All-head IsEvent x.event (events_of xs) says in
-    let good = taken_good network network_ranges w ok s.flights x event run.2 in
-    let next : WorldSpeaks x.after = subst (SpeaksIn w ok s) run.2 (event_speaks w ok s x.event (step network w x.event) (step_is network w x.event event)) in
-    All-cons EntrySpeaks x xs (good.0, next, good.1) (speaks_from x.after good.0 next xs (All-tail IsEvent x.event (events_of xs) says) run.3)
-
 pub start_speaks : WorldSpeaks start
 start_speaks = record { nodes = All-nil NodeSpeaks; flights = All-nil FlightFits }
-
-pub every_entry : (entries : List Entry) → IsLineRun network entries → All EntrySpeaks entries
-every_entry entries r = speaks_from start start_ok start_speaks entries r.events r.run
-
-abbrev EntryFlies : Entry → Type 0
-EntryFlies x = All FlightFits x.after.flights
-
-pub every_flight : EveryFlightIsOctets
-every_flight entries r = All-weaker EntrySpeaks EntryFlies (λ x h. h.1.flights) entries (every_entry entries r)

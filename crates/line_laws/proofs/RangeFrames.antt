@@ -24,13 +24,7 @@ use Rattle.line_laws.proofs.NodeCalls.{no_some}
 use Rattle.line_laws.proofs.MadeIn.{unheard, MadeIn, Begins, Station, OnStation, Remembers, Tags, Enters, Up as UpIn, Down as DownIn}
 use Rattle.line_laws.proofs.StorePlans.{beside_station_of}
 use Rattle.line_laws.proofs.RangeFold.{InRange, made_ranged}
-pub use Rattle.line_laws.specs.Letters.{IsPlainFrame}
-
--- a sealed frame is a letter in its ranges
-abbrev pub IsSent : Sent → Type 0
-IsSent (Sealed l) = IsLetter l
-IsSent (Up agent from message) = ⊤
-IsSent (Down from message) = ⊤
+pub use Rattle.line_laws.specs.Letters.{IsPlainFrame, IsSent}
 
 plain_sent : (f : Sent) → IsPlainFrame f → IsSent f
 plain_sent (Sealed l) h = absurd h

@@ -72,7 +72,7 @@ pub use Rattle.line_laws.specs.Ranges.{WorldRanged}
 pub start_ranged : WorldRanged start
 start_ranged = record { nodes = All-nil NodeRanged; flights = All-nil (IsFlight network) }
 
-told_ranged : {A : Type 0} (u : World) (number : ℕ) (d : NodeStep A) → WorldRanged u → DidRanged d → WorldRanged (told network u number d)
+pub told_ranged : {A : Type 0} (u : World) (number : ℕ) (d : NodeStep A) → WorldRanged u → DidRanged d → WorldRanged (told network u number d)
 unfolding told
 told_ranged u number d r did = record {
   nodes = All-set NodeRanged u.nodes number d.node did.station r.nodes;
@@ -175,7 +175,7 @@ module _ (w : World) (ok : WorldOk w) (s : WorldSpeaks w) (r : WorldRanged w) wh
   short_at number x psk there m here = says_short x.eui psk (given_at number x there).eui.0 m (speaks_in x (good_at number x there) (speaks_at number x there) (given_at number x there).eui.0 m here)
 
   -- the grant of the workshop is read back
-  workshop_grants : (number : ℕ) (x c : Node) (psk : Key) (g : Granted) → node_at w number ≡ Some x → node_at w 0 ≡ Some c → psk_of x ≡ Some psk → (acts c (Err orders.Halted) (λ m. coordinator_rules.depot m x.eui psk)).answer ≡ Ok g → IsReadable g
+  pub workshop_grants : (number : ℕ) (x c : Node) (psk : Key) (g : Granted) → node_at w number ≡ Some x → node_at w 0 ≡ Some c → psk_of x ≡ Some psk → (acts c (Err orders.Halted) (λ m. coordinator_rules.depot m x.eui psk)).answer ≡ Ok g → IsReadable g
   workshop_grants number x c psk g hx hc pair is =
       let f = given_at number x hx in
       let a = acts_answered c orders.Halted orders.Store (λ m. coordinator_rules.depot m x.eui psk) (λ m. depot_failed network network_ranges (own_of c) m x.eui psk f.eui (f.psk psk (psk_meter x psk pair))) g is in
@@ -184,7 +184,7 @@ module _ (w : World) (ok : WorldOk w) (s : WorldSpeaks w) (r : WorldRanged w) wh
 
   -- # Calls
 
-  call_ranged : (number : ℕ) (x : Node) (A : Type 0) (halted : A) (plan : Memory → Plan Memory A) → node_at w number ≡ Some x → IsCall network w number x A halted plan → DidRanged (acts x halted plan)
+  pub call_ranged : (number : ℕ) (x : Node) (A : Type 0) (halted : A) (plan : Memory → Plan Memory A) → node_at w number ≡ Some x → IsCall network w number x A halted plan → DidRanged (acts x halted plan)
   call_ranged number x A halts plan there (Gives value are) = acts_ranged x _ _ (ranged_at number x there) (λ m here h. random_ranged m h value)
   call_ranged number x A halts plan there (Joins psk a ne pair other) = acts_ranged x _ _ (ranged_at number x there)
       (λ m here h. join_ranged m h (sized_in x (good_at number x there) (speaks_at number x there) (given_at number x there).eui.0 m here) network network_ranges x.eui psk (short_at number x psk there m here) a w.clock)
@@ -244,7 +244,7 @@ module _ (w : World) (ok : WorldOk w) (s : WorldSpeaks w) (r : WorldRanged w) wh
     joins note = joins_well y did.node left.node eight got cost note w.clock routes.payload
 
     module _ (honest : forged_by w octets got.path ≡ false) where
-      heard_did : DidRanged (hears network y got cost (note_by w octets got.path) w.clock)
+      pub heard_did : DidRanged (hears network y got cost (note_by w octets got.path) w.clock)
       heard_did = heard_frames network network_opens_again w r.flights number x octets cost got is honest (ranged_at number x there) (joins (note_by w octets got.path))
 
       meter_read : (psk : Key) (m : Memory) → y.role ≡ Meter psk → y.memory ≡ Some m → Reads network (meters.hear_meter (identity network y psk) m got cost (note_by w octets got.path) w.clock)

@@ -28,7 +28,8 @@ use Rattle.std.proofs.lemmas.List.Elements.{All-map, All-weaker}
 use Rattle.std.specs.Prelude.{All, ◌==◌}
 use Rattle.routing_set.specs.Histories.{IsRouting}
 use Rattle.line_laws.proofs.RankAccount.{Account, account_same, account_trans, offered_account, ended_account}
-use Rattle.line_laws.proofs.RankWrites.{HasNumber, RankKept, AreAway, away_leads, offered_leads}
+use Rattle.line_laws.specs.Stores.{HasShortRank}
+use Rattle.line_laws.proofs.RankWrites.{RankKept, AreAway, away_leads, offered_leads}
 
 -- # Writes beside ranks
 
@@ -133,10 +134,10 @@ module _ (At Own : ℕ → Type 0) (C : ℕ → ℕ → Rank → Type 0) (W : Ri
     pub leads : Leads (RankKept Own C first) t more s
 
   module _ (first : routing.Routing) where
-    number_range : (test : RoutingEntry → Bool) (t : routing.Routing) → IsRanged t → All HasNumber (routing.ended test t).entries
-    number_range test t x = All-map HasNumber (λ e. if test e then routing.without_route e else e) t.entries (All-weaker HasNumber (λ e. HasNumber (if test e then routing.without_route e else e)) (λ e h. same (test e) e h) t.entries x.ranks)
+    number_range : (test : RoutingEntry → Bool) (t : routing.Routing) → IsRanged t → All HasShortRank (routing.ended test t).entries
+    number_range test t x = All-map HasShortRank (λ e. if test e then routing.without_route e else e) t.entries (All-weaker HasShortRank (λ e. HasShortRank (if test e then routing.without_route e else e)) (λ e h. same (test e) e h) t.entries x.ranks)
       where
-        same : (b : Bool) (e : RoutingEntry) → HasNumber e → HasNumber (if b then routing.without_route e else e)
+        same : (b : Bool) (e : RoutingEntry) → HasShortRank e → HasShortRank (if b then routing.without_route e else e)
         same true e h = h
         same false e h = h
 

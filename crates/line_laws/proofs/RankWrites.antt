@@ -17,13 +17,11 @@ use Rattle.routing_set.specs.RoutingSet as routing
 use Rattle.routing_set.proofs.Entries.{entry_in-octets_of}
 use Rattle.routing_set.proofs.FloorRecords.{floors_in-insert}
 use Rattle.routing_set.proofs.Offers.{entered_held, writes_held, entered_new, writes_new, entered_first, writes_first, after_gone, gone_among, place_there, one_goes, room_old, half_first}
+use Rattle.line_laws.specs.Stores.{HasShortRank}
 use Rattle.line_laws.proofs.Keeping.{Leads, leads_beside, leads_one, leads_append, leads_when}
 use Rattle.line_laws.proofs.Slots.{put_outside, routing_stays}
 use Rattle.line_laws.proofs.StoreRanks.{EntryFits, IsRanged}
 use Rattle.line_laws.proofs.RankAccount.{Account, account_trans, offered_account, half_account}
-
-abbrev pub HasNumber : RoutingEntry → Type 0
-HasNumber e = e.rank.number < 2 ^ 16
 
 -- These ranks are what the records give, and have the account since the first ones.
 pub record RankKept (Own : ℕ → Type 0) (C : ℕ → ℕ → Rank → Type 0) (first now : routing.Routing) (r : Records) : Type 0 where
@@ -89,7 +87,7 @@ module _ (Own : ℕ → Type 0) (C : ℕ → ℕ → Rank → Type 0) (first : r
   })
 
   -- the floors before it
-  raised_range : (floors : List ℕ) (gone : RoutingEntry) → ((class : ℕ) → get_or floors class 0 < 2 ^ 16) → HasNumber gone → length floors ≡ 16
+  raised_range : (floors : List ℕ) (gone : RoutingEntry) → ((class : ℕ) → get_or floors class 0 < 2 ^ 16) → HasShortRank gone → length floors ≡ 16
       → (class : ℕ) → get_or (routing.raised floors gone) class 0 < 2 ^ 16
   raised_range floors gone fits number long class = by_rise (routing.raises floors gone)
     where
@@ -97,7 +95,7 @@ module _ (Own : ℕ → Type 0) (C : ℕ → ℕ → Rank → Type 0) (first : r
       by_rise false = fits class
       by_rise true =
           let within : routing.class_of gone.address < length floors = omega arith in
-          ⊎_elim (λ (here : class ≡ routing.class_of gone.address). rw (here, get_or-set_same floors (routing.class_of gone.address) gone.rank.number 0 within) number)
+          ⊎_elim (λ (here : class ≡ routing.class_of gone.address). rw (here, get_or-set_same floors (routing.class_of gone.address) gone.rank.number 0 within) number.0)
           (λ (other : class ≢ routing.class_of gone.address). rw (get_or-set_other floors (routing.class_of gone.address) class gone.rank.number 0 other) (fits class)) (cases_eq class (routing.class_of gone.address))
 
   half_leads : (t : routing.Routing) (gone : RoutingEntry) → ((r : Records) → Q t r → Account Own C first (record t { floors = routing.raised t.floors gone })) → IsRanged (record t { floors = routing.raised t.floors gone })
@@ -136,7 +134,7 @@ module _ (Own : ℕ → Type 0) (C : ℕ → ℕ → Rank → Type 0) (first : r
         rw (writes_held t e now place at, is) (leads_when Q t _ _ (λ r q. place_leads t e place there.0 f (to _ is) (record {
           sound = (to _ is r q).sound;
           floors = x.floors;
-          ranks = All-set HasNumber t.entries place e f.number x.ranks;
+          ranks = All-set HasShortRank t.entries place e (f.number, f.cost) x.ranks;
         })))
 
     at_end : routing.place_of t.entries e.address ≡ None → (length t.entries == 64) ≡ false → Goal
@@ -145,12 +143,12 @@ module _ (Own : ℕ → Type 0) (C : ℕ → ℕ → Rank → Type 0) (first : r
         rw (writes_new t e now at short, is) (leads_when Q t _ _ (λ r q. push_leads t e f (to _ is) (record {
           sound = (to _ is r q).sound;
           floors = x.floors;
-          ranks = All-push HasNumber t.entries e x.ranks f.number;
+          ranks = All-push HasShortRank t.entries e x.ranks (f.number, f.cost);
         })))
 
-    among_number : (entries : List RoutingEntry) (gone : RoutingEntry) (place : ℕ) → slice_get entries place ≡ Some gone → All HasNumber entries → HasNumber gone
+    among_number : (entries : List RoutingEntry) (gone : RoutingEntry) (place : ℕ) → slice_get entries place ≡ Some gone → All HasShortRank entries → HasShortRank gone
     among_number [] gone place e all = absurd (cc)
-    among_number (y ∷ ys) gone zero e all = let is : y ≡ gone = cc in subst HasNumber is (all 0 y (omega arith))
+    among_number (y ∷ ys) gone zero e all = let is : y ≡ gone = cc in subst HasShortRank is (all 0 y (omega arith))
     among_number (y ∷ ys) gone (suc place) e all = among_number ys gone place e (λ k d lt. all (suc k) d (omega arith))
 
     writes_gone : (gone : RoutingEntry) (place : ℕ) → routing.place_of t.entries gone.address ≡ Some place
@@ -175,7 +173,7 @@ module _ (Own : ℕ → Type 0) (C : ℕ → ℕ → Rank → Type 0) (first : r
         let half = subst (Account Own C first) half_is (between r q) in
         leads_append Q t (record t { floors = routing.raised t.floors gone }) _ _ _
         (half_leads t gone (λ s p. half) (record { sound = half.sound; floors = low; ranks = x.ranks }))
-        (place_leads (record t { floors = routing.raised t.floors gone }) e place within.0 f (λ s p. after) (record { sound = after.sound; floors = low; ranks = All-set HasNumber t.entries place e f.number x.ranks }))))
+        (place_leads (record t { floors = routing.raised t.floors gone }) e place within.0 f (λ s p. after) (record { sound = after.sound; floors = low; ranks = All-set HasShortRank t.entries place e (f.number, f.cost) x.ranks }))))
 
     entry_leads : Goal
     entry_leads = by_place (routing.place_of t.entries e.address) refl

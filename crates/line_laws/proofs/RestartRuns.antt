@@ -1,33 +1,21 @@
 -- After every restart its node has no valid route.
-use Rattle.std.proofs.Common.{◌≡◌, ℕ, Bool, true, false, List, [], ◌∷◌, Option, Some, None, Ok, Err, refl, sym, ◌∙◌, subst}
-use Rattle.std.specs.Prelude.{All, if◌then◌else◌}
+use Rattle.std.proofs.Common.{◌≡◌, ℕ, Bool, true, false, [], ◌∷◌, Option, Some, None, Ok, Err, refl, sym, ◌∙◌, subst}
+use Rattle.std.specs.Prelude.{if◌then◌else◌}
 use Rattle.std.specs.Option.{option_map_or}
-use Rattle.std.proofs.lemmas.List.Elements.{All-nil, All-cons, All-head, All-tail}
 use Rattle.std.proofs.lemmas.Option.{same_Some}
 use Rattle.routing_set.specs.declared.rank.Rank.{Rank}
-use Rattle.node_rules.specs.Ciphers.{Ciphers, network}
+use Rattle.node_rules.specs.Ciphers.{Ciphers}
 use Rattle.node_rules.specs.Memory.{Node, node_route}
-use Rattle.line_rules.specs.Events.{IsEvent, AreEvents}
-use Rattle.line_rules.specs.Runs.{Entry, IsRun, events_of}
-use Rattle.line_rules.specs.Steps.{Step, acted, has_begun, ran, restart, restarts, step}
-use Rattle.line_rules.specs.Worlds.{World, node_at, start}
-use Rattle.line_rules.specs.declared.event.Event.{Event}
-use Rattle.line_rules.specs.declared.event.Event.TheVariants as events
+use Rattle.line_rules.specs.Steps.{Step, acted, has_begun, ran, restart, restarts}
+use Rattle.line_rules.specs.Worlds.{World, node_at}
 use Rattle.line_rules.specs.declared.event.StepFault.TheVariants as faults
-use Rattle.line_laws.specs.Laws.{FlightsAreOctets}
-use Rattle.line_laws.specs.Lines.{FlightFits, NodeOk, WorldOk}
-use Rattle.line_laws.specs.Loops.{EveryRestartEndsRoutes, RestartsEndRoutes}
-use Rattle.line_laws.specs.Owed.{KeepsRanges}
-use Rattle.line_laws.proofs.IssueRuns.{EntryFlies}
+use Rattle.line_laws.specs.Lines.{NodeOk, WorldOk}
 use Rattle.line_laws.proofs.IssueWorlds.{told_here}
 use Rattle.line_laws.proofs.LoopFree.{route_via}
-use Rattle.line_laws.proofs.OctetRuns.{every_flight}
-use Rattle.line_laws.proofs.Readings.{network_ranges}
 use Rattle.line_laws.proofs.RouteNodes.{restarted_none}
-use Rattle.line_laws.proofs.Running.{start_ok, taken_good}
 use Rattle.line_laws.proofs.Worlds.{at_place}
 
-no_routes : (x : Node) → NodeOk x → (dest : ℕ) → node_route (restarts x).node dest ≡ None
+pub no_routes : (x : Node) → NodeOk x → (dest : ℕ) → node_route (restarts x).node dest ≡ None
 no_routes x ok dest = by_route (node_route (restarts x).node dest) refl
   where
     by_route : (o : Option ℕ) → node_route (restarts x).node dest ≡ o → o ≡ None
@@ -49,19 +37,3 @@ module _ (ciphers : Ciphers) (w : World) (ok : WorldOk w) where
       by_begun true (Some x) e = λ y is dest.
           let same : (restarts x).node ≡ y = same_Some _ _ (sym (told_here ciphers (ran w) number x (restarts x) e) ∙ is) in
           subst (λ (z : Node). node_route z dest ≡ None) same (no_routes x (at_place NodeOk w.nodes number x e ok.nodes) dest)
-
-  event_ends : (event : Event) (number : ℕ) → event ≡ events.Restart number → Ended number (step ciphers w event)
-  event_ends event number is = subst (λ (e : Event). Ended number (step ciphers w e)) (sym is) (restart_ends number)
-
-abbrev EntryEnds : Entry → Type 0
-EntryEnds x = (number : ℕ) (y : Node) → x.event ≡ events.Restart number → node_at x.after number ≡ Some y → (dest : ℕ) → node_route y dest ≡ None
-
-ends_from : (ciphers : Ciphers) → KeepsRanges ciphers → (w : World) → WorldOk w → All FlightFits w.flights → (entries : List Entry) → AreEvents (events_of entries) → FlightsAreOctets entries → IsRun ciphers w entries → RestartsEndRoutes entries
-ends_from ciphers fits w ok flown [] says fly run = All-nil EntryEnds
-ends_from ciphers fits w ok flown (x ∷ xs) says fly run =
-    let g = taken_good ciphers fits w ok flown x (All-head IsEvent x.event (events_of xs) says) run.2 in
-    All-cons EntryEnds x xs (λ number y is there. subst (Ended ciphers w ok number) run.2 (event_ends ciphers w ok x.event number is) y there)
-    (ends_from ciphers fits x.after g.0 (All-head EntryFlies x xs fly) xs (All-tail IsEvent x.event (events_of xs) says) (All-tail EntryFlies x xs fly) run.3)
-
-pub every_restart_ends : EveryRestartEndsRoutes
-every_restart_ends entries r = ends_from network network_ranges start start_ok (All-nil FlightFits) entries r.events (every_flight entries r) r.run

@@ -9,12 +9,12 @@ use Rattle.line_laws.specs.Issued.{IsIssuedAfter}
 use Rattle.line_laws.specs.Loops.{AreLoopFree}
 use Rattle.line_laws.specs.Network.{EveryRunIsSafe}
 use Rattle.line_laws.specs.Ups.{UpsAreSentAfter}
-use Rattle.line_laws.proofs.IssueRuns.{only_issued}
-use Rattle.line_laws.proofs.LoopRuns.{every_run as loop_free}
-use Rattle.line_laws.proofs.OctetRuns.{every_flight}
+use Rattle.line_laws.proofs.KeyedRuns.{only_issued}
+use Rattle.line_laws.proofs.FurtherLoops.{every_run as loop_free}
+use Rattle.line_laws.proofs.FurtherOctets.{every_flight}
 use Rattle.line_laws.proofs.Readings.{network_ranges}
-use Rattle.line_laws.proofs.NetworkSizes.{every_size}
-use Rattle.line_laws.proofs.UpsSent.{every_up}
+use Rattle.line_laws.proofs.FurtherRestarts.{every_size}
+use Rattle.line_laws.proofs.FurtherUps.{every_up}
 
 abbrev EntrySized : Entry → Type 0
 EntrySized x = IsSized x.after × (x.trace.happened.flights ≤ 24)

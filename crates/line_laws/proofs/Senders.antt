@@ -28,7 +28,7 @@ abbrev pub AreFrom : Option ℕ → List Sent → Type 0
 AreFrom address [] = Unit {0}
 AreFrom address (f ∷ fs) = IsFrom address f × AreFrom address fs
 
-from_append : (address : Option ℕ) (fs gs : List Sent) → AreFrom address fs → AreFrom address gs → AreFrom address (fs ++ gs)
+pub from_append : (address : Option ℕ) (fs gs : List Sent) → AreFrom address fs → AreFrom address gs → AreFrom address (fs ++ gs)
 from_append address [] gs h k = k
 from_append address (f ∷ fs) gs h k = (h.0, from_append address fs gs h.1 k)
 

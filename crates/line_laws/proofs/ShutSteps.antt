@@ -16,6 +16,7 @@ use Rattle.line_rules.specs.Worlds.{World, Trace, node_at}
 use Rattle.line_rules.specs.declared.event.Answer.{Answer}
 use Rattle.line_rules.specs.declared.event.Answer.TheVariants as said
 use Rattle.line_rules.specs.declared.event.Event.{Event}
+use Rattle.line_rules.specs.declared.event.Event.TheVariants as events
 use Rattle.line_rules.specs.declared.event.StepFault.{StepFault}
 use Rattle.line_rules.specs.declared.event.StepFault.TheVariants as faults
 use Rattle.node_rules.specs.Accepting.{accept}
@@ -185,7 +186,7 @@ module _ (eui : Eui) where
 
     module _ (meter : ℕ) (z : Node) (there : node_at w meter ≡ Some z) (named : z.eui ≡ eui)
         (apart : ((i j : ℕ) (x y : Node) → node_at w i ≡ Some x → node_at w j ≡ Some y → books.eui_number x.eui ≡ books.eui_number y.eui → i ≡ j)) where
-      stays_shut : (event : Event) (s : Step) → IsStep ciphers w event s → s ≡ step ciphers w event → is_allow_of meter event ≡ false → w.running ≡ true → 0 < length w.nodes → ShutBy s
+      stays_shut : (event : Event) (s : Step) → IsStep ciphers w event s → ((n : ℕ) → event ≡ events.Allow n → s ≡ step ciphers w event) → is_allow_of meter event ≡ false → w.running ≡ true → 0 < length w.nodes → ShutBy s
       stays_shut event s (Fails e fault) e_is other running some = tt
       stays_shut event s (Makes e x is) e_is other running some = λ c there. shut c (sym (slice_get-push_other w.nodes 0 x (λ (z : 0 ≡ length w.nodes). omega arith)) ∙ there)
       stays_shut event s (Rests e quiet) e_is other running some = same_shut w (ran w) refl shut
@@ -199,7 +200,7 @@ module _ (eui : Eui) where
           let plan : Memory → Plan Memory (Result SentHow SendRefusal) = λ m. of_station m (calls.send m.station a datagram (w.sends + 1) w.clock) in
           let d = answering sent_word (acts x (Err sends.Halted) plan) in
           told_shut (ran w) (sending ciphers w from to datagram (tag_of x) d).0 from x d (same_shut w (ran w) refl shut) (sent_nodes from to datagram (tag_of x) d ∙ told_nodes (ran w) from d) there (quiet_shut from x (Err sends.Halted) plan there (λ m sized. send_quietly m sized a datagram (w.sends + 1) w.clock))
-      stays_shut event s (AllowsMeter number y c psk hc call hy) e_is other running some = subst ShutBy (sym e_is) (allows_shut number meter z (eqb-false _ _ other) there named apart)
+      stays_shut event s (AllowsMeter number y c psk hc call hy) e_is other running some = subst ShutBy (sym (e_is number refl)) (allows_shut number meter z (eqb-false _ _ other) there named apart)
       stays_shut event s (Sets e quiet number x plan there open_is is) e_is other running some = absurd (over running open_is)
       stays_shut event s (SetsTwo e quiet a b cost x y p q hx hy apart open_is first second fresh near) e_is other running some = absurd (over running open_is)
       stays_shut event s (Provides number x c psk g d ne open_is hx hc pair same is) e_is other running some = absurd (over running open_is)
@@ -223,7 +224,14 @@ module _ (eui : Eui) where
         → ((i j : ℕ) (x y : Node) → node_at w i ≡ Some x → node_at w j ≡ Some y → books.eui_number x.eui ≡ books.eui_number y.eui → i ≡ j) → ShutBy (step ciphers w event)
     event_shut event number z says e running there named apart =
         let inside = place_within w.nodes number z there in
-        stays_shut number z there named apart event (step ciphers w event) (step_is ciphers w event says) refl e running (omega arith)
+        stays_shut number z there named apart event (step ciphers w event) (step_is ciphers w event says) (λ n q. refl) e running (omega arith)
+
+    -- every event of another kind, by how it is made
+    pub other_shut : (event : Event) (r : World × Trace) → IsStep ciphers w event (Ok r) → (number : ℕ) (z : Node) → ((n : ℕ) → event ≡ events.Allow n → ⊥) → is_allow_of number event ≡ false → w.running ≡ true → node_at w number ≡ Some z → z.eui ≡ eui
+        → ((i j : ℕ) (x y : Node) → node_at w i ≡ Some x → node_at w j ≡ Some y → books.eui_number x.eui ≡ books.eui_number y.eui → i ≡ j) → ShutAt eui r.0
+    other_shut event r is number z other e running there named apart =
+        let inside = place_within w.nodes number z there in
+        stays_shut number z there named apart event (Ok r) is (λ n q. absurd (other n q)) e running (omega arith)
 
 -- # The kick
 

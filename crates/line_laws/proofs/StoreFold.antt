@@ -14,7 +14,7 @@ use Rattle.routing_set.proofs.Histories.{ended_sound}
 use Rattle.routing_set.specs.declared.entry.RoutingEntry.{RoutingEntry}
 use Rattle.std.proofs.lemmas.List.Elements.{All-map, All-weaker}
 use Rattle.line_laws.specs.Sizes.{IsAnyLoad}
-use Rattle.line_laws.specs.Stores.{IsHeld, IsReadable, IsStationKept}
+use Rattle.line_laws.specs.Stores.{HasShortRank, IsHeld, IsReadable, IsStationKept}
 use Rattle.line_laws.proofs.Keeping.{Leads, leads_beside, leads_append}
 use Rattle.line_laws.proofs.Beside.{Lasts, With, low_one}
 use Rattle.line_laws.proofs.StoreWords.{ring_kept, number_leads, tag_leads}
@@ -91,7 +91,7 @@ ended_kept l r test k = record {
     tag = k.range.tag;
     routing = ended_sound test l.routing k.range.routing;
     floors = k.range.floors;
-    ranks = All-map HasNumber (λ e. if test e then routing.without_route e else e) l.routing.entries (All-weaker HasNumber (λ e. HasNumber (if test e then routing.without_route e else e)) (λ e h. same (test e) e h) l.routing.entries k.range.ranks);
+    ranks = All-map HasShortRank (λ e. if test e then routing.without_route e else e) l.routing.entries (All-weaker HasShortRank (λ e. HasShortRank (if test e then routing.without_route e else e)) (λ e h. same (test e) e h) l.routing.entries k.range.ranks);
     marks = k.range.marks;
   };
   ring = k.ring;
@@ -102,10 +102,7 @@ ended_kept l r test k = record {
   marks = k.marks;
 }
   where
-    HasNumber : RoutingEntry → Type 0
-    HasNumber e = e.rank.number < 2 ^ 16
-
-    same : (b : Bool) (e : RoutingEntry) → HasNumber e → HasNumber (if b then routing.without_route e else e)
+    same : (b : Bool) (e : RoutingEntry) → HasShortRank e → HasShortRank (if b then routing.without_route e else e)
     same true e h = h
     same false e h = h
 

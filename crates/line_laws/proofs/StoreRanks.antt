@@ -20,7 +20,7 @@ use Rattle.routing_set.proofs.FloorRecords.{floors_in-insert}
 use Rattle.routing_set.proofs.Offers.{entered_held, writes_held, entered_new, writes_new, entered_first, writes_first, after_gone, gone_among, place_there, one_goes, room_old}
 use Rattle.routing_set.proofs.Rising.{entered_sound}
 use Rattle.node_rules.specs.Memory.{StationMemory}
-use Rattle.line_laws.specs.Stores.{IsStationKept}
+use Rattle.line_laws.specs.Stores.{HasShortRank, IsStationKept}
 use Rattle.line_laws.proofs.Keeping.{Leads, leads_append}
 use Rattle.line_laws.proofs.Beside.{Lasts, With, low_one, low_beside, low_when}
 use Rattle.line_laws.proofs.Slots.{put_outside, ring_stays, counter_stays, number_stays, tag_stays, marks_stay}
@@ -32,14 +32,11 @@ pub record EntryFits (e : RoutingEntry) : Type 0 where
   pub number : e.rank.number < 2 ^ 16
   pub cost : e.rank.cost < 2 ^ 16
 
-abbrev HasNumber : RoutingEntry → Type 0
-HasNumber e = e.rank.number < 2 ^ 16
-
 -- What is in range of ranks and floors.
 pub record IsRanged (t : routing.Routing) : Type 0 where
   pub sound : IsRouting t
   pub floors : (class : ℕ) → get_or t.floors class 0 < 2 ^ 16
-  pub ranks : All HasNumber t.entries
+  pub ranks : All HasShortRank t.entries
 
 -- the others stay
 routing_kept : (l : StationMemory) (r : Records) (slot : ℕ) (octets : List ℕ) (t : routing.Routing) → IsStationKept l r → 4 < slot → (slot < 0x0100) ⊎ (0x0140 ≤ slot) → IsRanged t
@@ -81,7 +78,7 @@ push_leads B lasts l e f x = low_one B lasts l _ _ (let short = x.sound.entries.
     }))
 
 -- the floors before it
-raised_range : (floors : List ℕ) (gone : RoutingEntry) → ((class : ℕ) → get_or floors class 0 < 2 ^ 16) → HasNumber gone → length floors ≡ 16
+raised_range : (floors : List ℕ) (gone : RoutingEntry) → ((class : ℕ) → get_or floors class 0 < 2 ^ 16) → HasShortRank gone → length floors ≡ 16
     → (class : ℕ) → get_or (routing.raised floors gone) class 0 < 2 ^ 16
 raised_range floors gone fits number long class = by_rise (routing.raises floors gone)
   where
@@ -89,7 +86,7 @@ raised_range floors gone fits number long class = by_rise (routing.raises floors
     by_rise false = fits class
     by_rise true =
         let within : routing.class_of gone.address < length floors = omega arith in
-        ⊎_elim (λ (here : class ≡ routing.class_of gone.address). rw (here, get_or-set_same floors (routing.class_of gone.address) gone.rank.number 0 within) number)
+        ⊎_elim (λ (here : class ≡ routing.class_of gone.address). rw (here, get_or-set_same floors (routing.class_of gone.address) gone.rank.number 0 within) number.0)
         (λ (other : class ≢ routing.class_of gone.address). rw (get_or-set_other floors (routing.class_of gone.address) class gone.rank.number 0 other) (fits class)) (cases_eq class (routing.class_of gone.address))
 
 half_leads : (B : Records → Type 0) (lasts : Lasts B) (l : StationMemory) (gone : RoutingEntry) → IsRanged (record l.routing { floors = routing.raised l.routing.floors gone })
@@ -124,7 +121,7 @@ held_leads B lasts l e now place f x room at =
     let after : IsRanged (record l.routing { entries = set l.routing.entries place e }) = record {
       sound = sound_by l.routing _ e now x.sound room is;
       floors = x.floors;
-      ranks = All-set HasNumber l.routing.entries place e f.number x.ranks;
+      ranks = All-set HasShortRank l.routing.entries place e (f.number, f.cost) x.ranks;
     } in
     let short = x.sound.entries.short in
     rw (writes_held l.routing e now place at, is) (place_leads B lasts l e place there.0 (omega arith) f after)
@@ -136,7 +133,7 @@ new_leads B lasts l e now f x room at short =
     let after : IsRanged (record l.routing { entries = l.routing.entries ++ e ∷ [] }) = record {
       sound = sound_by l.routing _ e now x.sound room is;
       floors = x.floors;
-      ranks = All-push HasNumber l.routing.entries e x.ranks f.number;
+      ranks = All-push HasShortRank l.routing.entries e x.ranks (f.number, f.cost);
     } in
     rw (writes_new l.routing e now at short, is) (push_leads B lasts l e f after)
 
@@ -145,12 +142,12 @@ writes_gone : (r : routing.Routing) (gone e : RoutingEntry) (place : ℕ) → ro
 writes_gone r gone e place at =
     ap (λ (o : Option ℕ). puts_of (routing.floors_due r.floors (Some gone)) ++ slots.entry_write routing.ranks (unwrap_or o (length r.entries)) e ∷ []) at
 
-among_number : (entries : List RoutingEntry) (gone : RoutingEntry) → Among entries gone → All HasNumber entries → HasNumber gone
+among_number : (entries : List RoutingEntry) (gone : RoutingEntry) → Among entries gone → All HasShortRank entries → HasShortRank gone
 among_number entries gone a all = at_place entries a.place a.there all
   where
-    at_place : (xs : List RoutingEntry) (place : ℕ) → slice_get xs place ≡ Some gone → All HasNumber xs → HasNumber gone
+    at_place : (xs : List RoutingEntry) (place : ℕ) → slice_get xs place ≡ Some gone → All HasShortRank xs → HasShortRank gone
     at_place [] place e all = absurd (cc)
-    at_place (x ∷ xs) zero e all = let is : x ≡ gone = cc in subst HasNumber is (all 0 x (omega arith))
+    at_place (x ∷ xs) zero e all = let is : x ≡ gone = cc in subst HasShortRank is (all 0 x (omega arith))
     at_place (x ∷ xs) (suc place) e all = at_place xs place e (λ k d lt. all (suc k) d (omega arith))
 
 gone_leads : (B : Records → Type 0) (lasts : Lasts B) (l : StationMemory) (e gone : RoutingEntry) (now place : ℕ) → EntryFits e → IsRanged l.routing → routing.is_full l.routing e.address now ≡ false → routing.place_of l.routing.entries e.address ≡ None
@@ -174,7 +171,7 @@ gone_leads B lasts l e gone now place f x room at whole first there =
     let after : IsRanged (record { entries = set t.entries place e; floors = routing.raised t.floors gone }) = record {
       sound = sound;
       floors = low;
-      ranks = All-set HasNumber t.entries place e f.number x.ranks;
+      ranks = All-set HasShortRank t.entries place e (f.number, f.cost) x.ranks;
     } in
     let short = x.sound.entries.short in
     rw (puts, is) (leads_append (With B) l (record l { routing = record t { floors = routing.raised t.floors gone } }) _ _ _ (half_leads B lasts l gone half)

@@ -1,11 +1,11 @@
 -- The tags of one node's datagrams that are cut into pieces rise over a run.
-use Rattle.std.proofs.Common.{◌≡◌, ◌≢◌, ◌⊎◌, inl, inr, ⊎_elim, ℕ, zero, suc, ◌+◌, ◌-◌, ◌≤◌, ◌<◌, Bool, true, false, List, [], ◌∷◌, ◌++◌, length, map, get_or, Option, Some, None, Result, Ok, Err, refl, sym, ap, ◌∙◌, subst, append-nil, append_assoc, arith}
-use Rattle.std.specs.Prelude.{⊤, All, AllPairs, if◌then◌else◌, is_some, nat_le, nat_lt, slice_get, slice_set}
+use Rattle.std.proofs.Common.{◌≡◌, ◌≢◌, ◌⊎◌, inl, inr, ⊎_elim, ℕ, zero, suc, ◌+◌, ◌-◌, ◌≤◌, ◌<◌, Bool, true, false, List, [], ◌∷◌, ◌++◌, length, map, get_or, Option, Some, None, Result, Ok, Err, refl, sym, ap, ◌∙◌, subst, append-nil, arith}
+use Rattle.std.specs.Prelude.{⊤, All, if◌then◌else◌, is_some, nat_le, nat_lt, slice_get, slice_set}
 use Rattle.std.specs.FinMap.{get, insert}
 use Rattle.std.specs.Option.{option_map_or}
 use Rattle.std.proofs.lemmas.Bool.{cases_eq, ltb-true}
 use Rattle.std.proofs.lemmas.List.{length-set, length-map, length-append}
-use Rattle.std.proofs.lemmas.List.Elements.{All-nil, All-head, All-tail, All-push, All-weaker}
+use Rattle.std.proofs.lemmas.List.Elements.{All-nil, All-push, All-weaker}
 use Rattle.std.proofs.lemmas.List.Quantifiers.{all_pairs_push}
 use Rattle.std.proofs.lemmas.Option.{same_Some}
 use Rattle.plc_base.specs.declared.address.Eui.{Eui}
@@ -43,36 +43,31 @@ use Rattle.node_rules.specs.NodeSteps.{NodeStep, acts, stays, left_by, of_statio
 use Rattle.node_rules.specs.Plans.{Plan, carry_out, resting}
 use Rattle.node_rules.specs.StoreReading.{blank_station, first_grant, remembering, tag_in}
 use Rattle.line_rules.specs.Answers.{Reception, sent_word, meter_reception, coordinator_reception}
-use Rattle.line_rules.specs.Events.{IsEvent, AreEvents}
 use Rattle.line_rules.specs.Forgery.{accepting}
-use Rattle.line_rules.specs.Runs.{Entry, IsRun, one_of, sends as sends_of, events_of}
+use Rattle.line_rules.specs.Runs.{one_of}
 use Rattle.line_rules.specs.Steps.{Step, set_up, ran, told, made_node, blank_node, ticked, acted, sending, sent_if, is_taken, tag_of, hears, heard, offered_near, identity, note_by, restarts}
 use Rattle.line_rules.specs.Worlds.{World, Sending, node_at, start}
-use Rattle.line_laws.specs.Laws.{FlightsAreOctets}
 use Rattle.line_laws.specs.Owed.{KeepsRanges}
-use Rattle.line_laws.specs.Tags.{TagRises, EveryTagRises}
+use Rattle.line_laws.specs.Tags.{TagRises}
 use Rattle.line_laws.proofs.CallForms.{send_is}
 use Rattle.line_laws.proofs.CustodyEvents.{word_refused, word_taken}
 use Rattle.line_laws.proofs.IssueWorlds.{told_here}
 use Rattle.line_laws.proofs.Made.{RingWord}
 use Rattle.line_laws.proofs.Planned.{planned_failed}
-use Rattle.line_laws.proofs.IssueRuns.{all_of_one, EntryFlies}
 use Rattle.line_laws.proofs.IssueWords.{Each}
-use Rattle.line_laws.proofs.LawRuns.{event_right}
 use Rattle.line_laws.proofs.NodeCalls.{call_given, send_ok}
 use Rattle.line_laws.proofs.Nodes.{NodeOk, acts_ok, node_kept}
-use Rattle.line_laws.proofs.Running.{start_ok, taken_good}
 use Rattle.line_laws.proofs.StepsOk.{blank_ok}
 use Rattle.line_laws.proofs.StoreWords.{tag_reads}
 use Rattle.line_laws.proofs.TagPuts.{Away, TagPut, Elsewhere, Next, carried_puts, away_tags, send_tags, random_away, join_away, leave_away, broke_away, near_away, counter_put_away, number_put_away, provision_away, accept_away, meter_away, coordinator_away, allow_away, depot_away, rekey_away, activate_self_away, challenge_away, activate_away, kick_away}
-use Rattle.line_laws.proofs.Tellings.{IsCall, Gives, Joins, Leaves, Sends, Breaks, Nears, Counts, Numbers, Accepts, Provisions, Depots, Allows, Rekeys, Turns, Challenges, Activates, Kicks, preset_call, IsMade, OfCoordinator, OfMeter, IsStep, Fails, Makes, Rests, Shows, Acts, BreaksLink, SendsFrom, AllowsMeter, Sets, SetsTwo, Provides, TurnsDown, Hears, Loses, Ticks, Restarts, Cuts, step_is}
-use Rattle.line_laws.proofs.Worlds.{FlightFits, WorldOk, at_place, within}
+use Rattle.line_laws.proofs.Tellings.{IsCall, Gives, Joins, Leaves, Sends, Breaks, Nears, Counts, Numbers, Accepts, Provisions, Depots, Allows, Rekeys, Turns, Challenges, Activates, Kicks, preset_call, IsMade, OfCoordinator, OfMeter, IsStep, Fails, Makes, Rests, Shows, Acts, BreaksLink, SendsFrom, AllowsMeter, Sets, SetsTwo, Provides, TurnsDown, Hears, Loses, Ticks, Restarts, Cuts}
+use Rattle.line_laws.proofs.Worlds.{WorldOk, at_place, within}
 pub use Rattle.line_laws.specs.Tags.{IsUnder, TagOf, TagsOk}
 
 -- # What the records of a node give
 
 -- the tag is the old one, or the one after it
-data TagNow (old : ℕ) (r : Records) : Type 0 where
+pub data TagNow (old : ℕ) (r : Records) : Type 0 where
   Stays : tag_in (get r 4) ≡ Ok old → TagNow old r
   Rises : tag_in (get r 4) ≡ Ok (tag_after old) → TagNow old r
 
@@ -81,7 +76,7 @@ put_now old r w (Elsewhere ne) (Stays e) = Stays (ap tag_in (get-insert_other r 
 put_now old r w (Elsewhere ne) (Rises e) = Rises (ap tag_in (get-insert_other r w.slot 4 w.octets (λ k. ne (sym k))) ∙ e)
 put_now old r w (Next e) h = subst (λ (x : Write). TagNow old (insert r x.slot x.octets)) (sym e) (Rises (tag_reads r (tag_after old) (omega arith)))
 
-put_same : (t : ℕ) (r : Records) (w : Write) → Away w → tag_in (get r 4) ≡ Ok t → tag_in (get (insert r w.slot w.octets) 4) ≡ Ok t
+pub put_same : (t : ℕ) (r : Records) (w : Write) → Away w → tag_in (get r 4) ≡ Ok t → tag_in (get (insert r w.slot w.octets) 4) ≡ Ok t
 put_same t r w ne e = ap tag_in (get-insert_other r w.slot 4 w.octets (λ k. ne (sym k))) ∙ e
 
 ok_same : (r : Result ℕ BadStore) (a b : ℕ) → r ≡ Ok a → r ≡ Ok b → a ≡ b
@@ -91,7 +86,7 @@ no_some : {A : Type 0} (a : A) → None ≡ Some a → ⊥
 no_some a e = cc
 
 -- from one node's records to another's
-abbrev TagMoves : Node → Node → Type 0
+abbrev pub TagMoves : Node → Node → Type 0
 TagMoves x y = (t : ℕ) → tag_in (get x.store.records 4) ≡ Ok t → TagNow t y.store.records
 
 abbrev pub TagStays : Node → Node → Type 0
@@ -184,9 +179,9 @@ send_failed : (m : Memory) (to : ℕ) (datagram : List ℕ) (note now : ℕ) →
 send_failed m to datagram note now = planned_failed _ (send_is AnyWord (call_given 0 note now) m.station to datagram (λ some short. tt))
 
 -- What a send that is taken does to the tag of its node.
-record SendTakes (tag : ℕ) (long : Bool) (x y : Node) : Type 0 where
-  old : tag_in (get x.store.records 4) ≡ Ok tag
-  new : long ≡ true → tag_in (get y.store.records 4) ≡ Ok (tag_after tag)
+pub record SendTakes (tag : ℕ) (long : Bool) (x y : Node) : Type 0 where
+  pub old : tag_in (get x.store.records 4) ≡ Ok tag
+  pub new : long ≡ true → tag_in (get y.store.records 4) ≡ Ok (tag_after tag)
 
 send_takes : (x : Node) (to : ℕ) (datagram : List ℕ) (note now : ℕ) → NodeOk x → let d : NodeStep (Result SentHow SendRefusal) = acts x (Err sends.Halted) (λ m. of_station m (calls.send m.station to datagram note now)) in (h : SentHow) → d.answer ≡ Ok h → SendTakes (tag_of x) (nat_lt 375 (length datagram)) x d.node
 send_takes x to datagram note now ok h e =
@@ -210,28 +205,28 @@ at_end (z ∷ xs) x (suc k) y e = ⊎_elim (λ (h : slice_get xs k ≡ Some y). 
 -- # What an event does to the tags of all nodes
 
 -- a node of the world after an event: as before, or a new one
-data Moved (w : World) (number : ℕ) (y : Node) : Type 0 where
+pub data Moved (w : World) (number : ℕ) (y : Node) : Type 0 where
   Was : (x : Node) → node_at w number ≡ Some x → TagMoves x y → Moved w number y
   IsNew : length w.nodes ≤ number → tag_in (get y.store.records 4) ≡ Ok 0 → Moved w number y
 
-abbrev AllMoved : World → World → Type 0
+abbrev pub AllMoved : World → World → Type 0
 AllMoved w v = (number : ℕ) (y : Node) → node_at v number ≡ Some y → Moved w number y
 
 -- What the history has of a send.
-record Took (w v : World) (s : Sending) : Type 0 where
-  node : Node
-  there : node_at w s.from ≡ Some node
-  takes : (y : Node) → node_at v s.from ≡ Some y → SendTakes s.tag (nat_lt 375 (length s.datagram)) node y
+pub record Took (w v : World) (s : Sending) : Type 0 where
+  pub node : Node
+  pub there : node_at w s.from ≡ Some node
+  pub takes : (y : Node) → node_at v s.from ≡ Some y → SendTakes s.tag (nat_lt 375 (length s.datagram)) node y
 
-record StepTags (w v : World) (sent : Option Sending) : Type 0 where
-  nodes : AllMoved w v
-  more : length w.nodes ≤ length v.nodes
-  took : (s : Sending) → sent ≡ Some s → Took w v s
+pub record StepTags (w v : World) (sent : Option Sending) : Type 0 where
+  pub nodes : AllMoved w v
+  pub more : length w.nodes ≤ length v.nodes
+  pub took : (s : Sending) → sent ≡ Some s → Took w v s
 
-none_took : (w v : World) → (s : Sending) → None ≡ Some s → Took w v s
+pub none_took : (w v : World) → (s : Sending) → None ≡ Some s → Took w v s
 none_took w v s e = absurd (no_some s e)
 
-abbrev Tagged : World → Step → Type 0
+abbrev pub Tagged : World → Step → Type 0
 Tagged w (Ok r) = StepTags w r.0 r.1.sent
 Tagged w (Err fault) = Unit {0}
 
@@ -251,7 +246,7 @@ module _ (ciphers : Ciphers) (w : World) where
   unfolding told
   told_more u number d = length-set u.nodes number d.node
 
-  same_moved : AllMoved w w
+  pub same_moved : AllMoved w w
   same_moved k y is = Was y is (λ t e. Stays e)
 
 module _ (ciphers : Ciphers) (fits : KeepsRanges ciphers) (w : World) (ok : WorldOk w) where
@@ -259,7 +254,7 @@ module _ (ciphers : Ciphers) (fits : KeepsRanges ciphers) (w : World) (ok : Worl
   good_at number x there = at_place NodeOk w.nodes number x there ok.nodes
 
   -- one node did something, and nothing was sent as a datagram
-  told_tags : {A : Type 0} (u : World) (number : ℕ) (x : Node) (d : NodeStep A) → AllMoved w u → length u.nodes ≡ length w.nodes → node_at w number ≡ Some x → TagMoves x d.node → StepTags w (told ciphers u number d) None
+  pub told_tags : {A : Type 0} (u : World) (number : ℕ) (x : Node) (d : NodeStep A) → AllMoved w u → length u.nodes ≡ length w.nodes → node_at w number ≡ Some x → TagMoves x d.node → StepTags w (told ciphers u number d) None
   told_tags u number x d all same there moves = record {
     nodes = told_moved ciphers w u number d all (Was x there moves);
     more = let m = told_more ciphers w u number d in omega arith;
@@ -293,7 +288,7 @@ module _ (ciphers : Ciphers) (fits : KeepsRanges ciphers) (w : World) (ok : Worl
 
   -- # Octets that come
 
-  accepts_stays : (x : Node) (octets : List ℕ) → TagStays x (accepting ciphers x octets).node
+  pub accepts_stays : (x : Node) (octets : List ℕ) → TagStays x (accepting ciphers x octets).node
   accepts_stays x octets = acts_stays x (Err frames.Halted) (λ m. of_station m (accept m.station x.eui (arrived ciphers octets))) (λ m. accept_away m x.eui (arrived ciphers octets))
 
   hears_stays : (x : Node) (got : Accepted) (cost note now : ℕ) → TagStays x (hears ciphers x got cost note now).node
@@ -372,7 +367,7 @@ module _ (ciphers : Ciphers) (fits : KeepsRanges ciphers) (w : World) (ok : Worl
 
   -- # Every event
 
-  event_tags : (event : Event) (s : Step) → IsStep ciphers w event s → Tagged w s
+  pub event_tags : (event : Event) (s : Step) → IsStep ciphers w event s → Tagged w s
   event_tags event s (Fails e fault) = tt
   event_tags event s (Makes e x is) = made_tags e x is
   event_tags event s (Rests e quiet) = record { nodes = same_moved ciphers w; more = omega arith; took = none_took w (ran w) }
@@ -480,21 +475,9 @@ module _ (w v : World) (sent : List Sending) (k : TagsOk w sent) (few : w.events
           by_node None e = absurd (no_place v.nodes s.from e (let m = t.more in let here = within w.nodes s.from took.node took.there in omega arith))
           by_node (Some y) e = ok_same (tag_in (get took.node.store.records 4)) s.tag old.tag (took.takes y e).old old.is
 
-  next_tags : (s : Option Sending) → StepTags w v s → TagsOk v (sent ++ one_of s)
+  pub next_tags : (s : Option Sending) → StepTags w v s → TagsOk v (sent ++ one_of s)
   next_tags None t = subst (TagsOk v) (sym (append-nil sent)) (none_sent t)
   next_tags (Some s) t = one_sent s t
-
-tags_from : (ciphers : Ciphers) → KeepsRanges ciphers → (w : World) → WorldOk w → All FlightFits w.flights → (before : List Entry) → TagsOk w (sends_of before) → (entries : List Entry) → AreEvents (events_of entries) → FlightsAreOctets entries → IsRun ciphers w entries → AllPairs TagRises (sends_of (before ++ entries))
-tags_from ciphers fits w ok flown before k [] says fly run = subst (λ xs. AllPairs TagRises (sends_of xs)) (sym (append-nil before)) k.pairs
-tags_from ciphers fits w ok flown before k (x ∷ xs) says fly run =
-    let event = All-head IsEvent x.event (events_of xs) says in
-    let g = taken_good ciphers fits w ok flown x event run.2 in
-    let t : StepTags w x.after x.trace.sent = subst (Tagged w) run.2 (event_tags ciphers fits w ok x.event _ (step_is ciphers w x.event event)) in
-    let few : w.events < 50000 = run.0 in
-    let next : TagsOk x.after (sends_of before ++ one_of x.trace.sent) = next_tags w x.after (sends_of before) k few (event_right ciphers w x event run.2).adds.events x.trace.sent t in
-    let so : TagsOk x.after (sends_of (before ++ x ∷ [])) = subst (TagsOk x.after) (sym (all_of_one (λ d. one_of d.sent) before x)) next in
-    subst (λ ys. AllPairs TagRises (sends_of ys)) (append_assoc before (x ∷ []) xs)
-    (tags_from ciphers fits x.after g.0 (All-head EntryFlies x xs fly) (before ++ x ∷ []) so xs (All-tail IsEvent x.event (events_of xs) says) (All-tail EntryFlies x xs fly) run.3)
 
 pub start_tags : TagsOk start []
 start_tags = record {
@@ -502,6 +485,3 @@ start_tags = record {
   homes = All-nil (λ (s : Sending). s.from < length start.nodes);
   pairs = λ i j d lt inside. absurd (omega arith);
 }
-
-pub every_tag : EveryTagRises
-every_tag ciphers fits entries r fly = tags_from ciphers fits start start_ok (All-nil FlightFits) [] start_tags entries r.events fly r.run

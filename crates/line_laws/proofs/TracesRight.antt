@@ -55,7 +55,7 @@ use Rattle.line_rules.specs.Worlds.{World, Flight, Trace, Pairing, node_at, flig
 use Rattle.line_rules.specs.Steps.{Step, is_taken, set_up, ran, told, flights_of, acted, trace_of, happened, sending, sent_if, tag_of, offered_near, hears, received, forged_by, note_by, number_if, handed_by, issued_of, identity, restart_word, restarts, made_node}
 use Rattle.line_rules.specs.Runs.{Entry, one_of}
 use Rattle.line_rules.specs.Forgery.{Comes, OfFlight, OfScript, accepting, AcceptsSealed, NoneFlew, IsForged, ByFrame, ByTag}
-use Rattle.line_rules.specs.Traces.{Adds, IsTracedRight, IsIssue, ComesTo, is_up, is_took, is_done, is_issue}
+use Rattle.line_rules.specs.Traces.{Adds, IsSendOf, IsIssue, ComesTo, is_up, is_took, is_done, is_issue}
 use Rattle.line_laws.proofs.StoreMarks.{accept_is}
 use Rattle.line_laws.proofs.Quiet.{acts_quiet, counter_quiet, number_quiet, near_quiet, install_quiet, allow_quiet, depot_quiet, accept_quiet}
 use Rattle.line_laws.proofs.Untagged.{acts_untagged, allow_untagged, depot_untagged, rekey_untagged, activate_self_untagged, challenge_untagged, activate_untagged, kick_untagged, send_untagged, near_untagged, counter_untagged, number_untagged, rested_untagged, random_untagged, provision_untagged, accept_untagged}
@@ -67,7 +67,7 @@ use Rattle.line_laws.proofs.Tellings.{IsCall, Gives, Joins, Leaves, Sends, Break
 -- # Words of the report
 
 -- nothing was sent, handed up, taken, done or issued
-abbrev Plain : Answer → Type 0
+abbrev pub Plain : Answer → Type 0
 Plain a = (is_taken a ≡ false) × (is_up a ≡ false) × (is_took a ≡ false) × (is_done a ≡ false) × (is_issue a ≡ false)
 
 send_plain : (r : SendRefusal) → Plain (send_word r)
@@ -147,14 +147,14 @@ word_quiet A reads event (OfKick B number) b = b
 -- # What a node makes of a frame
 
 -- The word of a frame that was heard, with what the history has of it.
-record Fits (r : Reception) : Type 0 where
-  taken : is_taken r.answer ≡ false
-  up : is_some r.up ≡ is_up r.answer
-  took : is_some r.took ≡ is_took r.answer
-  done : is_some r.done ≡ is_done r.answer
-  keyed : is_some r.keyed ≡ is_issue r.answer
+pub record Fits (r : Reception) : Type 0 where
+  pub taken : is_taken r.answer ≡ false
+  pub up : is_some r.up ≡ is_up r.answer
+  pub took : is_some r.took ≡ is_took r.answer
+  pub done : is_some r.done ≡ is_done r.answer
+  pub keyed : is_some r.keyed ≡ is_issue r.answer
 
-drop_fits : (reason : Dropped) → Plain (drop_word reason)
+pub drop_fits : (reason : Dropped) → Plain (drop_word reason)
 drop_fits drops.BadUnit = (refl, refl, refl, refl, refl)
 drop_fits drops.NoRoute = (refl, refl, refl, refl, refl)
 drop_fits drops.HopsSpent = (refl, refl, refl, refl, refl)
@@ -243,66 +243,80 @@ call_opened ciphers w number x A halted plan (Kicks meter y first at) m = (kick_
 
 -- # Octets that come
 
-comes_brought : (w : World) (event : Event) (number : ℕ) (octets : List ℕ) → Comes w event number octets → IsBrought event
+pub comes_brought : (w : World) (event : Event) (number : ℕ) (octets : List ℕ) → Comes w event number octets → IsBrought event
 comes_brought w event number octets (OfFlight flight n cost f e) = tt
 comes_brought w event number octets (OfScript n cost o) = tt
 
-comes_to : (w : World) (event : Event) (number : ℕ) (octets : List ℕ) → Comes w event number octets → ComesTo event number
+pub comes_to : (w : World) (event : Event) (number : ℕ) (octets : List ℕ) → Comes w event number octets → ComesTo event number
 comes_to w event number octets (OfFlight flight n cost f e) = refl
 comes_to w event number octets (OfScript n cost o) = refl
 
 -- what comes in an event, to which node
-abbrev Is : World → Event → ℕ → List ℕ → Type 0
+abbrev pub Is : World → Event → ℕ → List ℕ → Type 0
 Is w (events.Deliver flight node cost) number octets = (node ≡ number) × ((f : Flight) × (flight_at w flight ≡ Some f) × (octets ≡ f.octets))
 Is w (events.Inject node cost own) number octets = (node ≡ number) × (own ≡ octets)
 Is w _ number octets = ⊥
 
-comes_is : (w : World) (event : Event) (number : ℕ) (octets : List ℕ) → Comes w event number octets → Is w event number octets
+pub comes_is : (w : World) (event : Event) (number : ℕ) (octets : List ℕ) → Comes w event number octets → Is w event number octets
 comes_is w event number octets (OfFlight flight n cost f e) = (refl, (f, e, refl))
 comes_is w event number octets (OfScript n cost o) = (refl, refl)
 
-is_same : (w : World) (event : Event) (m n : ℕ) (xs ys : List ℕ) → Is w event m xs → Is w event n ys → (m ≡ n) × (xs ≡ ys)
+pub is_same : (w : World) (event : Event) (m n : ℕ) (xs ys : List ℕ) → Is w event m xs → Is w event n ys → (m ≡ n) × (xs ≡ ys)
 is_same w (events.Deliver flight node cost) m n xs ys h k = (sym h.0 ∙ k.0, h.1.2 ∙ ap (λ (f : Flight). f.octets) (same_Some h.1.0 k.1.0 (sym h.1.1 ∙ k.1.1)) ∙ sym k.1.2)
 is_same w (events.Inject node cost own) m n xs ys h k = (sym h.0 ∙ k.0, sym h.1 ∙ k.1)
 is_same w _ m n xs ys h k = absurd (h)
 
 -- # What is right of an event
 
+-- What the history has of an event that is no broadcast is there exactly where the answer says so.
+pub record IsTracedSo (w : World) (x : Entry) : Type 0 where
+  pub sent : is_some x.trace.sent ≡ is_taken x.trace.happened.answer
+  pub send : IfSome x.trace.sent (IsSendOf w x.event)
+  pub up : is_some x.trace.happened.up ≡ is_up x.trace.happened.answer
+  pub up_at : IfSome x.trace.happened.up (λ (u : Handed). ComesTo x.event u.node)
+  pub taken : is_some x.trace.taken ≡ is_took x.trace.happened.answer
+  pub taken_at : IfSome x.trace.taken (λ (p : Pairing). ComesTo x.event p.node)
+  pub took : x.trace.happened.took ≡ option_map (λ (p : Pairing). p.node) x.trace.taken
+  pub done : is_some x.trace.done ≡ is_done x.trace.happened.answer
+  pub done_node : x.trace.happened.done ≡ option_map (λ (p : Pairing). p.node) x.trace.done
+  pub issues : is_issue x.trace.happened.answer ≡ true → IsIssue w x.event x.trace.issued
+  pub none_issued : is_issue x.trace.happened.answer ≡ false → x.trace.issued ≡ []
+
 pub record Right (ciphers : Ciphers) (w : World) (x : Entry) : Type 0 where
   pub adds : Adds w x
-  pub traced : IsTracedRight w x
+  pub traced : IsTracedSo w x
   pub forged : (x.trace.happened.forged ≡ true) ↔ IsForged ciphers w x.event x.trace.opened
 
 abbrev pub entry : ℕ → Event → World × Trace → Entry
 entry number event r = record { number = number; event = event; trace = r.1; after = r.0 }
 
 -- One event more, and nothing else is counted.
-record Counted (w v : World) : Type 0 where
-  events : v.events ≡ w.events + 1
-  sends : v.sends ≡ w.sends
-  ups : v.ups ≡ w.ups
-  forged : v.forged ≡ w.forged
-  done : v.done ≡ w.done
+pub record Counted (w v : World) : Type 0 where
+  pub events : v.events ≡ w.events + 1
+  pub sends : v.sends ≡ w.sends
+  pub ups : v.ups ≡ w.ups
+  pub forged : v.forged ≡ w.forged
+  pub done : v.done ≡ w.done
 
-ran_counted : (w : World) → Counted w (ran w)
+pub ran_counted : (w : World) → Counted w (ran w)
 ran_counted w = record { events = refl; sends = refl; ups = refl; forged = refl; done = refl }
 
 set_up_counted : (w : World) → Counted w (set_up w)
 set_up_counted w = record { events = refl; sends = refl; ups = refl; forged = refl; done = refl }
 
-told_counted : {A : Type 0} (ciphers : Ciphers) (w u : World) (number : ℕ) (d : NodeStep A) → Counted w u → Counted w (told ciphers u number d)
+pub told_counted : {A : Type 0} (ciphers : Ciphers) (w u : World) (number : ℕ) (d : NodeStep A) → Counted w u → Counted w (told ciphers u number d)
 unfolding told
 told_counted ciphers w u number d c = record { events = c.events; sends = c.sends; ups = c.ups; forged = c.forged; done = c.done }
 
-told_flights : {A : Type 0} (ciphers : Ciphers) (u : World) (number : ℕ) (d : NodeStep A) → length (told ciphers u number d).flights ≡ length u.flights + length d.frames
+pub told_flights : {A : Type 0} (ciphers : Ciphers) (u : World) (number : ℕ) (d : NodeStep A) → length (told ciphers u number d).flights ≡ length u.flights + length d.frames
 unfolding told
 told_flights ciphers u number d = length-append u.flights (flights_of ciphers number d) ∙ ap (λ n. length u.flights + n) (length-map d.frames _)
 
-told_made : {A : Type 0} (ciphers : Ciphers) (u : World) (number : ℕ) (d : NodeStep A) → (told ciphers u number d).made ≡ u.made ++ d.made
+pub told_made : {A : Type 0} (ciphers : Ciphers) (u : World) (number : ℕ) (d : NodeStep A) → (told ciphers u number d).made ≡ u.made ++ d.made
 unfolding told
 told_made ciphers u number d = refl
 
-false_true : false ≡ true → ⊥
+pub false_true : false ≡ true → ⊥
 false_true e = cc
 
 none_at : (place : ℕ) (tag : PairTag) (opened : List PairTag) → opened ≡ [] → slice_get opened place ≡ Some tag → ⊥
@@ -316,20 +330,20 @@ module _ (ciphers : Ciphers) (w : World) where
   abbrev quiet_trace : Happenings → List PairTag → List PairTag → Trace
   quiet_trace h made opened = record { happened = h; sent = None; issued = []; taken = None; done = None; made = made; opened = opened; further = nothing_further }
 
-  abbrev NoneCame : Event → Type 0
+  abbrev pub NoneCame : Event → Type 0
   NoneCame event = (octets : List ℕ) (key : Key) → AcceptsSealed ciphers w event octets key → ⊥
 
-  unbrought : (event : Event) → (IsBrought event → ⊥) → NoneCame event
+  pub unbrought : (event : Event) → (IsBrought event → ⊥) → NoneCame event
   unbrought event quiet octets key a = quiet (comes_brought w event a.number octets a.comes)
 
-  unforged : (event : Event) (forged : Bool) (opened : List PairTag) → forged ≡ false → opened ≡ [] → NoneCame event → (forged ≡ true) ↔ IsForged ciphers w event opened
+  pub unforged : (event : Event) (forged : Bool) (opened : List PairTag) → forged ≡ false → opened ≡ [] → NoneCame event → (forged ≡ true) ↔ IsForged ciphers w event opened
   unforged event forged opened not_it none came = (λ e. absurd (false_true (sym not_it ∙ e)), never)
     where
       never : IsForged ciphers w event opened → forged ≡ true
       never (ByFrame octets key a unflown) = absurd (came octets key a)
       never (ByTag place tag there unmade) = absurd (none_at place tag opened none there)
 
-  quiet_adds : (number : ℕ) (event : Event) (v : World) (h : Happenings) (made opened : List PairTag) → h.forged ≡ false → h.up ≡ None → Counted w v → h.first_flight ≡ length w.flights + 1 → length v.flights ≡ length w.flights + h.flights → v.made ≡ w.made ++ made
+  pub quiet_adds : (number : ℕ) (event : Event) (v : World) (h : Happenings) (made opened : List PairTag) → h.forged ≡ false → h.up ≡ None → Counted w v → h.first_flight ≡ length w.flights + 1 → length v.flights ≡ length w.flights + h.flights → v.made ≡ w.made ++ made
       → Adds w (entry number event (v, quiet_trace h made opened))
   quiet_adds number event v h made opened unforged_is none c first flights made_is = record {
     events = c.events;
@@ -342,7 +356,7 @@ module _ (ciphers : Ciphers) (w : World) where
     made = made_is;
   }
 
-  quiet_traced : (number : ℕ) (event : Event) (v : World) (h : Happenings) (made opened : List PairTag) → Plain h.answer → h.up ≡ None → h.took ≡ None → h.done ≡ None → IsTracedRight w (entry number event (v, quiet_trace h made opened))
+  quiet_traced : (number : ℕ) (event : Event) (v : World) (h : Happenings) (made opened : List PairTag) → Plain h.answer → h.up ≡ None → h.took ≡ None → h.done ≡ None → IsTracedSo w (entry number event (v, quiet_trace h made opened))
   quiet_traced number event v h made opened p up took done = record {
     sent = sym p.0;
     send = tt;
@@ -357,7 +371,7 @@ module _ (ciphers : Ciphers) (w : World) where
     none_issued = λ e. refl;
   }
 
-  quiet_right : (number : ℕ) (event : Event) (v : World) (h : Happenings) (made opened : List PairTag) → Plain h.answer → h.forged ≡ false → h.up ≡ None → h.took ≡ None → h.done ≡ None → opened ≡ [] → NoneCame event
+  pub quiet_right : (number : ℕ) (event : Event) (v : World) (h : Happenings) (made opened : List PairTag) → Plain h.answer → h.forged ≡ false → h.up ≡ None → h.took ≡ None → h.done ≡ None → opened ≡ [] → NoneCame event
       → Counted w v → h.first_flight ≡ length w.flights + 1 → length v.flights ≡ length w.flights + h.flights → v.made ≡ w.made ++ made → Right ciphers w (entry number event (v, quiet_trace h made opened))
   quiet_right number event v h made opened p not_it up took done none came c first flights made_is = record {
     adds = quiet_adds number event v h made opened not_it up c first flights made_is;
@@ -366,11 +380,11 @@ module _ (ciphers : Ciphers) (w : World) where
   }
 
   -- a word, and nothing sent or made
-  still_right : (number : ℕ) (event : Event) (v : World) (answer : Answer) → Plain answer → NoneCame event → Counted w v → length v.flights ≡ length w.flights + 0 → v.made ≡ w.made ++ []
+  pub still_right : (number : ℕ) (event : Event) (v : World) (answer : Answer) → Plain answer → NoneCame event → Counted w v → length v.flights ≡ length w.flights + 0 → v.made ≡ w.made ++ []
       → Right ciphers w (entry number event (v, trace_of (happened w answer)))
   still_right number event v answer p came c flights made_is = quiet_right number event v (happened w answer) [] [] p refl refl refl refl refl came c refl flights made_is
 
-  acted_right : (n : ℕ) (event : Event) (number : ℕ) (d : NodeStep Answer) → Plain d.answer → d.opened ≡ [] → NoneCame event → Right ciphers w (entry n event (acted ciphers w number d))
+  pub acted_right : (n : ℕ) (event : Event) (number : ℕ) (d : NodeStep Answer) → Plain d.answer → d.opened ≡ [] → NoneCame event → Right ciphers w (entry n event (acted ciphers w number d))
   acted_right n event number d p none came = quiet_right n event (told ciphers (ran w) number d) (record (happened w d.answer) { flights = length d.frames }) d.made d.opened p refl refl refl refl none came
       (told_counted ciphers w (ran w) number d (ran_counted w)) refl (told_flights ciphers (ran w) number d) (told_made ciphers (ran w) number d)
 
@@ -457,7 +471,7 @@ module _ (ciphers : Ciphers) (w : World) where
   forged_count true n = refl
   forged_count false n = omega arith
 
-  received_right : (n : ℕ) (event : Event) (number : ℕ) (octets : List ℕ) (forged : Bool) (d : NodeStep Reception) → Comes w event number octets → Fits d.answer → (forged ≡ true) ↔ IsForged ciphers w event d.opened
+  pub received_right : (n : ℕ) (event : Event) (number : ℕ) (octets : List ℕ) (forged : Bool) (d : NodeStep Reception) → Comes w event number octets → Fits d.answer → (forged ≡ true) ↔ IsForged ciphers w event d.opened
       → Right ciphers w (entry n event (received ciphers w number forged d))
   received_right n event number octets forged d comes fits is =
       let c = told_counted ciphers w (ran w) number d (ran_counted w) in
@@ -519,7 +533,7 @@ module _ (ciphers : Ciphers) (w : World) where
     forged_path (paths.Up from) e t opened = absurd (false_true t)
     forged_path (paths.Down from) e t opened = absurd (false_true t)
 
-    forged_right : (opened : List PairTag) → ((forged_by w octets got.path || list_any (is_forged_tag w.made) opened) ≡ true) ↔ IsForged ciphers w event opened
+    pub forged_right : (opened : List PairTag) → ((forged_by w octets got.path || list_any (is_forged_tag w.made) opened) ≡ true) ↔ IsForged ciphers w event opened
     forged_right opened = (λ e. ⊎_elim (λ t. forged_path got.path refl t opened) (λ t. let p = some_passes (is_forged_tag w.made) opened t in ByTag p.place p.one p.there (none_made w.made p.one p.is)) (or_parts_true _ _ e), back)
       where
         back : IsForged ciphers w event opened → (forged_by w octets got.path || list_any (is_forged_tag w.made) opened) ≡ true

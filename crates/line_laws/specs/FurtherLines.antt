@@ -7,27 +7,34 @@ use Rattle.reach_rules.specs.Broadcasts.{broadcast_fault}
 use Rattle.reach_rules.specs.ReachingNodes.{Beside}
 use Rattle.reach_rules.specs.Receiving.{NeighbourCommand}
 use Rattle.line_laws.specs.Keyed.{Each}
+use Rattle.line_laws.specs.Later.{Keeps}
 use Rattle.node_rules.specs.Ciphers.{network}
-use Rattle.line_rules.specs.Steps.{Step}
+use Rattle.node_rules.specs.MemoryDrafts.{in_memory}
+use Rattle.reach_rules.specs.declared.refusal.BroadcastRefusal.TheVariants as broadcasts_by
+use Rattle.reach_rules.specs.declared.refusal.AskRefusal.TheVariants as asks_of
+use Rattle.reach_rules.specs.Broadcasts.{broadcast}
+use Rattle.reach_rules.specs.PathAsking.{ask_path}
+use Rattle.line_rules.specs.Further.{reaches}
+use Rattle.line_rules.specs.Steps.{Step, told}
 use Rattle.line_laws.specs.Later.{IsOfLog}
 use Rattle.node_rules.specs.Ciphers.{Ciphers}
 use Rattle.node_rules.specs.Memory.{Memory, Node}
 use Rattle.line_rules.specs.Further.{beside_at, broadcasts_by, asks_by, scans_by, discovers_by, commanded, line_step}
-use Rattle.line_rules.specs.Worlds.{World, Trace, node_at, start}
+use Rattle.line_rules.specs.Worlds.{World, Trace, node_at}
 use Rattle.line_laws.specs.Lines.{FlightFits, WorldOk}
 use Rattle.plc_base.specs.Keeper.{Records}
 use Rattle.broadcast_log.specs.Laws.{IsLogIn}
 use Rattle.line_rules.specs.declared.event.Event.{Event}
-use Rattle.line_rules.specs.Events.{AreEvents, IsEvent}
-use Rattle.line_rules.specs.declared.event.TheConstants.{MAX_EVENTS}
-use Rattle.line_rules.specs.Runs.{Entry, events_of}
+use Rattle.line_rules.specs.Events.{IsEvent}
+use Rattle.line_rules.specs.Runs.{Entry}
 use Rattle.line_rules.specs.Logs.{CommandsAreOctets, HaveShortTables, LogsKept}
 use Rattle.line_rules.specs.Nonces.{IsSpelled}
 use Rattle.pan_discovery.specs.declared.message.Discovery.{Discovery}
 use Rattle.pan_discovery.specs.Messages.{IsDiscovery}
 use Rattle.reach_rules.specs.Beacons.{hear_discovery}
+use Rattle.line_laws.specs.Laws.{IsLineRun}
 use Rattle.line_laws.specs.Live.{MarksRise}
-use Rattle.line_laws.specs.Owed.{KeepsRanges}
+use Rattle.line_laws.specs.Owed.{AreOctets, KeepsRanges}
 
 -- the line holds, and no more than 24 frames were sent
 abbrev pub LineHolds : World × Trace → Type 0
@@ -94,12 +101,6 @@ LineLogsHold =
 
 -- # Runs
 
--- a run of a line with further reach
-abbrev pub IsReachRun : World → List Entry → Type 0
-IsReachRun w [] = Unit {0}
-IsReachRun w (x ∷ xs) =
-    (w.events < MAX_EVENTS) × (x.number ≡ w.events + 1) × (line_step network w x.event ≡ Ok (x.after, x.trace)) × IsReachRun x.after xs
-
 -- What holds after each event.
 pub record HoldsAfter (x : Entry) : Type 0 where
   pub line : WorldOk x.after
@@ -107,16 +108,20 @@ pub record HoldsAfter (x : Entry) : Type 0 where
   pub logs : LogsKept x.after
   pub few : x.trace.happened.flights ≤ 24
 
--- In every run of the network with further reach, forged or not, the line holds, what flies is octets, the log of each node is what its store
+-- In every run of the network, forged or not, the line holds, what flies is octets, the log of each node is what its store
 -- gives, and no event sends more than 24 frames.
-abbrev pub EveryReachRunHolds : Type 0
-EveryReachRunHolds = (entries : List Entry) → AreEvents (events_of entries) → IsReachRun start entries → All HoldsAfter entries
+abbrev pub EveryRunHolds : Type 0
+EveryRunHolds = (entries : List Entry) → IsLineRun network entries → All HoldsAfter entries
 
 -- what the nodes of a world send of discovery can be spelled
 abbrev pub BeaconsAreSpelled : World → Type 0
 BeaconsAreSpelled w =
     (number : ℕ) (x : Node) (m : Memory) (octets : List ℕ) (link : ℕ) (frame : Discovery) → node_at w number ≡ Some x → x.memory ≡ Some m
     → (hear_discovery x.role m.station (beside_at w number).scan octets link).sent ≡ Some frame → IsDiscovery frame
+
+-- so it is of a line that holds
+abbrev pub LinesSpellBeacons : Type 0
+LinesSpellBeacons = (w : World) → WorldOk w → BeaconsAreSpelled w
 
 -- the flights after a step are what their keys say
 abbrev pub FlightsSpelled : Ciphers → Step → Type 0
@@ -126,7 +131,7 @@ FlightsSpelled ciphers (Err fault) = Unit {0}
 -- every event keeps that each flight is what its key says: a sealed frame, a plain one, or one of discovery
 abbrev pub LineStepsSpell : Type 0
 LineStepsSpell =
-    (ciphers : Ciphers) → KeepsRanges ciphers → (w : World) → WorldOk w → All FlightFits w.flights → LogsKept w → BeaconsAreSpelled w
+    (ciphers : Ciphers) → KeepsRanges ciphers → (w : World) → WorldOk w → All FlightFits w.flights → LogsKept w
     → All (IsSpelled ciphers) w.flights → (event : Event) → IsEvent event → FlightsSpelled ciphers (line_step ciphers w event)
 
 -- no mark of a node falls
@@ -143,3 +148,12 @@ LineStepsRise =
 -- so the tables of its nodes are short, as the law of the logs asks
 abbrev pub TablesAreShort : Type 0
 TablesAreShort = (w : World) → WorldOk w → HaveShortTables w
+
+-- # Up to the first forged event
+
+-- a broadcast of octets and an ask keep all that the laws rest on
+abbrev pub CallsKeepAll : Type 0
+CallsKeepAll =
+    (w : World) (number : ℕ) (x : Node) (b : Beside) → w.running ≡ true → node_at w number ≡ Some x
+    → ((datagram : List ℕ) → AreOctets datagram → Keeps w (told network w number (reaches x b (Err broadcasts_by.Halted) (λ y. broadcast in_memory y datagram))))
+    × ((target : ℕ) → Keeps w (told network w number (reaches x b (Err asks_of.Halted) (λ y. ask_path in_memory y target))))

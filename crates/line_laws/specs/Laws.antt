@@ -20,26 +20,31 @@ pub record IsLineRun (ciphers : Ciphers) (entries : List Entry) : Type 0 where
 abbrev pub FlightsAreOctets : List Entry → Type 0
 FlightsAreOctets entries = All (λ (x : Entry). All (λ (f : Flight). AreOctets f.octets) x.after.flights) entries
 
--- # Whatever the ciphers are
+-- # The history and the report
 
 -- the counts of each world are those of its history
 abbrev pub EveryCountIsRight : Type 0
-EveryCountIsRight = (ciphers : Ciphers) (entries : List Entry) → IsLineRun ciphers entries → CountsRight start entries
+EveryCountIsRight =
+    (ciphers : Ciphers) → KeepsRanges ciphers → (entries : List Entry) → IsLineRun ciphers entries
+    → FlightsAreOctets entries → CountsRight start entries
 
 -- the history has of each event what the report says
 abbrev pub EveryTraceIsRight : Type 0
 EveryTraceIsRight =
-    (ciphers : Ciphers) (entries : List Entry) → IsLineRun ciphers entries → AreTracedRight start entries
+    (ciphers : Ciphers) → KeepsRanges ciphers → (entries : List Entry) → IsLineRun ciphers entries
+    → FlightsAreOctets entries → AreTracedRight start entries
 
 -- exactly forged events are reported to be forged
 abbrev pub EveryForgeryIsTold : Type 0
 EveryForgeryIsTold =
-    (ciphers : Ciphers) (entries : List Entry) → IsLineRun ciphers entries → IsForgedRight ciphers start entries
+    (ciphers : Ciphers) → KeepsRanges ciphers → (entries : List Entry) → IsLineRun ciphers entries
+    → FlightsAreOctets entries → IsForgedRight ciphers start entries
 
--- each flight with a key is a sealed frame under it, and each other one a plain frame
+-- each flight with a key is a sealed frame under it, and each other one a plain frame or one of discovery
 abbrev pub EveryFlightIsSpelled : Type 0
 EveryFlightIsSpelled =
-    (ciphers : Ciphers) (entries : List Entry) → IsLineRun ciphers entries → AreSpelled ciphers entries
+    (ciphers : Ciphers) → KeepsRanges ciphers → (entries : List Entry) → IsLineRun ciphers entries
+    → FlightsAreOctets entries → AreSpelled ciphers entries
 
 -- # The network's frames
 

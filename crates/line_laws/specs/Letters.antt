@@ -68,3 +68,9 @@ abbrev pub IsPlainFrame : Sent → Type 0
 IsPlainFrame (Sealed l) = ⊥
 IsPlainFrame (Up agent from message) = ⊤
 IsPlainFrame (Down from message) = ⊤
+
+-- a sealed frame is a letter in its ranges
+abbrev pub IsSent : Sent → Type 0
+IsSent (Sealed l) = IsLetter l
+IsSent (Up agent from message) = ⊤
+IsSent (Down from message) = ⊤

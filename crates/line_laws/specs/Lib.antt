@@ -23,3 +23,6 @@ pub mod Agreed
 pub mod Shut
 pub mod Later
 pub mod FurtherLines
+pub mod FurtherState
+pub mod LineAccounts
+pub mod Reach

@@ -4,6 +4,7 @@ use Rattle.plc_base.specs.Fields.{AreOctets}
 use Rattle.node_rules.specs.Ciphers.{Ciphers, network}
 use Rattle.line_rules.specs.Agreement.{Agrees, KickedStaysOut}
 use Rattle.line_rules.specs.Forgery.{IsForgedRight}
+use Rattle.line_rules.specs.FurtherRuns.{AreBroadcastOnce, AreOfHistory, AreWalked, LogsAlwaysKept}
 use Rattle.line_rules.specs.Nonces.{CountersRise, NoncesDiffer, AreSpelled, AreAddressed, AreApart}
 use Rattle.line_rules.specs.Runs.{Entry, IsRun}
 use Rattle.line_rules.specs.SafeRuns.{IsAlwaysSized, IsSafe, RestartsAreAnswered}
@@ -47,6 +48,10 @@ pub record IsRight (entries : List Entry) : Type 0 where
   pub ups : UpsAreSentAfter [] entries
   pub safe : IsSafe entries
   pub forged : IsForgedRight network start entries
+  pub histories : AreOfHistory entries
+  pub logs : LogsAlwaysKept entries
+  pub broadcasts : AreBroadcastOnce entries
+  pub walks : AreWalked entries
 
 -- so it is of every run of the network
 abbrev pub EveryNetworkRunIsRight : Type 0

@@ -32,6 +32,10 @@ pub record IsReadable (g : Granted) : Type 0 where
   pub key0 : IsHeld g.key0
   pub key1 : IsHeld g.key1
 
+-- the rank of an entry has a number and a cost of two octets each
+abbrev pub HasShortRank : RoutingEntry → Type 0
+HasShortRank e = (e.rank.number < 2 ^ 16) × (e.rank.cost < 2 ^ 16)
+
 -- What a node holds on the line is in its ranges.
 pub record IsInRange (l : StationMemory) : Type 0 where
   pub ring : IfSome l.ring IsReadable
@@ -40,7 +44,7 @@ pub record IsInRange (l : StationMemory) : Type 0 where
   pub tag : l.next_tag < 2 ^ 16
   pub routing : IsRouting l.routing
   pub floors : (class : ℕ) → get_or l.routing.floors class 0 < 2 ^ 16
-  pub ranks : All (λ (e : RoutingEntry). e.rank.number < 2 ^ 16) l.routing.entries
+  pub ranks : All HasShortRank l.routing.entries
   pub marks : slots.IsTable marks.peers l.marks
 
 -- It is what the records give.

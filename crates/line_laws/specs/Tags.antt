@@ -30,7 +30,8 @@ SendsHaveOctets entries = All (λ (s : Sending). 0 < length s.datagram) (sends e
 -- so it is of every run, forged or not
 abbrev pub EverySendHasOctets : Type 0
 EverySendHasOctets =
-    (ciphers : Ciphers) (entries : List Entry) → IsLineRun ciphers entries → SendsHaveOctets entries
+    (ciphers : Ciphers) → KeepsRanges ciphers → (entries : List Entry) → IsLineRun ciphers entries
+    → FlightsAreOctets entries → SendsHaveOctets entries
 
 -- # What holds of them in a world
 

@@ -1,17 +1,18 @@
 //! Laws of the runs: each carried by a function that does nothing.
-ghost use Rattle.line_laws.specs.FurtherLines.{CallsKeepTheLine, CommandsKeepTheLine, CommandsFit, DiscoveryKeepsTheLine, EveryReachRunHolds, LineLogsHold, LineStepsHold, LineStepsRise, LineStepsSpell, LogsFit, TablesAreShort};
+ghost use Rattle.line_laws.specs.FurtherLines.{EveryRunHolds};
+ghost use Rattle.line_laws.specs.FurtherState.{EveryIssuedKeyStood, EveryRunIsRanged};
 ghost use Rattle.line_laws.specs.Issued.{EveryJoiningAgrees, OnlyIssuedKeys};
 ghost use Rattle.line_laws.specs.Kicked.{EveryKickedMeterStaysOut};
-ghost use Rattle.line_laws.specs.Later.{BesideKeeps, CommandsMayBeSealed, DiscoveringKeeps, JoinedNodesSeal, KeepsInTurn, OthersMayNot, PlainKeeps, PlansSplit, RunningKeeps, SealingKeeps, StartHolds, StoringKeeps, UnsentHolds};
+ghost use Rattle.line_laws.specs.Laws.{EveryAddressDiffers, EveryCountIsRight, EveryCounterRises, EveryFlightIsOctets, EveryFlightIsSpelled, EveryForgeryIsTold, EveryNetworkRunIsSized, EveryNonceDiffers, EveryRestartIsAnswered, EveryRunIsSized, EverySenderIsRight, EveryTraceIsRight};
 ghost use Rattle.line_laws.specs.Live.{EveryFlightFalls, EveryMarkRises};
-ghost use Rattle.line_laws.specs.Once.{EveryFrameIsAcceptedOnce, EveryNodeAcceptsOnce};
+ghost use Rattle.line_laws.specs.Loops.{EveryRestartEndsRoutes, EveryRunIsLoopFree};
 ghost use Rattle.line_laws.specs.Network.{EveryNetworkRunIsRight, EveryRunIsSafe, LastFlightsSayAll};
+ghost use Rattle.line_laws.specs.Once.{EveryFrameIsAcceptedOnce, EveryNodeAcceptsOnce};
 ghost use Rattle.line_laws.specs.Owed.{KeepsRanges};
+ghost use Rattle.line_laws.specs.Reach.{EveryBroadcastIsOnce, EveryHistoryIsKept, EveryLogIsKept, EveryWalkWasTaken};
 ghost use Rattle.line_laws.specs.Tags.{EverySendHasOctets, EveryTagRises};
 ghost use Rattle.line_laws.specs.Ups.{EveryDatagramWasSent};
 ghost use Rattle.node_rules.specs.Ciphers.{OpensWhatItSeals, network};
-ghost use Rattle.line_laws.specs.Loops.{EveryRestartEndsRoutes, EveryRunIsLoopFree};
-ghost use Rattle.line_laws.specs.Laws.{EveryAddressDiffers, EveryCountIsRight, EveryCounterRises, EveryFlightIsOctets, EveryFlightIsSpelled, EveryForgeryIsTold, EveryNetworkRunIsSized, EveryNonceDiffers, EveryRestartIsAnswered, EveryRunIsSized, EverySenderIsRight, EveryTraceIsRight};
 
 use node_rules::the_network_opens_what_it_seals;
 
@@ -70,7 +71,7 @@ pub fn every_send_has_octets()
     ensures { EverySendHasOctets }
 {}
 
-/// In every run, forged or not, a flight with a key is a sealed frame under this key, and one without a key is a plain frame.
+/// In every run, forged or not, a flight with a key is a sealed frame under this key, and one without a key is a plain frame or one of discovery.
 #[tactic(auto)]
 pub fn every_flight_is_spelled()
     ensures { EveryFlightIsSpelled }
@@ -116,7 +117,7 @@ pub fn every_count_is_right()
 {}
 
 /// In every run, forged or not, the history has a send, a datagram that was handed up, a grant that was taken, issued keys or a
-/// joining that is done exactly where the answer of the event says so.
+/// joining that is done exactly where the answer of the event says so; a broadcast, which is answered as a send, is none.
 #[tactic(auto)]
 pub fn every_trace_is_right()
     ensures { EveryTraceIsRight }
@@ -180,6 +181,53 @@ pub fn every_datagram_was_sent()
     ensures { EveryDatagramWasSent }
 {}
 
+/// In every run of the network, forged or not, over restarts and failed writes: the line holds, what flies is octets, the log of each node is
+/// what its store gives, and no event sends more than 24 frames.
+#[tactic(auto)]
+pub fn every_run_holds()
+    ensures { EveryRunHolds }
+{}
+
+/// In every run of the network, up to its first forged event, over restarts and failed writes: what every node holds is in its ranges, and what
+/// flies is letters in theirs, plain frames and frames of discovery.
+#[tactic(auto)]
+pub fn every_run_is_ranged()
+    ensures { EveryRunIsRanged }
+{}
+
+/// In every run of the network, up to its first forged event, each key that an event issues stands in the coordinator's ring before it.
+#[tactic(auto)]
+pub fn every_issued_key_stood()
+    ensures { EveryIssuedKeyStood }
+{}
+
+/// In every run of the network, forged or not, over restarts and failed writes: what each node holds of its checks and of its scan is what its
+/// history says, which lists the replies that it sent, the acknowledgements that it heard and the beacons that it took.
+#[tactic(auto)]
+pub fn every_history_is_kept()
+    ensures { EveryHistoryIsKept }
+{}
+
+/// In every run of the network, forged or not, every store gives a log, which is that of its node, as a new start finds it, where the node is not halted.
+#[tactic(auto)]
+pub fn every_log_is_kept()
+    ensures { EveryLogIsKept }
+{}
+
+/// In every run of the network, up to its first forged event, over restarts and failed writes: the steps of each walk that is reported were taken
+/// before, in its order.
+#[tactic(auto)]
+pub fn every_walk_was_taken()
+    ensures { EveryWalkWasTaken }
+{}
+
+/// In every run of the network, up to its first forged event, over restarts and failed writes: each broadcast that is handed up was sent by
+/// another node with the same octets, and no node hands up two of one origin and number.
+#[tactic(auto)]
+pub fn every_broadcast_is_once()
+    ensures { EveryBroadcastIsOnce }
+{}
+
 /// Every run of the network is safe up to its first forged event: each datagram that is handed up was sent to that node before, with the
 /// same octets, and none is handed up twice; after each event valid next hops form no loop, a joined meter holds only keys that were
 /// issued to it, and no table passes its size; and no event sends more than 24 frames.
@@ -198,140 +246,4 @@ pub fn every_network_run_is_right()
 #[tactic(auto)]
 pub fn the_last_flights_say_all()
     ensures { LastFlightsSayAll }
-{}
-
-/// Where a node seals a command alone of code 03, 04 or 05, under note 0 and with its next counter, as it seals each of its commands, all is
-/// kept that the laws rest on: no mark and no stored rank falls, no flight comes to life, and the flight has the address of its node. A
-/// rule that comes later and does no more than this needs no further law.
-#[tactic(auto)]
-pub fn sealing_keeps<E>()
-    ensures { SealingKeeps E }
-{}
-
-/// Where a node stores records at the slots of its log of broadcasts, all of this is kept too, whatever power is lost.
-#[tactic(auto)]
-pub fn storing_keeps()
-    ensures { StoringKeeps }
-{}
-
-/// A node that stores records of its log before its other writes does the same as one that stores them and then does the rest.
-#[tactic(auto)]
-pub fn plans_split<A>()
-    ensures { PlansSplit A }
-{}
-
-/// Where a frame of discovery flies, all of this is kept too.
-#[tactic(auto)]
-pub fn discovering_keeps()
-    ensures { DiscoveringKeeps }
-{}
-
-/// Where checks are turned on, or nodes hold other things beside their memories, all of this is kept too.
-#[tactic(auto)]
-pub fn beside_keeps()
-    ensures { BesideKeeps }
-{}
-
-/// Where flights that a step would have sent are not sent after all, all holds as before.
-#[tactic(auto)]
-pub fn unsent_holds()
-    ensures { UnsentHolds }
-{}
-
-/// What is kept from one world to the next, and from that to a third, is kept from the first to the third.
-#[tactic(auto)]
-pub fn keeps_in_turn()
-    ensures { KeepsInTurn }
-{}
-
-/// Where a node sends a plain frame of octets, all of this is kept too.
-#[tactic(auto)]
-pub fn plain_keeps()
-    ensures { PlainKeeps }
-{}
-
-/// That an event of no setup kind is taken keeps it.
-#[tactic(auto)]
-pub fn running_keeps()
-    ensures { RunningKeeps }
-{}
-
-/// A command alone of code 03, 04 or 05 may be sealed so, with each body that a frame has room for.
-#[tactic(auto)]
-pub fn commands_may_be_sealed()
-    ensures { CommandsMayBeSealed }
-{}
-
-/// A route message, a datagram, a piece of one and a joining message may not.
-#[tactic(auto)]
-pub fn others_may_not()
-    ensures { OthersMayNot }
-{}
-
-/// A joined node with a counter left, and no loss of power to come, does seal and send it, under its active key and with its next counter.
-#[tactic(auto)]
-pub fn joined_nodes_seal<E>()
-    ensures { JoinedNodesSeal E }
-{}
-
-/// The world before the first event is one that holds.
-#[tactic(auto)]
-pub fn the_start_holds()
-    ensures { StartHolds }
-{}
-
-/// What holds of a line of nodes in every run, forged or not, holds after a broadcast and after an ask for a path.
-#[tactic(auto)]
-pub fn calls_keep_the_line()
-    ensures { CallsKeepTheLine }
-{}
-
-/// So it does after every event of a line with further reach, for any ciphers that keep their ranges and whatever power is lost; no event
-/// sends more than 24 frames, and the flights that it says are those that it adds. A log that is what its store gives fits its slots,
-/// and the tables of such a line are as short as the law of the logs asks.
-#[tactic(auto)]
-pub fn line_steps_hold()
-    ensures holds { LineStepsHold }
-    ensures logs { LogsFit }
-    ensures tables { TablesAreShort }
-{}
-
-/// In every run of the network with further reach, forged or not, over restarts and failed writes: the line holds, what flies is octets, the
-/// log of each node is what its store gives, and no event sends more than 24 frames.
-#[tactic(auto)]
-pub fn every_reach_run_holds()
-    ensures { EveryReachRunHolds }
-{}
-
-/// No event of such a line makes a mark fall, so no node admits a counter again that it did not admit before.
-#[tactic(auto)]
-pub fn line_steps_rise()
-    ensures { LineStepsRise }
-{}
-
-/// And the log of each node is what its store gives after every event of such a line, and where a node is halted some log is: what that asks
-/// of a command that comes holds too.
-#[tactic(auto)]
-pub fn line_logs_hold()
-    ensures commands { CommandsFit }
-    ensures logs { LineLogsHold }
-{}
-
-/// And each flight is what its key says after every event of a line with further reach, where it was before: a sealed frame under it, and
-/// without a key a plain frame or one of discovery.
-#[tactic(auto)]
-pub fn line_steps_spell()
-    ensures { LineStepsSpell }
-{}
-
-/// And after a scan that begins, and frames of discovery that come.
-#[tactic(auto)]
-pub fn discovery_keeps_the_line()
-    ensures { DiscoveryKeepsTheLine }
-{}
-
-/// And after a command for the neighbours that was heard.
-#[tactic(auto)]
-pub fn commands_keep_the_line()
-    ensures { CommandsKeepTheLine }
 {}

@@ -10,7 +10,7 @@ use Rattle.line_rules.specs.declared.event.Event.TheVariants as events
 use Rattle.line_rules.specs.declared.event.TheConstants.{MAX_EVENTS}
 use Rattle.line_rules.specs.Events.{IsEvent, IsLineOctets}
 use Rattle.line_rules.specs.Worlds.{World, Flight, flight_at}
-use Rattle.line_rules.specs.Steps.{step}
+use Rattle.line_rules.specs.Further.{line_step}
 use Rattle.line_replay.specs.Drills.{Drilling, after, world_by, each, bring_round, drain_one, drain_within}
 
 -- # One event
@@ -20,11 +20,11 @@ pub not_after : (event : Event) (d : Drilling) → MAX_EVENTS ≤ d.world.events
 unfolding after
 not_after event d full = by (nat_lt d.world.events MAX_EVENTS) refl
   where
-    by : (b : Bool) → nat_lt d.world.events MAX_EVENTS ≡ b → d ≡ record d { world = if b then world_by d.world (step network d.world event) else d.world }
+    by : (b : Bool) → nat_lt d.world.events MAX_EVENTS ≡ b → d ≡ record d { world = if b then world_by d.world (line_step network d.world event) else d.world }
     by true is = absurd (let low = ltb-true d.world.events MAX_EVENTS is in omega (arith, low, full))
     by false is = refl
 
-pub is_after : (event : Event) (d : Drilling) (next : World) → d.world.events < MAX_EVENTS → world_by d.world (step network d.world event) ≡ next → record d { world = next } ≡ after event d
+pub is_after : (event : Event) (d : Drilling) (next : World) → d.world.events < MAX_EVENTS → world_by d.world (line_step network d.world event) ≡ next → record d { world = next } ≡ after event d
 unfolding after
 is_after event d next room is = rw (lt-ltb d.world.events MAX_EVENTS room) (ap (λ (w : World). record d { world = w }) (sym is))
 

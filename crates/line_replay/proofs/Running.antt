@@ -14,7 +14,8 @@ use Rattle.line_rules.specs.declared.event.TheConstants.{MAX_EVENTS}
 use Rattle.node_rules.specs.Ciphers.{network}
 use Rattle.line_rules.specs.Events.{IsEvent, AreEvents}
 use Rattle.line_rules.specs.Worlds.{World, start}
-use Rattle.line_rules.specs.Steps.{Step, step}
+use Rattle.line_rules.specs.Steps.{Step}
+use Rattle.line_rules.specs.Further.{line_step}
 use Rattle.line_rules.specs.Runs.{Entry, IsRun, events_of}
 use Rattle.line_rules.specs.Traces.{CountsRight}
 use Rattle.line_laws.specs.Laws.{IsLineRun}
@@ -32,18 +33,18 @@ use Rattle.line_replay.specs.Tool.{status_of, Ran, Names, is_whole}
 -- what a taking says of the run that goes on
 abbrev GoesOn : World → Taking → Type 0
 GoesOn w Skipped = Unit {0}
-GoesOn w (Taken x) = IsEvent x.event × (w.events < MAX_EVENTS) × (x.number ≡ w.events + 1) × (step network w x.event ≡ Ok (x.after, x.trace))
+GoesOn w (Taken x) = IsEvent x.event × (w.events < MAX_EVENTS) × (x.number ≡ w.events + 1) × (line_step network w x.event ≡ Ok (x.after, x.trace))
 GoesOn w (Refused reason) = Unit {0}
 
-step_goes : (w : World) (event : Event) (r : Step) → IsEvent event → w.events < MAX_EVENTS → step network w event ≡ r → GoesOn w (step_taking w event r)
+step_goes : (w : World) (event : Event) (r : Step) → IsEvent event → w.events < MAX_EVENTS → line_step network w event ≡ r → GoesOn w (step_taking w event r)
 step_goes w event (Ok q) said room is = (said, room, refl, is)
 step_goes w event (Err faults.Memory) said room is = tt
 step_goes w event (Err faults.Setup) said room is = tt
 step_goes w event (Err faults.Node) said room is = tt
 step_goes w event (Err faults.Flight) said room is = tt
 
-room_goes : (w : World) (event : Event) (b : Bool) → IsEvent event → nat_lt w.events MAX_EVENTS ≡ b → GoesOn w (if b then step_taking w event (step network w event) else Refused reasons.Events)
-room_goes w event true said room = step_goes w event (step network w event) said (ltb-true w.events MAX_EVENTS room) refl
+room_goes : (w : World) (event : Event) (b : Bool) → IsEvent event → nat_lt w.events MAX_EVENTS ≡ b → GoesOn w (if b then step_taking w event (line_step network w event) else Refused reasons.Events)
+room_goes w event true said room = step_goes w event (line_step network w event) said (ltb-true w.events MAX_EVENTS room) refl
 room_goes w event false said room = tt
 
 -- what is read is an event that a line can say

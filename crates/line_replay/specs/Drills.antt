@@ -11,7 +11,8 @@ use Rattle.line_rules.specs.declared.event.Event.{Event}
 use Rattle.line_rules.specs.declared.event.Event.TheVariants as events
 use Rattle.line_rules.specs.declared.event.TheConstants.{MAX_EVENTS}
 use Rattle.line_rules.specs.Worlds.{World, Flight, flight_at, start}
-use Rattle.line_rules.specs.Steps.{Step, step}
+use Rattle.line_rules.specs.Steps.{Step}
+use Rattle.line_rules.specs.Further.{line_step}
 use Rattle.line_script.specs.Texts.{end_text}
 use Rattle.line_replay.specs.Texts.{totals}
 
@@ -66,7 +67,7 @@ world_by w (Err fault) = w
 unfoldable pub after : Event → Drilling → Drilling
 after event d =
     record d {
-      world = if nat_lt d.world.events MAX_EVENTS then world_by d.world (step network d.world event)
+      world = if nat_lt d.world.events MAX_EVENTS then world_by d.world (line_step network d.world event)
           else d.world;
     }
 

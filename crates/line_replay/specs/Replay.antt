@@ -8,7 +8,8 @@ use Rattle.line_rules.specs.declared.event.StepFault.TheVariants as faults
 use Rattle.line_rules.specs.declared.event.TheConstants.{MAX_EVENTS}
 use Rattle.node_rules.specs.Ciphers.{network}
 use Rattle.line_rules.specs.Worlds.{World, Flight, start}
-use Rattle.line_rules.specs.Steps.{Step, step}
+use Rattle.line_rules.specs.Steps.{Step}
+use Rattle.line_rules.specs.Further.{line_step}
 use Rattle.line_rules.specs.Runs.{Entry}
 use Rattle.line_script.specs.declared.reading.Reading.{Reading}
 use Rattle.line_script.specs.declared.reading.Reading.TheVariants.{Quiet, NoForm, Reads}
@@ -35,7 +36,7 @@ step_taking w event (Err faults.Memory) = Skipped
 -- an event, whose step is that of the network
 abbrev pub event_taking : World → Event → Taking
 event_taking w event =
-    if nat_lt w.events MAX_EVENTS then step_taking w event (step network w event) else Refused reasons.Events
+    if nat_lt w.events MAX_EVENTS then step_taking w event (line_step network w event) else Refused reasons.Events
 
 abbrev pub reading_taking : World → Reading → Taking
 reading_taking w Quiet = Skipped

@@ -1,16 +1,19 @@
 -- What further reach promises of runs: broadcasts are handed up once and as they were sent, paths that are told were walked, and checks and
 -- scans are what their histories say.
-use Rattle.std.specs.Prelude.{◌≡◌, ◌≢◌, ℕ, ◌==◌, Bool, true, false, List, [], ◌∷◌, ◌++◌, All, Option, Some, None, IfSome, slice_get, if◌then◌else◌}
+use Rattle.std.specs.Prelude.{◌≡◌, ◌≢◌, ℕ, ◌==◌, Bool, true, false, List, [], ◌∷◌, ◌++◌, All, Option, Some, None, IfSome, Ok, slice_get, if◌then◌else◌}
 use Rattle.std.specs.Option.{option_map_or}
+use Rattle.broadcast_log.specs.Log.{Log, log_at_rest, opened}
 use Rattle.neighbour_checks.specs.History as checking
 use Rattle.pan_discovery.specs.History as scanning
+use Rattle.node_rules.specs.Memory.{Memory, Node}
+use Rattle.reach_rules.specs.ReachingNodes.{Beside}
 use Rattle.line_rules.specs.declared.event.Event.{Event}
 use Rattle.line_rules.specs.declared.event.Event.TheVariants as events
 use Rattle.line_rules.specs.declared.happenings.BroadcastUp.{BroadcastUp}
 use Rattle.line_rules.specs.declared.happenings.PathLine.{PathLine}
 use Rattle.line_rules.specs.Further.{beside_at}
 use Rattle.line_rules.specs.Runs.{Entry, all_of, one_of}
-use Rattle.line_rules.specs.Worlds.{World, start, Broadcasting, Stepping, Noticed, Replied, Acknowledged, Scans, Heard}
+use Rattle.line_rules.specs.Worlds.{World, node_at, start, Broadcasting, Stepping, Noticed, Replied, Acknowledged, Scans, Heard}
 
 -- # Broadcasts
 
@@ -109,13 +112,15 @@ checked_by number now (Some (Acknowledged node neighbour count origin)) past =
 checked_by number now (Some (Scans node)) past = past
 checked_by number now (Some (Heard node from cost link)) past = past
 
--- the history of a node's checks since its last restart, the latest first
+-- the history of a node's checks after one more event: since its last restart, the latest first
+abbrev pub check_step : ℕ → Entry → checking.History → checking.History
+check_step number x past =
+    if is_restart_of number x.event then []
+    else (if is_tick x.event then checking.Tick x.after.clock ∷ past else checked_by number x.after.clock x.trace.further.noticed past)
+
 abbrev pub check_history : ℕ → checking.History → List Entry → checking.History
 check_history number past [] = past
-check_history number past (x ∷ xs) =
-    check_history number
-    (if is_restart_of number x.event then []
-    else (if is_tick x.event then checking.Tick x.after.clock ∷ past else checked_by number x.after.clock x.trace.further.noticed past)) xs
+check_history number past (x ∷ xs) = check_history number (check_step number x past) xs
 
 -- what a node noticed that its scan depends on
 abbrev pub scanned_by : ℕ → Option Noticed → scanning.History → scanning.History
@@ -126,11 +131,13 @@ scanned_by number (Some (Scans node)) past = if node == number then scanning.Beg
 scanned_by number (Some (Heard node from cost link)) past =
     if node == number then scanning.Beacon from cost link ∷ past else past
 
+-- the history of its scan after one more event
+abbrev pub scan_step : ℕ → Entry → scanning.History → scanning.History
+scan_step number x past = if is_restart_of number x.event then scanning.Clear ∷ past else scanned_by number x.trace.further.noticed past
+
 abbrev pub scan_history : ℕ → scanning.History → List Entry → scanning.History
 scan_history number past [] = past
-scan_history number past (x ∷ xs) =
-    scan_history number
-    (if is_restart_of number x.event then scanning.Clear ∷ past else scanned_by number x.trace.further.noticed past) xs
+scan_history number past (x ∷ xs) = scan_history number (scan_step number x past) xs
 
 -- What each node holds of checks and of its scan after an event is what its history says.
 pub record IsOfHistory (entries : List Entry) (w : World) : Type 0 where
@@ -144,6 +151,22 @@ AreOfHistoryAfter before (x ∷ xs) = IsOfHistory (before ++ x ∷ []) x.after �
 -- so it is after every event, forged or not
 abbrev pub AreOfHistory : List Entry → Type 0
 AreOfHistory entries = AreOfHistoryAfter [] entries
+
+-- # Logs
+
+-- The store of a node gives a log; where the node is not halted, it is the log that it holds, as a new start finds it.
+pub record GivesLog (b : Beside) (x : Node) : Type 0 where
+  pub log : Log
+  pub opened : opened x.store.records ≡ Ok log
+  pub held : IfSome x.memory (λ (m : Memory). log ≡ log_at_rest b.log)
+
+-- so does every store of a world
+abbrev pub GiveLogs : Entry → Type 0
+GiveLogs x = (number : ℕ) (node : Node) → node_at x.after number ≡ Some node → GivesLog (beside_at x.after number) node
+
+-- and so it is after every event, forged or not
+abbrev pub LogsAlwaysKept : List Entry → Type 0
+LogsAlwaysKept entries = All GiveLogs entries
 
 -- # The world before the first event
 

@@ -5,7 +5,8 @@ use Rattle.line_rules.specs.declared.event.TheConstants.{MAX_EVENTS}
 use Rattle.node_rules.specs.Ciphers.{Ciphers}
 use Rattle.line_rules.specs.Worlds.{World, Sending, Issued, Pairing, Trace}
 use Rattle.line_rules.specs.declared.happenings.Handed.{Handed}
-use Rattle.line_rules.specs.Steps.{Step, step}
+use Rattle.line_rules.specs.Steps.{Step}
+use Rattle.line_rules.specs.Further.{line_step}
 
 -- # Runs
 
@@ -28,13 +29,13 @@ abbrev pub run : Ciphers → World → List Event → List Entry
 run ciphers w [] = []
 run ciphers w (event ∷ events) =
     if nat_lt w.events MAX_EVENTS
-    then entries_of w event (step ciphers w event) (λ next. run ciphers next events) else []
+    then entries_of w event (line_step ciphers w event) (λ next. run ciphers next events) else []
 
 -- the entries are a run from a world on
 abbrev pub IsRun : Ciphers → World → List Entry → Type 0
 IsRun ciphers w [] = Unit {0}
 IsRun ciphers w (x ∷ xs) =
-    (w.events < MAX_EVENTS) × (x.number ≡ w.events + 1) × (step ciphers w x.event ≡ Ok (x.after, x.trace))
+    (w.events < MAX_EVENTS) × (x.number ≡ w.events + 1) × (line_step ciphers w x.event ≡ Ok (x.after, x.trace))
     × IsRun ciphers x.after xs
 
 -- # What a history tells

@@ -1,5 +1,5 @@
 -- What the history has of an event, as the report says it, and what the world counts.
-use Rattle.std.specs.Prelude.{◌≡◌, ℕ, ◌+◌, Bool, true, false, List, [], ◌∷◌, ◌++◌, length, is_some, Some, IfSome, if◌then◌else◌}
+use Rattle.std.specs.Prelude.{◌≡◌, ◌&&◌, not, ℕ, ◌+◌, Bool, true, false, List, [], ◌∷◌, ◌++◌, length, is_some, Some, IfSome, if◌then◌else◌}
 use Rattle.std.specs.Option.{option_map}
 use Rattle.plc_base.specs.Grant.{Granted}
 use Rattle.plc_base.specs.declared.address.Eui.{Eui}
@@ -75,9 +75,14 @@ pub record IsIssue (w : World) (event : Event) (issued : List Issued) : Type 0 w
   pub keys : issued ≡ issued_by eui granted
   pub depot : (number : ℕ) → event ≡ events.Depot number → (x : Node) × (node_at w number ≡ Some x) × (eui ≡ x.eui)
 
--- What the history has of an event is there exactly where the answer says so.
+-- whether a datagram goes to all: its word is that of a send, and it is none
+abbrev pub is_broadcast : Event → Bool
+is_broadcast (events.Bcast number datagram) = true
+is_broadcast _ = false
+
+-- What the history has of an event is there exactly where the answer says so; a broadcast is no send.
 pub record IsTracedRight (w : World) (x : Entry) : Type 0 where
-  pub sent : is_some x.trace.sent ≡ is_taken x.trace.happened.answer
+  pub sent : is_some x.trace.sent ≡ (is_taken x.trace.happened.answer && not (is_broadcast x.event))
   pub send : IfSome x.trace.sent (IsSendOf w x.event)
   pub up : is_some x.trace.happened.up ≡ is_up x.trace.happened.answer
   pub up_at : IfSome x.trace.happened.up (λ (u : Handed). ComesTo x.event u.node)

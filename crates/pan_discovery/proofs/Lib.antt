@@ -2,5 +2,5 @@ mod Readings
 mod Orders
 mod Meaning
 mod Hearing
-mod Histories
+pub mod Histories
 mod Worked

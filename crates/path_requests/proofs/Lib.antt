@@ -1,3 +1,3 @@
 mod Walking
 pub mod Readings
-mod Steps
+pub mod Steps

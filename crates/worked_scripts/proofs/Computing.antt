@@ -34,6 +34,15 @@ use Rattle.node_rules.specs.Plans as rules_plans
 use Rattle.node_rules.specs.NodeSteps as rules_node_steps
 use Rattle.line_rules.specs.Steps as line_steps
 use Rattle.line_rules.specs.Worlds as line_worlds
+use Rattle.neighbour_checks.specs.Acks as commands_acks
+use Rattle.broadcast_log.specs.Grammar as commands_grammar
+use Rattle.broadcast_log.specs.Reading as commands_reading
+use Rattle.path_requests.specs.Reading as commands_paths
+use Rattle.pan_discovery.specs.Reading as commands_discovery
+use Rattle.node_rules.specs.Replies as rules_replies
+use Rattle.reach_rules.specs.ReachingNodes as reach_nodes
+use Rattle.reach_rules.specs.Broadcasts as reach_broadcasts
+use Rattle.line_rules.specs.Further as line_further
 
 -- fields and slots
 unfoldable pub fields : Unit {0}
@@ -113,7 +122,19 @@ unfolding line_steps.told line_steps.coordinator line_steps.meter line_steps.dep
     line_steps.show line_steps.rekey line_steps.challenge line_steps.activate line_steps.kick line_worlds.note_of
 line = tt
 
+-- commands for the neighbours, discovery, the rules that nodes have about them, and their events
+unfoldable pub further : Unit {0}
+unfolding commands_acks.ack_in commands_grammar.hops_stand commands_grammar.origin_stands commands_grammar.sequence_stands
+    commands_grammar.has_length commands_grammar.is_body commands_reading.broadcast_in commands_paths.is_ask commands_paths.is_tell
+    commands_paths.path_in commands_discovery.is_request commands_discovery.is_beacon commands_discovery.discovery_in
+    rules_replies.reply_of reach_nodes.tells_neighbours reach_broadcasts.with_broadcast_mark
+    reach_broadcasts.with_broadcast_number reach_broadcasts.broadcast_fault reach_broadcasts.goes_further
+    reach_broadcasts.datagram_fault line_further.beside_after line_further.checks line_further.bcast line_further.path
+    line_further.scan line_further.choose line_further.comes line_further.delivers line_further.injects line_further.ticks
+    line_further.restarts_further
+further = tt
+
 -- all of them: a script is computed where this word is open
 unfoldable pub computed : Unit {0}
-unfolding fields frames units messages joining packets routes pieces rules line
+unfolding fields frames units messages joining packets routes pieces rules line further
 computed = tt

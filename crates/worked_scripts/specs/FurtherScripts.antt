@@ -8,22 +8,16 @@ use Rattle.line_rules.specs.declared.event.Event.TheVariants.{Coordinator, Meter
 use Rattle.line_rules.specs.declared.happenings.AgentLine.{AgentLine}
 use Rattle.line_rules.specs.declared.happenings.BroadcastUp.{BroadcastUp}
 use Rattle.line_rules.specs.declared.happenings.PathLine.{PathLine}
-use Rattle.line_rules.specs.Further.{line_step}
-use Rattle.line_rules.specs.Runs.{Entry, entries_of, one_of}
-use Rattle.line_rules.specs.Worlds.{World, Flight, start, flight_at}
+use Rattle.line_rules.specs.Runs.{Entry, one_of, run}
+use Rattle.line_rules.specs.Worlds.{Flight, start, flight_at}
 use Rattle.worked_scripts.specs.Scripts.{plain, eui, group_key, pair_key, two_meters, world_behind, counted, Counted}
-
--- a run with further reach
-abbrev pub line_run : World → List Event → List Entry
-line_run w [] = []
-line_run w (event ∷ events) = entries_of w event (line_step plain w event) (λ next. line_run next events)
 
 -- the answers after so many events, and what was counted
 abbrev pub line_answers : ℕ → List Event → List Answer
-line_answers count events = map (λ (x : Entry). x.trace.happened.answer) (drop count (line_run start events))
+line_answers count events = map (λ (x : Entry). x.trace.happened.answer) (drop count (run plain start events))
 
 abbrev pub line_counts : List Event → Counted
-line_counts events = counted (world_behind start (line_run start events))
+line_counts events = counted (world_behind start (run plain start events))
 
 -- the lines of a report that further reach has
 abbrev pub bups : List Entry → List BroadcastUp
@@ -40,7 +34,7 @@ paths (x ∷ rest) = one_of x.trace.happened.path ++ paths rest
 
 -- the octets of a flight
 abbrev pub line_octets : List Event → ℕ → Option (List ℕ)
-line_octets events number = option_map (λ (f : Flight). f.octets) (flight_at (world_behind start (line_run start events)) number)
+line_octets events number = option_map (λ (f : Flight). f.octets) (flight_at (world_behind start (run plain start events)) number)
 
 -- # Acknowledged replies
 
@@ -73,7 +67,7 @@ told_to_all = two_meters ++ (Bcast 0 (0xAA ∷ []) ∷ Deliver 1 1 1 ∷ Deliver
 unfoldable pub BroadcastsComeOnce : Type 0
 BroadcastsComeOnce =
     (line_answers 5 told_to_all ≡ said.Sent ∷ said.Bup ∷ said.Bup ∷ said.Old ∷ said.Old ∷ [])
-    × (bups (line_run start told_to_all)
+    × (bups (run plain start told_to_all)
     ≡ record { node = 1; origin = 0; number = 0; octets = 0xAA ∷ [] } ∷ record { node = 2; origin = 0; number = 0; octets = 0xAA ∷ [] } ∷ [])
     × (line_counts told_to_all ≡ record { events = 10; flights = 3; sends = 0; ups = 0; forged = 0 })
 
@@ -93,12 +87,12 @@ of_coordinator = begun_scan ++ (Deliver 1 0 9 ∷ Deliver 4 3 7 ∷ Deliver 2 2 
 unfoldable pub MetersChooseAgents : Type 0
 MetersChooseAgents =
     (line_answers 8 cheapest ≡ said.Scanning ∷ said.Beacon ∷ said.Beacon ∷ said.Beaconed ∷ said.Beaconed ∷ said.Asked ∷ said.Asked ∷ said.NoBeacon ∷ [])
-    × (agents (line_run start cheapest) ≡ record { node = 3; address = 1; total = 6 } ∷ record { node = 3; address = 2; total = 6 } ∷ [])
+    × (agents (run plain start cheapest) ≡ record { node = 3; address = 1; total = 6 } ∷ record { node = 3; address = 2; total = 6 } ∷ [])
     × (line_octets cheapest 1 ≡ Some (0x03 ∷ 0x08 ∷ 0x00 ∷ 0xFF ∷ 0xFF ∷ 0xFF ∷ 0xFF ∷ 0x07 ∷ []))
     × (line_octets cheapest 2 ≡ Some (0x00 ∷ 0x80 ∷ 0x00 ∷ 0x1D ∷ 0x78 ∷ 0x01 ∷ 0x00 ∷ 0xFF ∷ 0x8F ∷ 0x00 ∷ 0x00 ∷ 0x00 ∷ 0x05 ∷ []))
     × (line_counts cheapest ≡ record { events = 16; flights = 5; sends = 0; ups = 0; forged = 0 })
     × (line_answers 13 of_coordinator ≡ said.Beacon ∷ said.Beaconed ∷ said.NotScanning ∷ said.Asked ∷ [])
-    × (agents (line_run start of_coordinator) ≡ record { node = 3; address = 0; total = 7 } ∷ [])
+    × (agents (run plain start of_coordinator) ≡ record { node = 3; address = 0; total = 7 } ∷ [])
 
 -- # Paths
 
@@ -115,6 +109,6 @@ unfoldable pub PathsAreTold : Type 0
 PathsAreTold =
     (line_answers 7 walked
     ≡ said.Waiting ∷ said.Relayed ∷ said.Answered ∷ said.Relayed ∷ said.Learned ∷ said.Traced ∷ said.Relayed ∷ said.Answered ∷ said.Relayed ∷ said.Path ∷ [])
-    × (paths (line_run start walked) ≡ record { node = 0; walk = 0 ∷ 1 ∷ 2 ∷ [] } ∷ [])
+    × (paths (run plain start walked) ≡ record { node = 0; walk = 0 ∷ 1 ∷ 2 ∷ [] } ∷ [])
     × (line_counts walked ≡ record { events = 17; flights = 9; sends = 1; ups = 0; forged = 0 })
     × (line_answers 12 broken ≡ said.Traced ∷ said.Broken ∷ said.NoRoute ∷ [])

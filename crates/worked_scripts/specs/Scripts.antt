@@ -38,7 +38,8 @@ use Rattle.line_rules.specs.declared.happenings.Handed.{Handed}
 use Rattle.line_rules.specs.declared.happenings.Admission.{Admission}
 use Rattle.node_rules.specs.declared.shown.Shown.{Shown}
 use Rattle.line_rules.specs.declared.event.StepFault.{StepFault}
-use Rattle.line_rules.specs.Steps.{Step, step}
+use Rattle.line_rules.specs.Further.{line_step}
+use Rattle.line_rules.specs.Steps.{Step}
 use Rattle.line_rules.specs.Runs.{Entry, run, one_of}
 
 -- # Plain ciphers
@@ -289,7 +290,7 @@ fault_by (Err fault) = Some fault
 
 -- why an event is not taken after a script
 abbrev pub fault_after : List Event → Event → Option StepFault
-fault_after events event = fault_by (step plain (world_behind start (run plain start events)) event)
+fault_after events event = fault_by (line_step plain (world_behind start (run plain start events)) event)
 
 -- # What is left after a script
 

@@ -1,5 +1,5 @@
 -- The law, by custody along a run.
-use Rattle.line_laws.proofs.UpsSent.{every_up}
+use Rattle.line_laws.proofs.FurtherUps.{every_up}
 use Rattle.line_laws.proofs.laws.every_datagram_was_sent.Goals as goal
 
 pub returns : goal.returns

@@ -1,5 +1,5 @@
 -- The law, by the traversal of runs.
-use Rattle.line_laws.proofs.MarkSteps.{every_mark}
+use Rattle.line_laws.proofs.LawRuns.{every_mark}
 use Rattle.line_laws.proofs.laws.every_mark_rises.Goals as goal
 
 pub returns : goal.returns

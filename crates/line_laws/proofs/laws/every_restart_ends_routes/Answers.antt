@@ -1,5 +1,5 @@
 -- The law, by the traversal of runs.
-use Rattle.line_laws.proofs.RestartRuns.{every_restart_ends}
+use Rattle.line_laws.proofs.LawRuns.{every_restart_ends}
 use Rattle.line_laws.proofs.laws.every_restart_ends_routes.Goals as goal
 
 pub returns : goal.returns

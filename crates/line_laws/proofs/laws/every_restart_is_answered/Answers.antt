@@ -1,5 +1,5 @@
 -- The law, by the traversal of runs.
-use Rattle.line_laws.proofs.Running.{every_restart}
+use Rattle.line_laws.proofs.LawRuns.{every_restart}
 use Rattle.line_laws.proofs.laws.every_restart_is_answered.Goals as goal
 
 pub returns : goal.returns

@@ -1,6 +1,6 @@
 -- The law, by the traversal of runs.
-use Rattle.line_laws.proofs.NetworkSizes.{every_size}
-use Rattle.line_laws.proofs.Running.{every_run}
+use Rattle.line_laws.proofs.FurtherRestarts.{every_size}
+use Rattle.line_laws.proofs.LawRuns.{every_run}
 use Rattle.line_laws.proofs.laws.every_run_is_sized.Goals as goal
 
 pub returns-clause-network : goal.returns-clause-network

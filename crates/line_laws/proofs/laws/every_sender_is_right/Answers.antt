@@ -1,5 +1,5 @@
 -- The law, by the traversal of runs.
-use Rattle.line_laws.proofs.NonceRuns.{every_sender}
+use Rattle.line_laws.proofs.LawRuns.{every_sender}
 use Rattle.line_laws.proofs.laws.every_sender_is_right.Goals as goal
 
 pub returns : goal.returns

@@ -1,5 +1,5 @@
 -- The law, by the traversal of runs.
-use Rattle.line_laws.proofs.TagRuns.{every_tag}
+use Rattle.line_laws.proofs.LawRuns.{every_tag}
 use Rattle.line_laws.proofs.laws.every_tag_rises.Goals as goal
 
 pub returns : goal.returns

@@ -1,0 +1,121 @@
+-- What a run of the network with further reach hands up before it is forged was sent, and nothing is handed up twice, where its traces are right.
+use Rattle.std.proofs.Common.{zero-le, ◌≡◌, ℕ, ◌+◌, ◌<◌, List, [], ◌∷◌, ◌++◌, length, Option, Some, None, append-nil, refl, sym, ap, ◌∙◌, subst}
+use Rattle.std.proofs.Common.{arith}
+use Rattle.std.specs.Prelude.{◌&&◌, not, All, AllPairs, IfSome, is_some, slice_get}
+use Rattle.std.specs.Option.{option_to_list}
+use Rattle.std.proofs.lemmas.List.{append_assoc, length-append}
+use Rattle.std.proofs.lemmas.List.Elements.{All-head, All-nil, All-push, All-tail}
+use Rattle.node_rules.specs.Ciphers.{network}
+use Rattle.node_rules.proofs.NetworkOpens.{network_opens_again}
+use Rattle.line_rules.specs.declared.event.Event.{Event}
+use Rattle.line_rules.specs.declared.event.Event.TheVariants as events
+use Rattle.line_rules.specs.declared.happenings.Handed.{Handed}
+use Rattle.line_rules.specs.Events.{AreEvents, IsEvent}
+use Rattle.line_rules.specs.Runs.{Entry, IsRun, events_of, one_of, sends as sends_of, ups as ups_of}
+use Rattle.line_rules.specs.SafeRuns.{IsNew, WasSent}
+use Rattle.line_rules.specs.Traces.{AreTracedRight, ComesTo, CountsRight, is_broadcast, is_up}
+use Rattle.line_rules.specs.Steps.{is_taken}
+use Rattle.line_rules.specs.Worlds.{World, Sending, start}
+use Rattle.line_laws.specs.InCustody.{Custody, FlightIsOf, SentUnder, sent_as}
+use Rattle.line_laws.specs.Letters.{IsFlight}
+use Rattle.line_laws.specs.Live.{live}
+use Rattle.line_laws.specs.Ranges.{NodeRanged}
+use Rattle.line_laws.specs.Tags.{TagRises}
+use Rattle.line_laws.specs.Ups.{EveryDatagramWasSent, UpsAreSentAfter}
+use Rattle.line_laws.proofs.CustodyHomes.{HomedAlong, homed_here}
+use Rattle.line_laws.proofs.CustodyRuns.{After, is_new, none_lists, noted, number_at, slice_middle, was_sent}
+use Rattle.line_laws.proofs.FurtherCustody.{Done, line_done}
+use Rattle.line_laws.proofs.FurtherHomes.{falls, reach_homes}
+use Rattle.line_laws.proofs.FurtherOctets.{every_flight}
+use Rattle.line_laws.proofs.FurtherStates.{Sound, sound_on, start_sound}
+use Rattle.line_laws.proofs.IssueRuns.{all_of_one}
+use Rattle.line_laws.proofs.LawRuns.{every_count, every_send, every_tag, every_trace}
+use Rattle.line_laws.proofs.Readings.{network_ranges}
+
+none_some : {A : Type 0} (x : A) → None ≡ Some x → ⊥
+none_some x e = cc
+
+one_list : {A : Type 0} (o : Option A) → option_to_list o ≡ one_of o
+one_list None = refl
+one_list (Some a) = refl
+
+module _ (home : ℕ → ℕ) (apart : (i j : ℕ) → home i ≡ home j → i ≡ j) (first : home 0 ≡ 0) (sent : List Sending) (rises : AllPairs TagRises sent)
+    (some : All (λ (s : Sending). 0 < length s.datagram) sent) where
+  -- a datagram that was handed up has a note and octets
+  abbrev IsNoted : Handed → Type 0
+  IsNoted u = (0 < u.note) × (0 < length u.octets)
+
+  abbrev AfterIt : World → Event → List Handed → World → Option Handed → Type 0
+  AfterIt w event before v up = After network network_opens_again network_ranges live (λ w f e. e) home apart sent rises some w event before v up
+
+  ups_from : (w : World) (before : List Entry) → Sound w before → w.sends ≡ length (sends_of before)
+      → Custody network live (SentUnder home sent) home w (ups_of before) → All IsNoted (ups_of before) → (entries : List Entry) → AreEvents (events_of entries)
+      → IsRun network w entries → sent ≡ sends_of before ++ sends_of entries → HomedAlong home w entries → CountsRight w entries → AreTracedRight w entries
+      → UpsAreSentAfter before entries
+  ups_from w before o count c all [] says run same homed counts traced = tt
+  ups_from w before o count c all (x ∷ xs) says run same homed counts traced = λ honest.
+      let event = All-head IsEvent x.event (events_of xs) says in
+      let done = subst (Done home apart sent rises some w (ups_of before) c o.stands.ok o.stands.speaks o.ranged before o.keyed first homed.0 x.event) run.2
+      (line_done home apart sent rises some w (ups_of before) c o.stands.ok o.stands.speaks o.ranged before o.keyed first homed.0 o.stands.logs x.event event)
+      in
+      let next : AfterIt w x.event (ups_of before) x.after x.trace.happened.up =
+      done (falls w before o x event run.2 honest) (homed_here home x.after xs (homed.1 honest)) traced.0.up_at is_sent honest in
+      let ups_now : ups_of before ++ option_to_list x.trace.happened.up ≡ ups_of (before ++ x ∷ []) =
+      ap (λ (us : List Handed). ups_of before ++ us) (one_list x.trace.happened.up) ∙ sym (all_of_one (λ d. one_of d.happened.up) before x) in
+      let sends_now : sends_of (before ++ x ∷ []) ≡ sends_of before ++ one_of x.trace.sent = all_of_one (λ d. one_of d.sent) before x in
+      let longer = length-append (sends_of before) (one_of x.trace.sent) in
+      let adds = counts.0.sends in
+      let length_now : length (sends_of (before ++ x ∷ [])) ≡ length (sends_of before ++ one_of x.trace.sent) = ap length sends_now in (
+        by_up x.trace.happened.up refl next traced.0.sent traced.0.up traced.0.up_at adds,
+        ups_from x.after (before ++ x ∷ []) (sound_on w before o x event run.2 honest) (omega arith)
+            (subst (Custody network live (SentUnder home sent) home x.after) ups_now next.custody)
+            (subst (All IsNoted) ups_now (all_noted x.trace.happened.up next)) xs (All-tail IsEvent x.event (events_of xs) says) run.3
+            (same ∙ sym (append_assoc (sends_of before) (one_of x.trace.sent) (sends_of xs)) ∙ ap (λ (ss : List Sending). ss ++ sends_of xs) (sym sends_now))
+            (homed.1 honest) counts.1 traced.1,
+      )
+    where
+      is_sent : (s : Sending) → x.trace.sent ≡ Some s → SentUnder home sent (w.sends + 1) (sent_as home s)
+      is_sent s e =
+          let all_sends : sent ≡ sends_of before ++ s ∷ sends_of xs = same ∙ ap (λ (q : Option Sending). sends_of before ++ (one_of q ++ sends_of xs)) e in
+          let there : slice_get sent (length (sends_of before)) ≡ Some s = ap (λ ss. slice_get ss (length (sends_of before))) all_sends
+          ∙ slice_middle (sends_of before) (sends_of xs) s in
+          record { sending = s; is = number_at sent w.sends s (ap (slice_get sent) count ∙ there); of = refl }
+
+      all_noted : (p : Option Handed) → AfterIt w x.event (ups_of before) x.after p → All IsNoted (ups_of before ++ option_to_list p)
+      all_noted None h = subst (All IsNoted) (sym (append-nil (ups_of before))) all
+      all_noted (Some u) h = All-push IsNoted (ups_of before) u all (noted network network_opens_again network_ranges live (λ w f e. e) home apart sent rises
+          some w x.event u (h.handed u refl))
+
+      by_up : (p : Option Handed) → x.trace.happened.up ≡ p → AfterIt w x.event (ups_of before) x.after p
+          → is_some x.trace.sent ≡ (is_taken x.trace.happened.answer && not (is_broadcast x.event)) → is_some p ≡ is_up x.trace.happened.answer
+          → IfSome p (λ (u : Handed). ComesTo x.event u.node)
+          → x.after.sends ≡ w.sends + length (one_of x.trace.sent) → IfSome p (λ (up : Handed). WasSent up (sends_of before) × IsNew up (ups_of before))
+      by_up None e h st ut at adds = tt
+      by_up (Some u) e h st ut at adds =
+          let none : x.trace.sent ≡ None = none_lists network network_opens_again network_ranges live (λ w f e. e) home apart sent rises some x.trace.sent
+          (Some u) x.trace.happened.answer (not (is_broadcast x.event)) st ut u refl in
+          let zero_more : length (one_of x.trace.sent) ≡ 0 = ap (λ (q : Option Sending). length (one_of q)) none in
+          let up = h.handed u refl in (
+            was_sent network network_opens_again network_ranges live (λ w f e. e) home apart sent rises some w x.after x.event u (ups_of before)
+                (sends_of before) (sends_of (x ∷ xs)) same (omega arith) up at h.custody,
+            is_new network network_opens_again network_ranges live (λ w f e. e) home apart sent rises some x.after u (ups_of before) all
+                (noted network network_opens_again network_ranges live (λ w f e. e) home apart sent rises some w x.event u up) h.custody,
+          )
+
+-- in every run of the network
+pub every_up : EveryDatagramWasSent
+every_up entries r =
+    let fly = every_flight entries r in
+    let traced = every_trace network network_ranges entries r fly in
+    let h = reach_homes start [] start_sound entries r.events r.run in
+    ups_from h.home h.apart h.first (sends_of entries) (every_tag network network_ranges entries r fly) (every_send network network_ranges entries r fly)
+    start [] start_sound refl
+    (record {
+      flights = All-nil (IsFlight network);
+      ranged = All-nil NodeRanged;
+      sent = All-nil (FlightIsOf network (SentUnder h.home (sends_of entries)));
+      nodes = λ number x e. absurd (none_some x e);
+      places = record { at_most = λ n i some. zero-le };
+    })
+    (All-nil (λ (u : Handed). (0 < u.note) × (0 < length u.octets))) entries r.events r.run refl h.along
+    (every_count network network_ranges entries r fly) traced

@@ -1,6 +1,0 @@
--- The law, by the ways that events are made.
-use Rattle.line_laws.proofs.FurtherTellings.{line_steps_spell}
-use Rattle.line_laws.proofs.laws.line_steps_spell.Goals as goal
-
-pub returns : goal.returns
-returns c = line_steps_spell

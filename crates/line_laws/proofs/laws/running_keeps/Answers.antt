@@ -1,6 +1,0 @@
--- The law, by each part that is kept.
-use Rattle.line_laws.proofs.LaterKeeps.{running_keeps}
-use Rattle.line_laws.proofs.laws.running_keeps.Goals as goal
-
-pub returns : goal.returns
-returns c = running_keeps
