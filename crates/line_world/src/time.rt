@@ -11,6 +11,7 @@ ghost use Rattle.line_world.specs.Steps.{Steps};
 
 use crate::line::Line;
 use crate::world::Space;
+use broadcast_log::BroadcastLog;
 use line_rules::{Answer, Happenings, StepFault};
 use node_rules::ShownRef;
 
@@ -27,7 +28,24 @@ impl Line {
         }
         self.clock += u64::from(seconds);
         self.nodes.tick(self.clock);
+        self.tick_beside();
         Ok(self.answered(Answer::Ticked))
+    }
+
+    // Neighbours that have been listed for long enough are let go, and those that have not acknowledged in time are listed.
+    fn tick_beside(&mut self) {
+        let now = self.clock;
+        for beside in &mut self.beside {
+            beside.checks.tick(now);
+        }
+    }
+
+    // Of what a node holds beside its memory the log alone is left, as its store gives it.
+    fn restart_beside(&mut self, node: usize, log: BroadcastLog) {
+        let beside = &mut self.beside[node];
+        beside.checks.clear();
+        beside.log = log;
+        beside.scan.clear();
     }
 
     /// A node restarts.
@@ -38,6 +56,10 @@ impl Line {
             (rules.restart network (world_of self.old) node) }
     {
         let number = self.node(node)?;
+        let Ok(log) = self.nodes.open_log(number) else {
+            unreachable!()
+        };
+        self.restart_beside(number, log);
         let answer = self.nodes.restart(number);
         Ok(self.answered(answer))
     }

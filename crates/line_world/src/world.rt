@@ -114,6 +114,7 @@ impl World {
                 done: 0,
                 checks_on: false,
                 beside: Vec::new(alloc),
+                body: FrameBuf::new(),
                 out: Out::new(),
             },
         }
@@ -201,11 +202,11 @@ impl World {
             Event::Activate { node, index } => self.line.activate(*node, *index),
             Event::Kick { node } => self.line.kick(*node),
             Event::Show { node } => self.line.show(*node, space),
-            Event::Checks => Err(StepFault::Setup),
-            Event::Bcast { .. } => Err(StepFault::Setup),
-            Event::Scan { .. } => Err(StepFault::Setup),
-            Event::Choose { .. } => Err(StepFault::Setup),
-            Event::Path { .. } => Err(StepFault::Setup),
+            Event::Checks => self.line.checks(),
+            Event::Bcast { node, datagram } => self.line.bcast(*node, datagram.octets()),
+            Event::Scan { node } => self.line.scan(*node),
+            Event::Choose { node, k } => self.line.choose(*node, *k),
+            Event::Path { from, to } => self.line.path(*from, *to),
         }
     }
 }

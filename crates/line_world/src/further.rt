@@ -1,0 +1,330 @@
+//! Checks of neighbours, broadcasts and path requests.
+ghost use Rattle.std.specs.Prelude.{◌≡◌};
+
+use crate::line::Line;
+use crate::nodes::{CommandRef, Reception, command_on};
+use line_flights::Origin;
+use line_rules::{Answer, Happenings, StepFault};
+use loadng_messages::{Message, read_message};
+use mesh_header::{Unit, read_unit};
+use neighbour_checks::Checks;
+use node_rules::{Accepted, LocalRefusal, Path, Reply};
+use plc_base::{DatagramBuf, LinkCost, Short};
+use reach_rules::{AskRefusal, BroadcastRefusal};
+
+fn broadcast_word(sent: Result<(), BroadcastRefusal>) -> Answer {
+    match sent {
+        Ok(()) => Answer::Sent,
+        Err(BroadcastRefusal::Halted) => Answer::Halted,
+        Err(BroadcastRefusal::NotJoined) => Answer::NotJoined,
+        Err(BroadcastRefusal::BadSize) => Answer::BadSize,
+        Err(BroadcastRefusal::NumberSpent) => Answer::NumberSpent,
+        Err(BroadcastRefusal::CounterSpent) => Answer::CounterSpent,
+        Err(BroadcastRefusal::Store) => Answer::Store,
+    }
+}
+
+fn ask_word(asked: Result<(), AskRefusal>) -> Answer {
+    match asked {
+        Ok(()) => Answer::Traced,
+        Err(AskRefusal::Halted) => Answer::Halted,
+        Err(AskRefusal::NotJoined) => Answer::NotJoined,
+        Err(AskRefusal::ToSelf) => Answer::ToSelf,
+        Err(AskRefusal::NoRoute) => Answer::NoRoute,
+        Err(AskRefusal::CounterSpent) => Answer::CounterSpent,
+        Err(AskRefusal::Store) => Answer::Store,
+    }
+}
+
+// The unit of an accepted frame, if it carries one.
+fn unit_of<'a>(got: &Accepted<'a>) -> Option<Unit<'a>> {
+    match read_unit(got.payload.octets()) {
+        Ok(unit) => Some(unit),
+        Err(_) => None,
+    }
+}
+
+// The message that the body of a command 01 is, if it is one.
+fn message_in(code: u8, body: &[u8]) -> Option<Message> {
+    if code != 1 {
+        return None;
+    }
+    match read_message(body) {
+        Ok(message) => Some(message),
+        Err(_) => None,
+    }
+}
+
+// The route message that a unit carries, if it carries one.
+fn message_of(unit: &Option<Unit<'_>>) -> Option<Message> {
+    match unit {
+        Some(Unit::Local { code, body }) => message_in(*code, body.octets()),
+        Some(Unit::Whole { .. }) => None,
+        Some(Unit::Part { .. }) => None,
+        Some(Unit::Carried { .. }) => None,
+        None => None,
+    }
+}
+
+// Whether a message is the request of a listed neighbour.
+fn asks_unbelieved(checks: &Checks, from: Short, message: &Option<Message>) -> bool {
+    match message {
+        Some(Message::Rreq { .. }) => checks.listed(from),
+        Some(Message::Rrep { .. }) => false,
+        Some(Message::Rerr { .. }) => false,
+        None => false,
+    }
+}
+
+// Whether a frame is the request to all of a listed neighbour.
+fn is_unbelieved(checks: &Checks, path: &Path, message: &Option<Message>) -> bool {
+    match path {
+        Path::Sealed {
+            from, to_all: true, ..
+        } => asks_unbelieved(checks, *from, message),
+        Path::Sealed { to_all: false, .. } => false,
+        Path::Up { .. } => false,
+        Path::Down { .. } => false,
+    }
+}
+
+// The acknowledgement that a reply is due, where it is taken.
+fn due_of(from: Short, message: &Option<Message>) -> Option<Reply> {
+    match message {
+        Some(Message::Rrep { number, origin, .. }) => Some(Reply {
+            to: from,
+            number: *number,
+            origin: *origin,
+        }),
+        Some(Message::Rreq { .. }) => None,
+        Some(Message::Rerr { .. }) => None,
+        None => None,
+    }
+}
+
+// Whether a reply was taken.
+fn is_reply_taken(answer: Answer) -> bool {
+    matches!(answer, Answer::Learned | Answer::Relayed)
+}
+
+// The acknowledgement that is due for a frame: of a reply that came to one node and was taken.
+fn due(path: &Path, message: &Option<Message>, answer: Answer) -> Option<Reply> {
+    if !is_reply_taken(answer) {
+        return None;
+    }
+    match path {
+        Path::Sealed {
+            from,
+            to_all: false,
+            ..
+        } => due_of(*from, message),
+        Path::Sealed { to_all: true, .. } => None,
+        Path::Up { .. } => None,
+        Path::Down { .. } => None,
+    }
+}
+
+// Nothing came up, and a write failed.
+fn failed() -> Reception<'static> {
+    Reception {
+        answer: Answer::Store,
+        up: None,
+        took: false,
+        done: None,
+    }
+}
+
+impl Line {
+    /// Neighbours are checked from now on.
+    pub(crate) fn checks(&mut self) -> Result<Happenings<'static>, StepFault> {
+        if !self.takes_setup() {
+            return Err(StepFault::Setup);
+        }
+        if self.checks_on {
+            return Err(StepFault::Setup);
+        }
+        self.set_up();
+        self.checks_on = true;
+        Ok(self.happened(Answer::Set))
+    }
+
+    /// A node sends a datagram to all.
+    pub(crate) fn bcast(
+        &mut self,
+        node: u32,
+        datagram: &[u8],
+    ) -> Result<Happenings<'static>, StepFault> {
+        let number = self.node(node)?;
+        self.reserve()?;
+        let sent = self.nodes.broadcast(
+            number,
+            &mut self.beside[number].log,
+            datagram,
+            &mut self.body,
+            &mut self.out,
+        );
+        Ok(self.acted(number, broadcast_word(sent)))
+    }
+
+    /// A node asks for the way to a node.
+    pub(crate) fn path(&mut self, from: u32, to: u32) -> Result<Happenings<'static>, StepFault> {
+        let from = self.node(from)?;
+        let to = self.node(to)?;
+        let Some(target) = self.nodes.address(to) else {
+            return Ok(self.answered(Answer::NoAddress));
+        };
+        self.reserve()?;
+        let asked = self.nodes.ask(
+            from,
+            &mut self.beside[from].log,
+            target,
+            &mut self.body,
+            &mut self.out,
+        );
+        Ok(self.acted(from, ask_word(asked)))
+    }
+
+    // The request of a listed neighbour is dropped.
+    fn unbelieved(&mut self, node: usize, origin: Origin) -> Happenings<'static> {
+        self.out.clear();
+        let forged = self.is_forged(origin);
+        let told = Reception {
+            answer: Answer::Blacklisted,
+            up: None,
+            took: false,
+            done: None,
+        };
+        self.received(node, forged, &told)
+    }
+
+    // A node hears a command for its neighbours.
+    fn commanded<'a>(
+        &mut self,
+        node: usize,
+        got: &Accepted<'a>,
+        command: &CommandRef<'a>,
+        origin: Origin,
+        cost: LinkCost,
+        datagram: &'a mut DatagramBuf,
+    ) -> Happenings<'a> {
+        let told = self.nodes.hear(
+            node,
+            got,
+            cost,
+            origin.note,
+            self.clock,
+            datagram,
+            &mut self.out,
+        );
+        let forged = self.is_forged(origin);
+        let commanded = self.nodes.hear_command(
+            node,
+            &mut self.beside[node],
+            command,
+            &mut self.body,
+            &mut self.out,
+        );
+        let happened = self.received(node, forged, &told);
+        Happenings {
+            answer: commanded.answer,
+            forged,
+            up: happened.up,
+            bup: commanded.bup,
+            agent: None,
+            path: commanded.path,
+            grant: None,
+            took: happened.took,
+            done: happened.done,
+            shown: None,
+            first_flight: happened.first_flight,
+            flights: happened.flights,
+        }
+    }
+
+    // The reply that the node sent to a frame begins a check. Joining commands and units over the mesh bring none.
+    fn begin_check(&mut self, node: usize, message: &Option<Message>) {
+        if message.is_none() {
+            return;
+        }
+        let Some(reply) = self.nodes.last_reply(node) else {
+            return;
+        };
+        self.beside[node]
+            .checks
+            .sent(reply.to, reply.number, reply.origin, self.clock);
+    }
+
+    // An acknowledgement goes out, if one is due. Whether no write failed by it.
+    fn acknowledged(&mut self, node: usize, due: Option<Reply>) -> bool {
+        let Some(reply) = due else {
+            return true;
+        };
+        let sent = self
+            .nodes
+            .acknowledge(node, reply, &mut self.body, &mut self.out);
+        !matches!(sent, Err(LocalRefusal::Store))
+    }
+
+    // A node hears a frame where neighbours are checked.
+    fn checked<'a>(
+        &mut self,
+        node: usize,
+        got: &Accepted<'a>,
+        message: &Option<Message>,
+        origin: Origin,
+        cost: LinkCost,
+        datagram: &'a mut DatagramBuf,
+    ) -> Happenings<'a> {
+        let told = self.nodes.hear(
+            node,
+            got,
+            cost,
+            origin.note,
+            self.clock,
+            datagram,
+            &mut self.out,
+        );
+        let forged = self.is_forged(origin);
+        if !self.acknowledged(node, due(&got.path, message, told.answer)) {
+            return self.received(node, forged, &failed());
+        }
+        self.begin_check(node, message);
+        self.received(node, forged, &told)
+    }
+
+    // A frame that carries no command for the neighbours, where these are checked.
+    fn heard_checked<'a>(
+        &mut self,
+        node: usize,
+        got: &Accepted<'a>,
+        message: &Option<Message>,
+        origin: Origin,
+        cost: LinkCost,
+        datagram: &'a mut DatagramBuf,
+    ) -> Happenings<'a> {
+        if is_unbelieved(&self.beside[node].checks, &got.path, message) {
+            return self.unbelieved(node, origin);
+        }
+        self.checked(node, got, message, origin, cost, datagram)
+    }
+
+    /// A node hears a frame that it accepted, under the note with which its octets were sent.
+    pub(crate) fn heard_further<'a>(
+        &mut self,
+        node: usize,
+        got: &Accepted<'a>,
+        origin: Origin,
+        cost: LinkCost,
+        datagram: &'a mut DatagramBuf,
+    ) -> Happenings<'a> {
+        let unit = unit_of(got);
+        if let Some(command) = command_on(&got.path, &unit) {
+            return self.commanded(node, got, &command, origin, cost, datagram);
+        }
+        if self.checks_on {
+            let message = message_of(&unit);
+            return self.heard_checked(node, got, &message, origin, cost, datagram);
+        }
+        self.heard(node, got, origin, cost, datagram)
+    }
+}
