@@ -5,6 +5,8 @@ ghost use Rattle.node_rules.specs.Ciphers.{network};
 ghost use Rattle.line_rules.specs.declared.event.TheConstants.{MAX_EVENTS};
 ghost use Rattle.line_rules.specs.Answers as words;
 ghost use Rattle.line_rules.specs.Steps as rules;
+ghost use Rattle.line_rules.specs.Further as further;
+ghost use Rattle.line_rules.specs.Logs.{LogsKept};
 ghost use Rattle.line_rules.specs.Worlds.{is_forged_tag};
 ghost use Rattle.line_world.specs.Receiving.{MayHear};
 ghost use Rattle.line_world.specs.Arrivals.{comes_so, done_in, forged_in, handed_in, hears_so, in_run, left_of, note_in, said_of, taker_in};
@@ -133,7 +135,12 @@ impl Line {
     }
 
     // What a frame led to, for the world and for the report.
-    pub(crate) fn received<'a>(&mut self, node: usize, forged: bool, told: &Reception<'a>) -> Happenings<'a>
+    pub(crate) fn received<'a>(
+        &mut self,
+        node: usize,
+        forged: bool,
+        told: &Reception<'a>,
+    ) -> Happenings<'a>
         requires room { HasRoom self.old }
         requires node { node < 1000 }
         requires bounds { IsBounded (in_run (world_of self.old)) }
@@ -204,6 +211,7 @@ impl Line {
         requires room { HasRoom self.old }
         requires there { node < length self.old.nodes }
         requires accepted { IfOk accepted.now (λ got. IfSome (slice_get self.old.nodes node) (λ x. MayHear x got)) }
+        requires logs { LogsKept (world_of self.old) }
         requires bounds { IsBounded (in_run (world_of self.old)) }
         requires events { self.old.events < MAX_EVENTS }
         ensures { IfSome (slice_get self.old.nodes node) (λ x. Steps true (world_of self.old) (Ok result)
@@ -224,9 +232,10 @@ impl Line {
         space: &'a mut Space,
     ) -> Result<Happenings<'a>, StepFault>
         requires bounds { IsBounded (world_of self.old) }
+        requires logs { LogsKept (world_of self.old) }
         requires events { self.old.events < MAX_EVENTS }
         ensures { Steps true (world_of self.old) result (world_of self.new)
-            (rules.deliver network (world_of self.old) flight node cost) }
+            (further.delivers network (world_of self.old) flight node cost) }
     {
         let number = self.node(node)?;
         if self.flights.flying(flight).is_none() {
@@ -255,9 +264,10 @@ impl Line {
         space: &'a mut Space,
     ) -> Result<Happenings<'a>, StepFault>
         requires bounds { IsBounded (world_of self.old) }
+        requires logs { LogsKept (world_of self.old) }
         requires events { self.old.events < MAX_EVENTS }
         ensures { Steps true (world_of self.old) result (world_of self.new)
-            (rules.inject network (world_of self.old) node cost octets.now) }
+            (further.injects network (world_of self.old) node cost octets.now) }
     {
         let number = self.node(node)?;
         self.reserve()?;

@@ -1,5 +1,18 @@
 //! Frames of discovery, and meters that scan and choose an agent.
-ghost use Rattle.std.specs.Prelude.{◌≡◌};
+ghost use Rattle.std.specs.Prelude.{◌≡◌, ◌<◌, ◌≤◌, ◌∷◌, [], ℕ, true, length, Ok, Some, None, IfSome, IsSome, slice_get};
+ghost use Rattle.node_rules.specs.Carrying.{nothing};
+ghost use Rattle.node_rules.specs.Ciphers.{network};
+ghost use Rattle.pan_discovery.specs.Messages.{discovery_spelling};
+ghost use Rattle.reach_rules.specs.Beacons as beacons;
+ghost use Rattle.line_rules.specs.declared.event.TheConstants.{MAX_EVENTS};
+ghost use Rattle.line_rules.specs.Answers as words;
+ghost use Rattle.line_rules.specs.Further as further;
+ghost use Rattle.line_rules.specs.Steps as rules;
+ghost use Rattle.line_world.specs.Bounds.{IsBounded};
+ghost use Rattle.node_rules.specs.Memory.{address_of};
+ghost use Rattle.line_world.specs.Discovering.{HearsBeacon, TakesBeacon, discovered_in, discovers_in, flies_in, joins_in};
+ghost use Rattle.line_world.specs.Lines.{HasRoom, world_of};
+ghost use Rattle.line_world.specs.Steps.{Steps};
 
 use crate::line::Line;
 use line_rules::{AgentLine, Answer, Happenings, StepFault};
@@ -9,7 +22,9 @@ use plc_base::{LinkCost, Out, PAN, Short};
 
 /// Whether octets are heard as discovery: a beacon's type or a MAC command's stands in the lowest three bits (IEEE 802.15.4-2006,
 /// 7.2.1.1.1).
-pub(crate) fn is_discovery(octets: &[u8]) -> bool {
+pub(crate) fn is_discovery(octets: &[u8]) -> bool
+    ensures { result ≡ beacons.is_discovery octets.now }
+{
     if octets.is_empty() {
         return false;
     }
@@ -18,7 +33,9 @@ pub(crate) fn is_discovery(octets: &[u8]) -> bool {
 }
 
 // A frame of discovery goes out, and nothing beside it.
-fn give_out(frame: &Discovery, out: &mut Out) {
+fn give_out(frame: &Discovery, out: &mut Out)
+    ensures { out.new ≡ record nothing { frames = record { octets = discovery_spelling frame.now; note = 0; key = None } ∷ [] } }
+{
     out.clear();
     let Some(blank) = out.frames.push_blank() else {
         unreachable!()
@@ -27,7 +44,9 @@ fn give_out(frame: &Discovery, out: &mut Out) {
 }
 
 // The word of a meter that began to join by an agent.
-fn choice_word(asked: Result<(), JoinRefusal>) -> Answer {
+fn choice_word(asked: Result<(), JoinRefusal>) -> Answer
+    ensures { result ≡ words.join_word asked }
+{
     match asked {
         Ok(()) => Answer::Asked,
         Err(JoinRefusal::Halted) => Answer::Halted,
@@ -42,13 +61,29 @@ impl Line {
         node: usize,
         frame: &Discovery,
         answer: Answer,
-    ) -> Happenings<'static> {
+    ) -> Happenings<'static>
+        requires room { HasRoom self.old }
+        requires bounds { IsBounded (world_of self.old) }
+        requires events { self.old.events < MAX_EVENTS }
+        requires there { node < length self.old.nodes }
+        ensures world { world_of self.new ≡ flies_in (world_of self.old) node (Some frame.now) }
+        ensures told { result ≡ record (rules.happened (world_of self.old) answer) { flights = 1 } }
+    {
         give_out(frame, &mut self.out);
         self.acted(node, answer)
     }
 
     // A request is answered by a node that has an address.
-    fn hear_request(&mut self, node: usize) -> Happenings<'static> {
+    fn hear_request(&mut self, node: usize) -> Happenings<'static>
+        requires room { HasRoom self.old }
+        requires bounds { IsBounded (world_of self.old) }
+        requires events { self.old.events < MAX_EVENTS }
+        requires there { node < length self.old.nodes }
+        requires running { IfSome (slice_get self.old.nodes node) (λ x. IsSome x.memory) }
+        ensures { IfSome (slice_get self.old.nodes node) (λ x. IfSome x.memory (λ m. (seq : ℕ)
+            → Steps true (world_of self.old) (Ok result) (world_of self.new)
+            (Ok (discovers_in (world_of self.old) node x.role m.station (Some (Discovery.Request seq)) 0)))) }
+    {
         let Some(own) = self.nodes.address(node) else {
             return self.answered(Answer::NotForMe);
         };
@@ -65,13 +100,11 @@ impl Line {
     }
 
     // A node that has no address takes a beacon into its scan.
-    fn take_beacon(
-        &mut self,
-        node: usize,
-        from: Short,
-        cost: u16,
-        link: LinkCost,
-    ) -> Answer {
+    fn take_beacon(&mut self, node: usize, from: Short, cost: u16, link: LinkCost) -> Answer
+        requires there { node < length self.old.beside.items }
+        ensures { IfSome (slice_get self.old.beside.items node) (λ b. TakesBeacon (world_of self.old) node b from cost link result
+            (world_of self.new)) }
+    {
         if self.beside[node].scan.take(from, cost, link).is_err() {
             return Answer::NotScanning;
         }
@@ -86,7 +119,12 @@ impl Line {
         from: Short,
         cost: u16,
         link: LinkCost,
-    ) -> Answer {
+    ) -> Answer
+        requires bounds { IsBounded (world_of self.old) }
+        requires there { node < length self.old.nodes }
+        ensures { IfSome (slice_get self.old.nodes node) (λ x. IfSome x.memory (λ m.
+            HearsBeacon (world_of self.old) node m.station pan from cost link result (world_of self.new))) }
+    {
         if pan != PAN {
             return Answer::NotForMe;
         }
@@ -107,16 +145,28 @@ impl Line {
         node: usize,
         frame: Option<Discovery>,
         link: LinkCost,
-    ) -> Happenings<'static> {
+    ) -> Happenings<'static>
+        requires room { HasRoom self.old }
+        requires bounds { IsBounded (world_of self.old) }
+        requires events { self.old.events < MAX_EVENTS }
+        requires there { node < length self.old.nodes }
+        ensures { IfSome (slice_get self.old.nodes node) (λ x. Steps true (world_of self.old) (Ok result) (world_of self.new)
+            (Ok (discovered_in (world_of self.old) node x frame link))) }
+    {
         if self.nodes.halted(node) {
             return self.answered(Answer::Halted);
         }
         match frame {
             None => self.answered(Answer::Malformed),
             Some(Discovery::Request { .. }) => self.hear_request(node),
-            Some(Discovery::Beacon {
-                pan, from, cost, ..
-            }) => {
+            Some(
+                Discovery::Beacon {
+                    pan,
+                    from,
+                    cost,
+                    ..
+                },
+            ) => {
                 let answer = self.hear_beacon(node, pan, from, cost, link);
                 self.answered(answer)
             }
@@ -124,7 +174,11 @@ impl Line {
     }
 
     /// A meter begins to scan, and asks for beacons.
-    pub(crate) fn scan(&mut self, node: u32) -> Result<Happenings<'static>, StepFault> {
+    pub(crate) fn scan(&mut self, node: u32) -> Result<Happenings<'static>, StepFault>
+        requires bounds { IsBounded (world_of self.old) }
+        requires events { self.old.events < MAX_EVENTS }
+        ensures { Steps true (world_of self.old) result (world_of self.new) (further.scan (world_of self.old) node) }
+    {
         let number = self.meter_number(node)?;
         self.reserve()?;
         if self.nodes.halted(number) {
@@ -139,7 +193,16 @@ impl Line {
     }
 
     // A meter joins by this agent.
-    fn join_by(&mut self, node: usize, address: Short, total: u32) -> Happenings<'static> {
+    fn join_by(&mut self, node: usize, address: Short, total: u32) -> Happenings<'static>
+        requires room { HasRoom self.old }
+        requires bounds { IsBounded (world_of self.old) }
+        requires events { self.old.events < MAX_EVENTS }
+        requires there { node < length self.old.nodes }
+        requires meter { 1 ≤ node }
+        ensures { IfSome (slice_get self.old.nodes node) (λ x. IfSome x.memory (λ m. address_of m.station ≡ None
+            → IfSome (rules.psk_of x) (λ psk. Steps true (world_of self.old) (Ok result) (world_of self.new)
+            (Ok (joins_in (world_of self.old) node x psk address total))))) }
+    {
         let asked = self.nodes.join(node, address, self.clock, &mut self.out);
         let happened = self.acted(node, choice_word(asked));
         Happenings {
@@ -163,7 +226,13 @@ impl Line {
     }
 
     /// A meter begins to join by the k-th agent that it heard.
-    pub(crate) fn choose(&mut self, node: u32, k: u8) -> Result<Happenings<'static>, StepFault> {
+    pub(crate) fn choose(&mut self, node: u32, k: u8) -> Result<Happenings<'static>, StepFault>
+        requires bounds { IsBounded (world_of self.old) }
+        requires events { self.old.events < MAX_EVENTS }
+        requires first { 1 ≤ k }
+        requires last { k ≤ 16 }
+        ensures { Steps true (world_of self.old) result (world_of self.new) (further.choose network (world_of self.old) node k) }
+    {
         let number = self.meter_number(node)?;
         self.reserve()?;
         if self.nodes.halted(number) {

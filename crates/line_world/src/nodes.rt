@@ -27,8 +27,8 @@ mod time;
 
 use crate::nodes::line_coordinator::LineCoordinator;
 use crate::nodes::meters::Meters;
-use plc_base::{Eui, Key, Short};
 pub(crate) use command::{CommandRef, command_on};
+use plc_base::{Eui, Key, Short};
 pub(crate) use reception::{HandedUp, Reception};
 use std::alloc::Global;
 use std::marker::Model;

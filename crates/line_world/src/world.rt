@@ -74,6 +74,8 @@ pub struct World {
 }
 
 impl Model for World {
+    ghost use Rattle.std.specs.Prelude.{◌×◌};
+    ghost use Rattle.line_rules.specs.Logs.{LogsKept};
     ghost use Rattle.line_rules.specs.Worlds.{World};
     ghost use Rattle.line_world.specs.WorldCodes.{world_code};
     ghost use Rattle.line_world.specs.Bounds.{IsBounded};
@@ -85,14 +87,14 @@ impl Model for World {
 
     ghost view = { λ w. world_of w.line };
 
-    ghost invariant = { λ w. IsBounded (world_of w.line) };
+    ghost invariant = { λ w. IsBounded (world_of w.line) × LogsKept (world_of w.line) };
 }
 
 impl World {
     ghost use Rattle.std.specs.Option.{option_copied, option_map};
     ghost use Rattle.node_rules.specs.Ciphers.{network};
     ghost use Rattle.line_rules.specs.Worlds.{start, flight_at};
-    ghost use Rattle.line_rules.specs.Steps.{step};
+    ghost use Rattle.line_rules.specs.Further.{line_step};
     ghost use Rattle.line_world.specs.Steps.{Gives, HasMemory, takes_memory};
 
     /// A world with no node. It takes no memory.
@@ -167,7 +169,7 @@ impl World {
     ) -> Result<Happenings<'a>, StepFault>
         requires events { self.old.events < MAX_EVENTS }
         requires event { IsEvent event.now }
-        ensures step { Gives self.old result self.new (step network self.old event.now) }
+        ensures step { Gives self.old result self.new (line_step network self.old event.now) }
         ensures memory { HasMemory (takes_memory self.old event.now) result }
     {
         match event {
