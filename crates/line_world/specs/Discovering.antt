@@ -1,5 +1,5 @@
 -- What becomes of frames of discovery, by what the code tests.
-use Rattle.std.specs.Prelude.{◌≡◌, ◌++◌, ℕ, Option, Some, None, Err, if◌then◌else◌, ◌×◌}
+use Rattle.std.specs.Prelude.{◌≡◌, ◌++◌, ℕ, Option, Some, None, Err, if◌then◌else◌}
 use Rattle.plc_base.specs.declared.key.Key.{Key}
 use Rattle.pan_discovery.specs.declared.message.Discovery.{Discovery}
 use Rattle.node_rules.specs.Ciphers.{network}

@@ -1,5 +1,5 @@
 -- What a node does by its further rules, as the line is told.
-use Rattle.std.specs.Prelude.{◌≡◌, ◌×◌, ℕ, List, Option, is_some, Result, Ok, Err, IfNone, IfSome, slice_set, if◌then◌else◌}
+use Rattle.std.specs.Prelude.{◌≡◌, ℕ, List, Option, is_some, Result, Ok, Err, IfNone, IfSome, slice_set, if◌then◌else◌}
 use Rattle.plc_base.specs.declared.out_frame.Out.{Out}
 use Rattle.broadcast_log.specs.declared.broadcast.Broadcast.{Broadcast}
 use Rattle.broadcast_log.specs.Log.{IsKept}

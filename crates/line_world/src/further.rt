@@ -1,5 +1,5 @@
 //! Checks of neighbours, broadcasts and path requests.
-ghost use Rattle.std.specs.Prelude.{◌≡◌, ◌==◌, ◌<◌, ◌≤◌, ◌×◌, true, false, length, Ok, None, Some, IfSome, IsSome, is_some, slice_get, if◌then◌else◌};
+ghost use Rattle.std.specs.Prelude.{◌≡◌, ◌==◌, ◌<◌, ◌≤◌, true, false, length, Ok, None, Some, IfSome, IsSome, is_some, slice_get, if◌then◌else◌};
 ghost use Rattle.std.specs.Option.{option_and_then};
 ghost use Rattle.loadng_messages.specs.Grammar as messages;
 ghost use Rattle.loadng_messages.specs.Reading as reading;

@@ -74,7 +74,6 @@ pub struct World {
 }
 
 impl Model for World {
-    ghost use Rattle.std.specs.Prelude.{◌×◌};
     ghost use Rattle.line_rules.specs.Logs.{LogsKept};
     ghost use Rattle.line_rules.specs.Worlds.{World};
     ghost use Rattle.line_world.specs.WorldCodes.{world_code};

@@ -1,5 +1,5 @@
 //! What the nodes of a line do about acknowledgements, broadcasts, beacons and path requests.
-ghost use Rattle.std.specs.Prelude.{◌≡◌, ◌×◌, ◌<◌, ◌≤◌, ◌+◌, length, Ok, Err, IfSome, IsSome, is_some, not, slice_get};
+ghost use Rattle.std.specs.Prelude.{◌≡◌, ◌<◌, ◌≤◌, ◌+◌, length, Ok, Err, IfSome, IsSome, is_some, not, slice_get};
 ghost use Rattle.std.specs.Option.{option_and_then};
 ghost use Rattle.broadcast_log.specs.Log as logs;
 ghost use Rattle.node_rules.specs.MemoryDrafts.{in_memory};

@@ -1,5 +1,5 @@
 //! What a station does about broadcasts, path requests and acknowledgements, halted or not.
-ghost use Rattle.std.specs.Prelude.{◌≡◌, ◌≢◌, ◌×◌, ◌<◌, ◌≤◌, ◌∷◌, [], false, length, is_some, Ok, Err, Some, None, IfNone, IfSome, IfOk, IsSome, if◌then◌else◌};
+ghost use Rattle.std.specs.Prelude.{◌≡◌, ◌≢◌, ◌<◌, ◌≤◌, ◌∷◌, [], false, length, is_some, Ok, Err, Some, None, IfNone, IfSome, IfOk, IsSome, if◌then◌else◌};
 ghost use Rattle.std.specs.Option.{option_map};
 ghost use Rattle.broadcast_log.specs.Grammar.{spelling};
 ghost use Rattle.broadcast_log.specs.Log.{empty_log, IsKept, numbered_log, admitted_log};
