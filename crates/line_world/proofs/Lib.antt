@@ -14,3 +14,4 @@ mod Taking
 mod Arrivals
 mod Sendings
 mod Settings
+pub mod FurtherPlans

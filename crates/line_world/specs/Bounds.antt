@@ -20,5 +20,4 @@ pub record IsBounded (w : World) : Type 0 where
   pub ups : w.ups ≤ w.events
   pub forged : w.forged ≤ w.events
   pub done : w.done ≤ w.events
-  pub beside : length w.beside ≡ length w.nodes
   pub uncut : w.running ≡ false → All IsUncut w.nodes

@@ -211,6 +211,7 @@ impl Line {
         requires room { HasRoom self.old }
         requires there { node < length self.old.nodes }
         requires accepted { IfOk accepted.now (λ got. IfSome (slice_get self.old.nodes node) (λ x. MayHear x got)) }
+        requires beside { length self.old.beside.items ≡ length self.old.nodes }
         requires logs { LogsKept (world_of self.old) }
         requires bounds { IsBounded (in_run (world_of self.old)) }
         requires events { self.old.events < MAX_EVENTS }
@@ -232,6 +233,7 @@ impl Line {
         space: &'a mut Space,
     ) -> Result<Happenings<'a>, StepFault>
         requires bounds { IsBounded (world_of self.old) }
+        requires beside { length self.old.beside.items ≡ length self.old.nodes }
         requires logs { LogsKept (world_of self.old) }
         requires events { self.old.events < MAX_EVENTS }
         ensures { Steps true (world_of self.old) result (world_of self.new)
@@ -264,6 +266,7 @@ impl Line {
         space: &'a mut Space,
     ) -> Result<Happenings<'a>, StepFault>
         requires bounds { IsBounded (world_of self.old) }
+        requires beside { length self.old.beside.items ≡ length self.old.nodes }
         requires logs { LogsKept (world_of self.old) }
         requires events { self.old.events < MAX_EVENTS }
         ensures { Steps true (world_of self.old) result (world_of self.new)

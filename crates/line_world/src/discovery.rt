@@ -121,6 +121,7 @@ impl Line {
         link: LinkCost,
     ) -> Answer
         requires bounds { IsBounded (world_of self.old) }
+        requires beside { length self.old.beside.items ≡ length self.old.nodes }
         requires there { node < length self.old.nodes }
         ensures { IfSome (slice_get self.old.nodes node) (λ x. IfSome x.memory (λ m.
             HearsBeacon (world_of self.old) node m.station pan from cost link result (world_of self.new))) }
@@ -148,6 +149,7 @@ impl Line {
     ) -> Happenings<'static>
         requires room { HasRoom self.old }
         requires bounds { IsBounded (world_of self.old) }
+        requires beside { length self.old.beside.items ≡ length self.old.nodes }
         requires events { self.old.events < MAX_EVENTS }
         requires there { node < length self.old.nodes }
         ensures { IfSome (slice_get self.old.nodes node) (λ x. Steps true (world_of self.old) (Ok result) (world_of self.new)
@@ -176,6 +178,7 @@ impl Line {
     /// A meter begins to scan, and asks for beacons.
     pub(crate) fn scan(&mut self, node: u32) -> Result<Happenings<'static>, StepFault>
         requires bounds { IsBounded (world_of self.old) }
+        requires beside { length self.old.beside.items ≡ length self.old.nodes }
         requires events { self.old.events < MAX_EVENTS }
         ensures { Steps true (world_of self.old) result (world_of self.new) (further.scan (world_of self.old) node) }
     {
@@ -228,6 +231,7 @@ impl Line {
     /// A meter begins to join by the k-th agent that it heard.
     pub(crate) fn choose(&mut self, node: u32, k: u8) -> Result<Happenings<'static>, StepFault>
         requires bounds { IsBounded (world_of self.old) }
+        requires beside { length self.old.beside.items ≡ length self.old.nodes }
         requires events { self.old.events < MAX_EVENTS }
         requires first { 1 ≤ k }
         requires last { k ≤ 16 }

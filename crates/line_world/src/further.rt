@@ -217,6 +217,7 @@ impl Line {
         datagram: &[u8],
     ) -> Result<Happenings<'static>, StepFault>
         requires bounds { IsBounded (world_of self.old) }
+        requires beside { length self.old.beside.items ≡ length self.old.nodes }
         requires logs { LogsKept (world_of self.old) }
         requires events { self.old.events < MAX_EVENTS }
         ensures { Steps true (world_of self.old) result (world_of self.new)
@@ -237,6 +238,7 @@ impl Line {
     /// A node asks for the way to a node.
     pub(crate) fn path(&mut self, from: u32, to: u32) -> Result<Happenings<'static>, StepFault>
         requires bounds { IsBounded (world_of self.old) }
+        requires beside { length self.old.beside.items ≡ length self.old.nodes }
         requires logs { LogsKept (world_of self.old) }
         requires events { self.old.events < MAX_EVENTS }
         ensures { Steps (has_address (world_of self.old) to) (world_of self.old) result (world_of self.new)
@@ -292,6 +294,7 @@ impl Line {
         requires room { HasRoom self.old }
         requires there { node < length self.old.nodes }
         requires bounds { IsBounded (in_run (world_of self.old)) }
+        requires beside { length self.old.beside.items ≡ length self.old.nodes }
         requires events { self.old.events < MAX_EVENTS }
         requires accepted { IfSome (slice_get self.old.nodes node) (λ x. MayHear x got.now) }
         requires logs { LogsKept (world_of self.old) }
@@ -377,6 +380,7 @@ impl Line {
         requires room { HasRoom self.old }
         requires there { node < length self.old.nodes }
         requires bounds { IsBounded (in_run (world_of self.old)) }
+        requires beside { length self.old.beside.items ≡ length self.old.nodes }
         requires events { self.old.events < MAX_EVENTS }
         requires accepted { IfSome (slice_get self.old.nodes node) (λ x. MayHear x got.now) }
         requires logs { LogsKept (world_of self.old) }
@@ -415,6 +419,7 @@ impl Line {
         requires room { HasRoom self.old }
         requires there { node < length self.old.nodes }
         requires bounds { IsBounded (in_run (world_of self.old)) }
+        requires beside { length self.old.beside.items ≡ length self.old.nodes }
         requires events { self.old.events < MAX_EVENTS }
         requires accepted { IfSome (slice_get self.old.nodes node) (λ x. MayHear x got.now) }
         requires logs { LogsKept (world_of self.old) }
@@ -443,6 +448,7 @@ impl Line {
         requires room { HasRoom self.old }
         requires there { node < length self.old.nodes }
         requires bounds { IsBounded (in_run (world_of self.old)) }
+        requires beside { length self.old.beside.items ≡ length self.old.nodes }
         requires events { self.old.events < MAX_EVENTS }
         requires accepted { IfSome (slice_get self.old.nodes node) (λ x. MayHear x got.now) }
         requires logs { LogsKept (world_of self.old) }

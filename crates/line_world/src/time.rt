@@ -61,6 +61,7 @@ impl Line {
     /// A node restarts.
     pub(crate) fn restart(&mut self, node: u32) -> Result<Happenings<'static>, StepFault>
         requires bounds { IsBounded (world_of self.old) }
+        requires beside { length self.old.beside.items ≡ length self.old.nodes }
         requires logs { LogsKept (world_of self.old) }
         requires events { self.old.events < MAX_EVENTS }
         ensures { Steps false (world_of self.old) result (world_of self.new)

@@ -536,7 +536,40 @@ fn path_sent(heard: PathHeard, sent: Result<(), ReachDropped>) -> Result<PathHea
     }
 }
 
-// What becomes of a path message: it goes on, is answered, or has come back.
+// What becomes of a path message that is taken: it goes on, is answered, or has come back.
+fn follow_step(
+    station: &mut Station<MemKeeper>,
+    beside: &mut Beside,
+    step: &PathStep,
+    room: &mut FrameBuf,
+    out: &mut Out,
+) -> Result<PathHeard, ReachDropped>
+    requires step { IsStep step.now }
+    requires running { IsSome station.old.memory }
+    requires joined { IfSome station.old.memory (λ l. IsSome l.ring) }
+    requires agrees { Agrees station.old }
+    requires room { length out.old.frames < 24 }
+    ensures reaches { Reaches station.old beside.old (Err (Known drops.Store))
+        (λ y. path_rules.follows_path alone y (Ok step.now)) (answer_as path_heard result) out.old out.new station.new
+        beside.new }
+    ensures agrees { Agrees station.new }
+{
+    match step {
+        PathStep::Forward { to, message } => {
+            let sent = path_goes(station, &mut beside.log, *to, message, room, out);
+            path_sent(PathHeard::Relayed, sent_on(sent))
+        }
+        PathStep::Answer { to, message } => {
+            let sent = path_goes(station, &mut beside.log, *to, message, room, out);
+            path_sent(PathHeard::Answered, sent_on(sent))
+        }
+        PathStep::Done { walk } => Ok(PathHeard::Path {
+            walk: walk.copied(),
+        }),
+    }
+}
+
+// What becomes of a path message.
 fn follow_path(
     station: &mut Station<MemKeeper>,
     beside: &mut Beside,
@@ -555,15 +588,7 @@ fn follow_path(
 {
     match step {
         Err(reason) => Err(path_word(reason)),
-        Ok(PathStep::Forward { to, message }) => {
-            let sent = path_goes(station, &mut beside.log, to, &message, room, out);
-            path_sent(PathHeard::Relayed, sent_on(sent))
-        }
-        Ok(PathStep::Answer { to, message }) => {
-            let sent = path_goes(station, &mut beside.log, to, &message, room, out);
-            path_sent(PathHeard::Answered, sent_on(sent))
-        }
-        Ok(PathStep::Done { walk }) => Ok(PathHeard::Path { walk }),
+        Ok(step) => follow_step(station, beside, &step, room, out),
     }
 }
 
