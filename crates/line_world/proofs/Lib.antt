@@ -15,3 +15,4 @@ mod Arrivals
 mod Sendings
 mod Settings
 pub mod FurtherPlans
+pub mod Besides

@@ -18,7 +18,7 @@ ghost use Rattle.node_rules.specs.Showing.{shown_of};
 ghost use Rattle.reach_rules.specs.CheckedReplies.{message_of};
 
 use crate::nodes::reception::Reception;
-use crate::nodes::station_further::reply_at;
+use crate::nodes::station_further::reply_of;
 use crate::nodes::station_steps::{
     break_at, has_rank, is_full, offer_near, restart_word, set_counter, set_number,
 };
@@ -303,7 +303,7 @@ impl LineCoordinator {
             → result.replied ≡ reply_among (hears network self.old got.now cost note now).frames }
     {
         let heard = self.coordinator.hear(got, cost, note, now, datagram, out);
-        let replied = reply_at(self.coordinator.station());
+        let replied = reply_of(self.coordinator.last_reply());
         coordinator_told(&heard).with_reply(replied)
     }
 }

@@ -21,7 +21,7 @@ ghost use Rattle.line_world.specs.Nodes.{has_eui};
 ghost use Rattle.line_world.specs.Receiving.{MayHear, Received};
 
 use crate::nodes::reception::Reception;
-use crate::nodes::station_further::reply_at;
+use crate::nodes::station_further::reply_of;
 use crate::nodes::station_steps::{
     break_at, has_rank, is_full, offer_near, restart_word, set_counter, set_number,
 };
@@ -365,7 +365,7 @@ impl Meters {
             (λ x. result.replied ≡ reply_among (hears network x got.now cost note now).frames) }
     {
         let heard = self.meters[place].hear(got, cost, note, now, datagram, out);
-        let replied = reply_at(self.meters[place].station());
+        let replied = reply_of(self.meters[place].last_reply());
         meter_told(&heard).with_reply(replied)
     }
 }

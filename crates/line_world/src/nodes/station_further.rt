@@ -312,11 +312,11 @@ pub(crate) fn acknowledge_at(
     station.send_local(3, Some(reply.to), room.octets(), out)
 }
 
-// The reply that the station sent last.
-pub(crate) fn reply_at(station: &Station<MemKeeper>) -> Option<Reply>
-    ensures { result ≡ station.now.replied }
+// The reply that a station tells.
+pub(crate) fn reply_of(last: Option<(Short, u16, Short)>) -> Option<Reply>
+    ensures { option_map (λ r. (r.to, r.number, r.origin)) result ≡ last }
 {
-    let (to, number, origin) = station.last_reply()?;
+    let (to, number, origin) = last?;
     Some(Reply { to, number, origin })
 }
 
