@@ -1,5 +1,5 @@
 -- What stands beside the nodes, as events leave it.
-use Rattle.std.proofs.Common.{◌≡◌, ℕ, Bool, List, Option, Some, None, Result, Ok, Err, refl, sym, ap, subst, ◌∙◌}
+use Rattle.std.proofs.Common.{◌≡◌, ℕ, suc, Bool, List, [], ◌∷◌, length, Option, Some, None, Result, Ok, Err, refl, sym, ap, subst, ◌∙◌}
 use Rattle.std.specs.Prelude.{IfSome, slice_get, slice_set}
 use Rattle.plc_base.specs.declared.keeper.BadStore.{BadStore}
 use Rattle.neighbour_checks.specs.Neighbours.{nobody}
@@ -13,13 +13,20 @@ use Rattle.line_rules.specs.declared.event.Answer.{Answer}
 use Rattle.line_rules.specs.declared.happenings.Happenings.{Happenings}
 use Rattle.line_rules.specs.declared.event.StepFault.{StepFault}
 use Rattle.line_rules.specs.Further.{after_ok, restarts_by, set_beside}
-use Rattle.line_rules.specs.Logs.{LogsKept}
+use Rattle.line_rules.specs.Logs.{AreLogged, LogsKept}
 use Rattle.line_rules.specs.Steps.{acted, told, restarts}
 use Rattle.line_rules.specs.Worlds.{World, Trace}
 use Rattle.line_rules.proofs.LogSteps.{halted_in, log_at, logged_at}
 use Rattle.line_world.specs.Steps.{Steps}
 use Rattle.line_world.proofs.Settings.{bounded_beside}
 use Rattle.line_world.proofs.Taking.{IsThere, told_of}
+
+-- each node has something beside it
+pub beside_long : (bs : List Beside) (ns : List Node) → AreLogged bs ns → length bs ≡ length ns
+beside_long [] [] h = refl
+beside_long [] (x ∷ ns) h = absurd h
+beside_long (b ∷ bs) [] h = absurd h
+beside_long (b ∷ bs) (x ∷ ns) h = ap (λ n. suc n) (beside_long bs ns h.1)
 
 -- a step after which other things stand beside the nodes
 pub steps_beside : (takes : Bool) (w v : World) (h : Happenings) (r : World × Trace) (bs : List Beside) → Steps takes w (Ok h) v (Ok r)
