@@ -66,9 +66,9 @@ acknowledging_if x (Some reply) = acknowledging x reply
 -- An acknowledgement went out after what was given out before, if one was due. Where its put failed nothing is left of either.
 pub record Acknowledges (w : World) (number : ℕ) (x : Node) (due : Option Reply) (before : Out) (done : Bool) (out : Out) (new : World)
     : Type 0 where
-  pub world : new ≡ record w { nodes = slice_set w.nodes number (acknowledging_if x due).node }
-  pub done : done ≡ option_map_or (λ _. is_some (acknowledging_if x due).node.memory) due true
-  pub out : option_map_or (λ _. out ≡ given_after before (acknowledging_if x due)) due (out ≡ before)
+  pub world_is : new ≡ record w { nodes = slice_set w.nodes number (acknowledging_if x due).node }
+  pub done_is : done ≡ option_map_or (λ _. is_some (acknowledging_if x due).node.memory) due true
+  pub out_is : option_map_or (λ _. out ≡ given_after before (acknowledging_if x due)) due (out ≡ before)
 
 -- by the command that the frame carries, if it carries one
 abbrev pub heard_so : Ciphers → World → ℕ → Node → Accepted → Origin → ℕ → Option NeighbourCommand → World × Trace

@@ -38,8 +38,8 @@ discovered_in w number x frame link = discovered_by w number x x.memory frame li
 
 -- what a node answers to a beacon, and the scan that stands beside it then
 pub record HearsBeacon (w : World) (number : ℕ) (l : StationMemory) (pan from cost link : ℕ) (answer : Answer) (new : World) : Type 0 where
-  pub answer : answer ≡ discovery_word (hear_beacon l (beside_at w number).scan pan from cost link).answer
-  pub world : new ≡ set_beside number
+  pub answer_is : answer ≡ discovery_word (hear_beacon l (beside_at w number).scan pan from cost link).answer
+  pub world_is : new ≡ set_beside number
       (record (beside_at w number) { scan = (hear_beacon l (beside_at w number).scan pan from cost link).scan }) w
 
 -- the same of one without an address, for a beacon of its network
@@ -48,8 +48,8 @@ taken_by b from cost link =
     if b.scan.scanning then takes_beacon b.scan from cost link else stays b.scan (Err drops.NotScanning)
 
 pub record TakesBeacon (w : World) (number : ℕ) (b : Beside) (from cost link : ℕ) (answer : Answer) (new : World) : Type 0 where
-  pub answer : answer ≡ discovery_word (taken_by b from cost link).answer
-  pub world : new ≡ set_beside number (record b { scan = (taken_by b from cost link).scan }) w
+  pub answer_is : answer ≡ discovery_word (taken_by b from cost link).answer
+  pub world_is : new ≡ set_beside number (record b { scan = (taken_by b from cost link).scan }) w
 
 -- a meter joins by an agent that it heard
 abbrev pub joins_in : World → ℕ → Node → Key → (address total : ℕ) → World × Trace
