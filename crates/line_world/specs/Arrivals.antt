@@ -1,5 +1,5 @@
 -- What becomes of octets that came to a node.
-use Rattle.std.specs.Prelude.{◌≡◌, ℕ, Bool, slice_set, true, ◌||◌, List, ◌++◌, length, map, Option, Some, None, is_some, Result, Ok, Err, if◌then◌else◌}
+use Rattle.std.specs.Prelude.{◌≡◌, ℕ, Bool, slice_set, IfNone, IfSome, true, ◌||◌, List, ◌++◌, length, map, Option, Some, None, is_some, Result, Ok, Err, if◌then◌else◌}
 use Rattle.std.specs.List.{list_any}
 use Rattle.std.specs.Option.{option_map, option_map_or}
 use Rattle.plc_base.specs.declared.address.Eui.{Eui}
@@ -68,7 +68,8 @@ pub record Acknowledges (w : World) (number : ℕ) (x : Node) (due : Option Repl
     : Type 0 where
   pub world_is : new ≡ record w { nodes = slice_set w.nodes number (acknowledging_if x due).node }
   pub done_is : done ≡ option_map_or (λ _. is_some (acknowledging_if x due).node.memory) due true
-  pub out_is : option_map_or (λ _. out ≡ given_after before (acknowledging_if x due)) due (out ≡ before)
+  pub out_is : IfSome due (λ _. out ≡ given_after before (acknowledging_if x due))
+  pub kept : IfNone due (out ≡ before)
 
 -- by the command that the frame carries, if it carries one
 abbrev pub heard_so : Ciphers → World → ℕ → Node → Accepted → Origin → ℕ → Option NeighbourCommand → World × Trace
