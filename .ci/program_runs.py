@@ -145,8 +145,9 @@ LONG = "5a" * 800
 
 
 class Scenario:
-    def __init__(self, meters, joined, links, lines, near=()):
+    def __init__(self, meters, joined, links, lines, near=(), more=()):
         self.setup = MAKE[: meters + 1] + [f"depot {meter}" for meter in joined] + [f"near {a} {b} {1 + (a + b) % 7}" for a, b in near]
+        self.setup += more
         self.hears = {node: sorted({a + b - node for a, b in links if node in (a, b)}) for node in range(meters + 1)}
         self.lines = lines
 
@@ -169,6 +170,18 @@ SCENARIOS = {
         + ["send 1 0 ee01", "kick 2", "rekey 0 " + "40" * 16, "send 2 0 ee02", "join 2 0", "send 0 1 ee03"],
         [(0, 1), (0, 2)],
     ),
+    "checks": Scenario(
+        3, [1, 2, 3], [(1, 2), (2, 3)], ["send 1 3 ff01", "tick 2", "send 3 1 ff02", "tick 300", "send 1 3 ff03"], more=["checks"]
+    ),
+    "broadcasts": Scenario(4, [1, 2, 3, 4], [(0, 1), (1, 2), (2, 3), (3, 4), (1, 3)], ["bcast 0 ab01", "bcast 4 ab02", "bcast 0 ab03"]),
+    "a scan": Scenario(
+        3,
+        [1, 2],
+        [(0, 1), (0, 2), (1, 3), (2, 3)],
+        ["allow 3", f"rand 0 {RANDOM[0]}", f"rand 3 {RANDOM[1]}", "scan 3", "choose 3 1", "send 3 0 ac01"],
+        [(0, 1), (0, 2)],
+    ),
+    "paths": Scenario(3, [1, 2, 3], [(0, 1), (1, 2), (2, 3)], ["send 0 3 ad01", "path 0 3", "path 3 0", "break 1 2", "path 0 3"]),
 }
 
 

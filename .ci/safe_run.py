@@ -6,10 +6,13 @@ a run in which somebody has a group key, and forges frames by it, only those pro
 import collections
 
 FRAME_REFUSALS = set("Halted Malformed NotForMe NoKey BadTag Replayed PeersFull".split())
-HEARD = set("Up Held Relayed Answered Learned Reported Broken Carried Challenged Replied Keyed Took Done Noted Declined Left Activated".split())
+HEARD = set(
+    "Up Held Relayed Answered Learned Reported Broken Carried Challenged Replied Keyed Took Done Noted Declined Left Activated "
+    "Acked Bup Beacon Beaconed Path".split()
+)
 REFUSED = FRAME_REFUSALS | set(
     "Store BadUnit NoRoute HopsSpent NotBetter CostSpent RoutesFull NotAllowed NoSession SessionsFull NoRandom Form OtherSession BadMac "
-    "BadChannel NoSuccess NotHeld BufferFull SeqSpent CounterSpent".split()
+    "BadChannel NoSuccess NotHeld BufferFull SeqSpent CounterSpent Blacklisted NotAwaited Old OriginsFull NotScanning Revisited PathLong".split()
 )
 # What each kind of line may be answered.
 ANSWERS = {
@@ -36,6 +39,11 @@ ANSWERS = {
     "inject": HEARD | REFUSED,
     "lose": {"Lost"},
     "tick": {"Ticked"},
+    "checks": {"Set"},
+    "bcast": set("Sent Halted NotJoined BadSize NumberSpent CounterSpent Store".split()),
+    "scan": set("Scanning Halted AlreadyJoined".split()),
+    "choose": set("Asked Halted AlreadyJoined NoBeacon".split()),
+    "path": set("Traced NoAddress Halted NotJoined ToSelf NoRoute CounterSpent Store".split()),
 }
 TABLE = {"route": 64, "peer": 64, "key": 2, "floor": 16}
 
@@ -82,6 +90,8 @@ class Judge:
     def __init__(self, forging):
         self.broken, self.forging = [], forging
         self.sends, self.upped, self.ups = {}, set(), 0
+        # The datagrams that each node sent to all, and of each that was handed up its octets.
+        self.broadcasts, self.bupped, self.octets_by = collections.defaultdict(set), set(), {}
         self.octets_of, self.sent, self.accepted = {}, set(), collections.defaultdict(set)
         self.address_of, self.greatest = {}, {}
         # The keys that the coordinator may hold by index, those that it ever held, and those that each meter may hold.
@@ -107,6 +117,8 @@ class Judge:
         self.keys_move(words, entry.word)
         if words[0] == "send" and entry.verdict == "ok":
             self.sends[len(self.sends) + 1] = (words[2], words[3].lower())
+        if words[0] == "bcast" and entry.verdict == "ok":
+            self.broadcasts[words[1]].add(words[2].lower())
         if words[0] in ("deliver", "inject"):
             self.came(words, entry)
         if words[0] != "show" and line != "break 0 0":
@@ -172,6 +184,24 @@ class Judge:
         self.ask(send not in self.upped, "handed up twice: send", send)
         self.upped.add(send)
         self.ask(self.sends.get(int(send)) == (node, octets), "handed up, but not sent so: send", send, "at", node)
+
+    def said_bup(self, _, node, origin, number, octets):
+        """A node hands a broadcast up once, over any restarts, and only what another node sent so before."""
+        if self.forging:
+            return
+        self.ask((node, origin, number) not in self.bupped, "a broadcast handed up twice:", node, origin, number)
+        self.bupped.add((node, origin, number))
+        sender = self.address_of.get(origin)
+        self.ask(sender != node and octets in self.broadcasts[sender], "a broadcast that nobody sent so:", node, origin, number)
+        self.ask(self.octets_by.setdefault((origin, number), octets) == octets, "two broadcasts of one number:", origin, number)
+
+    def said_agent(self, _, node, address, total):
+        self.ask(address < "fffe" and int(total) <= 65535 + 255, "no agent:", node, address, total)
+
+    def said_path(self, _, node, *walk):
+        self.ask(2 <= len(walk) <= 16 and len(set(walk)) == len(walk), "no way:", node, *walk)
+        if not self.forging:
+            self.ask(self.address_of.get(walk[0]) == node, "a way from another node:", node, *walk)
 
     def said_forged(self, entry, *_):
         self.forged += 1

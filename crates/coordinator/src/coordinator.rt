@@ -79,6 +79,14 @@ impl<K: Keeper + Drop> Coordinator<K> {
         self.station.ring().joined()
     }
 
+    /// The neighbour, the number and the origin of the route reply that its station sent at its last `hear`, as
+    /// [`Station::last_reply`] tells it.
+    pub fn last_reply(&self) -> Option<(Short, u16, Short)>
+        ensures { result ≡ option_map (λ r. (r.to, r.number, r.origin)) self.now.station.replied }
+    {
+        self.station.last_reply()
+    }
+
     /// The address of a meter in the book, None where it has none or the coordinator is halted.
     pub fn address_of(&self, eui: Eui) -> Option<Short>
         ensures { result ≡ option_and_then

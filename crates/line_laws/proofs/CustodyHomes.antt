@@ -1,4 +1,4 @@
--- A home for every node: up to the first forged event the coordinator's book gives each meter the address of its home, and no two nodes have one home.
+-- A home for every node: before the first forged event the coordinator's book gives each meter the address of its home, and no two nodes have one home.
 use Rattle.std.proofs.Common.{◌≡◌, ◌≢◌, ℕ, zero, suc, ◌+◌, ◌≤◌, ◌<◌, false, List, [], ◌∷◌, ◌++◌, length, Option, Some, None, refl, sym, ap, ◌∙◌, subst, arith}
 use Rattle.std.specs.Option.{option_map}
 use Rattle.std.proofs.lemmas.Option.{same_Some}
@@ -20,7 +20,7 @@ use Rattle.line_laws.proofs.NodeCalls.{no_some}
 use Rattle.line_laws.proofs.Homes.{at_length}
 use Rattle.line_laws.proofs.Worlds.{within}
 
--- so it is along a run, up to the first forged event
+-- so it is along a run, before the first forged event
 abbrev pub HomedAlong : (ℕ → ℕ) → World → List Entry → Type 0
 HomedAlong home w [] = HomedAt home w
 HomedAlong home w (x ∷ xs) = HomedAt home w × (x.trace.happened.forged ≡ false → HomedAlong home x.after xs)

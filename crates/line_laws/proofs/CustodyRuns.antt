@@ -1,4 +1,4 @@
--- Custody over a run: up to the first forged event what is handed up was sent, and nothing is handed up twice. What is still owed stands in one record.
+-- Custody over a run: before the first forged event what is handed up was sent, and nothing is handed up twice. What is still owed stands in one record.
 use Rattle.std.proofs.Common.{◌≡◌, ◌≢◌, ◌⊎◌, inl, inr, ⊎_elim, ℕ, zero, suc, ◌+◌, ◌-◌, ◌≤◌, ◌<◌, Bool, true, false, List, [], ◌∷◌, ◌++◌, length, get_or, Option, Some, None, Result, Ok, Err, refl, sym, ap, ◌∙◌, subst, append-nil, arith}
 use Rattle.std.specs.Prelude.{◌&&◌, All, AllPairs, IfSome, is_some, if◌then◌else◌, slice_get, ◌==◌}
 use Rattle.std.specs.List.{list_any, sum_by}
@@ -230,7 +230,7 @@ pub record Owed (ciphers : Ciphers) (live : World → Flight → Bool) (w : Worl
   pub says : SaysInRange ciphers w
   pub joins : (number : ℕ) (y : Node) (octets : List ℕ) (cost : ℕ) → node_at w number ≡ Some y → ArrivesBy w x.event number octets cost → (got : Accepted) → (accepting ciphers y octets).answer ≡ Ok got → Joins ciphers w y octets cost got
 
--- so it is along a run, up to the first forged event
+-- so it is along a run, before the first forged event
 abbrev pub OwedAlong : Ciphers → (World → Flight → Bool) → World → List Entry → Type 0
 OwedAlong ciphers live w [] = Unit {0}
 OwedAlong ciphers live w (x ∷ xs) = x.trace.happened.forged ≡ false → Owed ciphers live w x × OwedAlong ciphers live x.after xs

@@ -1,4 +1,4 @@
--- Runs of the network with further reach up to the first forged event: what each event keeps holds along them.
+-- Runs of the network with further reach before the first forged event: what each event keeps holds along them.
 use Rattle.std.proofs.Common.{⊎_elim, ◌≡◌, ◌≢◌, ℕ, ◌+◌, false, List, [], ◌∷◌, ◌++◌, Some, Ok, sym, subst}
 use Rattle.std.specs.Prelude.{IfSome}
 use Rattle.std.proofs.lemmas.Bool.{cases_eq}

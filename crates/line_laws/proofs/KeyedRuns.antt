@@ -1,4 +1,4 @@
--- The laws of runs up to the first forged event that rest on addresses and issued keys.
+-- The laws of runs before the first forged event that rest on addresses and issued keys.
 use Rattle.std.proofs.Common.{◌≡◌, ◌<◌, List, [], ◌∷◌, ◌++◌, length, sym, subst, arith}
 use Rattle.std.specs.Prelude.{All, IfSome}
 use Rattle.std.proofs.lemmas.List.Elements.{All-nil}

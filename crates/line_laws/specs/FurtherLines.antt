@@ -149,7 +149,7 @@ LineStepsRise =
 abbrev pub TablesAreShort : Type 0
 TablesAreShort = (w : World) → WorldOk w → HaveShortTables w
 
--- # Up to the first forged event
+-- # Before the first forged event
 
 -- a broadcast of octets and an ask keep all that the laws rest on
 abbrev pub CallsKeepAll : Type 0

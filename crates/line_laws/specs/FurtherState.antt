@@ -1,4 +1,4 @@
--- What holds of runs of the network, up to the first forged event: ranges, and keys that stood before they were issued.
+-- What holds of runs of the network, before the first forged event: ranges, and keys that stood before they were issued.
 use Rattle.std.specs.Prelude.{◌≡◌, false, List, [], ◌∷◌}
 use Rattle.node_rules.specs.Ciphers.{network}
 use Rattle.line_rules.specs.Agreement.{NodeHasKey}

@@ -1,4 +1,4 @@
--- What holds of the datagrams that were sent, up to the first forged event.
+-- What holds of the datagrams that were sent, before the first forged event.
 use Rattle.std.specs.Prelude.{◌≡◌, ℕ, Bool, All, List, Some, IfSome, slice_get}
 use Rattle.mesh_header.specs.declared.unit.Unit.{Unit as MeshUnit}
 use Rattle.node_rules.specs.Ciphers.{Ciphers}

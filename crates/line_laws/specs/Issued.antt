@@ -7,7 +7,7 @@ use Rattle.line_rules.specs.Agreement.{Agrees}
 use Rattle.line_laws.specs.Owed.{KeepsRanges}
 use Rattle.line_laws.specs.Laws.{IsLineRun, FlightsAreOctets}
 
--- after each event up to the first forged one, each meter holds only keys that were issued to it up to then
+-- after each event before the first forged one, each meter holds only keys that were issued to it up to then
 abbrev pub IsIssuedAfter : List Entry → List Entry → Type 0
 IsIssuedAfter before [] = Unit {0}
 IsIssuedAfter before (x ∷ xs) =

@@ -1,4 +1,4 @@
--- What holds of addresses and issued keys up to the first forged event.
+-- What holds of addresses and issued keys before the first forged event.
 use Rattle.std.specs.Prelude.{◌≡◌, ◌≢◌, ℕ, List, [], ◌∷◌, Option, Some, None, IfSome, ⊤}
 use Rattle.std.specs.FinMap.{get}
 use Rattle.plc_base.specs.Grant.{Granted}

@@ -82,7 +82,7 @@ EverySenderIsRight =
     (ciphers : Ciphers) → KeepsRanges ciphers → (entries : List Entry) → IsLineRun ciphers entries
     → FlightsAreOctets entries → AreAddressed start entries
 
--- # Up to the first forged event
+-- # Before the first forged event
 
 -- no two nodes have one address
 abbrev pub EveryAddressDiffers : Type 0

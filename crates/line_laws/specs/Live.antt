@@ -100,7 +100,7 @@ pub record FlightsFall (ciphers : Ciphers) (w : World) (x : Entry) : Type 0 wher
   pub opened : (number : ℕ) (octets : List ℕ) (node : Node) → Comes w x.event number octets → node_at w number ≡ Some node
       → LiveFalls live w x.after (opened_at w octets (accepting ciphers node octets).answer)
 
--- in each event up to the first forged one
+-- in each event before the first forged one
 abbrev pub FlightsAlwaysFall : Ciphers → World → List Entry → Type 0
 FlightsAlwaysFall ciphers w [] = Unit {0}
 FlightsAlwaysFall ciphers w (x ∷ xs) =

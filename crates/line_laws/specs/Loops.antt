@@ -38,7 +38,7 @@ pub record Later (v : World) (i : ℕ) (x : Node) : Type 0 where
 abbrev pub RanksRise : World → World → Type 0
 RanksRise w v = (i : ℕ) (x : Node) → node_at w i ≡ Some x → Later v i x
 
--- after each event up to the first forged one no valid next hops form a loop, and no stored rank is lower than before
+-- after each event before the first forged one no valid next hops form a loop, and no stored rank is lower than before
 abbrev pub AreLoopFree : World → List Entry → Type 0
 AreLoopFree w [] = Unit {0}
 AreLoopFree w (x ∷ xs) =

@@ -32,7 +32,7 @@ EveryNodeAcceptsOnce =
 
 -- # By any node
 
--- up to the first forged one, in none of these events does a node accept these octets as a sealed frame to it alone
+-- before the first forged one, in none of these events does a node accept these octets as a sealed frame to it alone
 abbrev pub NobodyAccepts : Ciphers → List ℕ → World → List Entry → Type 0
 NobodyAccepts ciphers octets w [] = Unit {0}
 NobodyAccepts ciphers octets w (x ∷ xs) =
@@ -47,7 +47,7 @@ AcceptedOnce ciphers w (x ∷ xs) =
     → ((octets : List ℕ) (key : Key) (a : AcceptsSealed ciphers w x.event octets key) → a.to_all ≡ false
     → NobodyAccepts ciphers octets x.after xs) × AcceptedOnce ciphers x.after xs
 
--- so it is in every run up to its first forged event
+-- so it is in every run before its first forged event
 abbrev pub EveryFrameIsAcceptedOnce : Type 0
 EveryFrameIsAcceptedOnce =
     (ciphers : Ciphers) → KeepsRanges ciphers → (entries : List Entry) → IsLineRun ciphers entries

@@ -1,4 +1,4 @@
--- What holds of ranks and routes up to the first forged event.
+-- What holds of ranks and routes before the first forged event.
 use Rattle.std.specs.Prelude.{◌≡◌, ◌⊎◌, ◌≢◌, ℕ, ◌<◌, ◌^◌, Bool, ◌==◌, if◌then◌else◌, All, List, Option, Some, None}
 use Rattle.std.specs.Option.{option_map, option_and_then}
 use Rattle.mac_frames.specs.declared.head.MacHead.TheVariants as heads

@@ -39,7 +39,7 @@ EveryHistoryIsKept = (entries : List Entry) → IsLineRun network entries → Ar
 abbrev pub EveryLogIsKept : Type 0
 EveryLogIsKept = (entries : List Entry) → IsLineRun network entries → LogsAlwaysKept entries
 
--- # Up to the first forged event
+-- # Before the first forged event
 
 -- The steps of each walk that is reported were taken before, in its order.
 abbrev pub EveryWalkWasTaken : Type 0
@@ -51,7 +51,7 @@ EveryBroadcastIsOnce = (entries : List Entry) → IsLineRun network entries → 
 
 -- # What they rest on
 
--- so it is of each world of a run, up to the first forged event
+-- so it is of each world of a run, before the first forged event
 abbrev pub HoldsAlong : (World → Type 0) → World → List Entry → Type 0
 HoldsAlong P w [] = Unit {0}
 HoldsAlong P w (x ∷ xs) = P w × (x.trace.happened.forged ≡ false → HoldsAlong P x.after xs)

@@ -6,7 +6,7 @@ use Rattle.line_rules.specs.declared.happenings.Handed.{Handed}
 use Rattle.node_rules.specs.Ciphers.{network}
 use Rattle.line_laws.specs.Laws.{IsLineRun}
 
--- so it is of each event after others, up to the first forged one
+-- so it is of each event after others, before the first forged one
 abbrev pub UpsAreSentAfter : List Entry → List Entry → Type 0
 UpsAreSentAfter before [] = Unit {0}
 UpsAreSentAfter before (x ∷ xs) =

@@ -83,27 +83,27 @@ pub fn every_flight_is_octets()
     ensures { EveryFlightIsOctets }
 {}
 
-/// In every run of the network, up to its first forged event, over restarts, failed writes and presets: after each event no valid next
+/// In every run of the network, before its first forged event, over restarts, failed writes and presets: after each event no valid next
 /// hops form a loop, and no stored rank is lower than before.
 #[tactic(auto)]
 pub fn every_run_is_loop_free()
     ensures { EveryRunIsLoopFree }
 {}
 
-/// In every run, up to its first forged event, over restarts and failed writes, a joined meter holds only keys that were issued to it.
+/// In every run, before its first forged event, over restarts and failed writes, a joined meter holds only keys that were issued to it.
 #[tactic(auto)]
 pub fn only_issued_keys()
     ensures { OnlyIssuedKeys }
 {}
 
-/// In every run of the network, up to its first forged event, over restarts and failed writes: a meter that was kicked never holds a key that
+/// In every run of the network, before its first forged event, over restarts and failed writes: a meter that was kicked never holds a key that
 /// had not stood in the coordinator's ring up to the kick, as long as it is not allowed again.
 #[tactic(auto)]
 pub fn every_kicked_meter_stays_out()
     ensures { EveryKickedMeterStaysOut }
 {}
 
-/// In every run, up to its first forged event, a joining that is done was taken by that meter before, with the same random values.
+/// In every run, before its first forged event, a joining that is done was taken by that meter before, with the same random values.
 #[tactic(auto)]
 pub fn every_joining_agrees()
     ensures { EveryJoiningAgrees }
@@ -136,13 +136,13 @@ pub fn every_sender_is_right()
     ensures { EverySenderIsRight }
 {}
 
-/// In every run, up to its first forged event, no two nodes have one address.
+/// In every run, before its first forged event, no two nodes have one address.
 #[tactic(auto)]
 pub fn every_address_differs()
     ensures { EveryAddressDiffers }
 {}
 
-/// In every run, up to its first forged event, over restarts, failed writes and presets, no two flights that were sealed under one key
+/// In every run, before its first forged event, over restarts, failed writes and presets, no two flights that were sealed under one key
 /// have one nonce.
 #[tactic(auto)]
 pub fn every_nonce_differs()
@@ -155,7 +155,7 @@ pub fn every_mark_rises()
     ensures { EveryMarkRises }
 {}
 
-/// In every run, up to its first forged event, no flight comes to life, and a flight to one node that is opened was live, and is not live
+/// In every run, before its first forged event, no flight comes to life, and a flight to one node that is opened was live, and is not live
 /// any more.
 #[tactic(auto)]
 pub fn every_flight_falls()
@@ -168,13 +168,13 @@ pub fn every_node_accepts_once()
     ensures { EveryNodeAcceptsOnce }
 {}
 
-/// In every run, up to its first forged event, octets that a node accepted as a sealed frame to it alone are accepted so by no node again.
+/// In every run, before its first forged event, octets that a node accepted as a sealed frame to it alone are accepted so by no node again.
 #[tactic(auto)]
 pub fn every_frame_is_accepted_once()
     ensures { EveryFrameIsAcceptedOnce }
 {}
 
-/// In every run of the network, up to its first forged event, over restarts, failed writes, presets and changes of keys, and where flights
+/// In every run of the network, before its first forged event, over restarts, failed writes, presets and changes of keys, and where flights
 /// are lost or come again: each datagram that is handed up was sent to that node before, with the same octets, and none is handed up twice.
 #[tactic(auto)]
 pub fn every_datagram_was_sent()
@@ -188,14 +188,14 @@ pub fn every_run_holds()
     ensures { EveryRunHolds }
 {}
 
-/// In every run of the network, up to its first forged event, over restarts and failed writes: what every node holds is in its ranges, and what
+/// In every run of the network, before its first forged event, over restarts and failed writes: what every node holds is in its ranges, and what
 /// flies is letters in theirs, plain frames and frames of discovery.
 #[tactic(auto)]
 pub fn every_run_is_ranged()
     ensures { EveryRunIsRanged }
 {}
 
-/// In every run of the network, up to its first forged event, each key that an event issues stands in the coordinator's ring before it.
+/// In every run of the network, before its first forged event, each key that an event issues stands in the coordinator's ring before it.
 #[tactic(auto)]
 pub fn every_issued_key_stood()
     ensures { EveryIssuedKeyStood }
@@ -214,21 +214,21 @@ pub fn every_log_is_kept()
     ensures { EveryLogIsKept }
 {}
 
-/// In every run of the network, up to its first forged event, over restarts and failed writes: the steps of each walk that is reported were taken
+/// In every run of the network, before its first forged event, over restarts and failed writes: the steps of each walk that is reported were taken
 /// before, in its order.
 #[tactic(auto)]
 pub fn every_walk_was_taken()
     ensures { EveryWalkWasTaken }
 {}
 
-/// In every run of the network, up to its first forged event, over restarts and failed writes: each broadcast that is handed up was sent by
+/// In every run of the network, before its first forged event, over restarts and failed writes: each broadcast that is handed up was sent by
 /// another node with the same octets, and no node hands up two of one origin and number.
 #[tactic(auto)]
 pub fn every_broadcast_is_once()
     ensures { EveryBroadcastIsOnce }
 {}
 
-/// Every run of the network is safe up to its first forged event: each datagram that is handed up was sent to that node before, with the
+/// Every run of the network is safe before its first forged event: each datagram that is handed up was sent to that node before, with the
 /// same octets, and none is handed up twice; after each event valid next hops form no loop, a joined meter holds only keys that were
 /// issued to it, and no table passes its size; and no event sends more than 24 frames.
 #[tactic(auto)]

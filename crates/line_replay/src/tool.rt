@@ -150,7 +150,7 @@ pub fn run_tool<S: Source, K: Sink>(
     sink: &mut K,
 ) -> Status
     // What was read and written, why this status came, and what holds of the run. Its events are those of the lines, and each
-    // world is the step of the rules. Up to its first forged event every datagram that was handed up was sent to that node with
+    // world is the step of the rules. Before its first forged event every datagram that was handed up was sent to that node with
     // the same octets, none is handed up twice, valid next hops form no loop, a joined meter holds only group keys that were
     // issued to it, and no table passes its size; no two nodes have one address, and no two flights under one key one nonce. In
     // every run a restart finds a store that it can read, and ends the routes of its node; counters rise, no node accepts a

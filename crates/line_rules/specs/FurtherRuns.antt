@@ -39,7 +39,7 @@ abbrev pub IsFirst : BroadcastUp → List BroadcastUp → Type 0
 IsFirst up handed =
     All (λ (v : BroadcastUp). v.node ≡ up.node → v.origin ≡ up.origin → v.number ≡ up.number → ⊥) handed
 
--- so it is in each event up to the first forged one
+-- so it is in each event before the first forged one
 abbrev pub AreBroadcastOnceAfter : List Entry → List Entry → Type 0
 AreBroadcastOnceAfter before [] = Unit {0}
 AreBroadcastOnceAfter before (x ∷ xs) =
@@ -79,7 +79,7 @@ abbrev pub WasWalked : List ℕ → List Stepping → Type 0
 WasWalked [] taken = ⊥
 WasWalked (a ∷ rest) taken = StandIn (steps_toward (last_of a rest) (a ∷ rest)) taken
 
--- so it is in each event up to the first forged one
+-- so it is in each event before the first forged one
 abbrev pub AreWalkedAfter : List Entry → List Entry → Type 0
 AreWalkedAfter before [] = Unit {0}
 AreWalkedAfter before (x ∷ xs) =

@@ -45,7 +45,7 @@ HasAnotherNonce f g =
 abbrev pub CountersRise : List Entry → Type 0
 CountersRise entries = All (λ (x : Entry). AllPairs CounterRises x.after.flights) entries
 
--- In every run, up to its first forged event, no two flights that were sealed under one key have one nonce.
+-- In every run, before its first forged event, no two flights that were sealed under one key have one nonce.
 abbrev pub NoncesDiffer : List Entry → Type 0
 NoncesDiffer [] = Unit {0}
 NoncesDiffer (x ∷ xs) = x.trace.happened.forged ≡ false → AllPairs HasAnotherNonce x.after.flights × NoncesDiffer xs
@@ -101,7 +101,7 @@ AreAddressed w (x ∷ xs) = All (HasSender x.after) (drop (length w.flights) x.a
 abbrev pub AddressesDiffer : World → Type 0
 AddressesDiffer w = (i j address : ℕ) → HasAddress w i address → HasAddress w j address → i ≡ j
 
--- so it is after each event up to the first forged one
+-- so it is after each event before the first forged one
 abbrev pub AreApart : List Entry → Type 0
 AreApart [] = Unit {0}
 AreApart (x ∷ xs) = x.trace.happened.forged ≡ false → AddressesDiffer x.after × AreApart xs

@@ -103,7 +103,7 @@ pub record IsSafeAt (before : List Entry) (x : Entry) : Type 0 where
   pub sizes : IsSized x.after
   pub flights : x.trace.happened.flights ≤ 24
 
--- each event of a history up to the first forged one is safe
+-- each event of a history before the first forged one is safe
 abbrev pub IsSafeAfter : List Entry → List Entry → Type 0
 IsSafeAfter before [] = Unit {0}
 IsSafeAfter before (x ∷ xs) = x.trace.happened.forged ≡ false → IsSafeAt before x × IsSafeAfter (before ++ x ∷ []) xs

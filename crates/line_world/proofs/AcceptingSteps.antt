@@ -18,6 +18,7 @@ use Rattle.node_rules.specs.Carrying.{Carries}
 use Rattle.node_rules.specs.States.{State}
 use Rattle.node_rules.specs.Frames.{Arrived, to_all}
 use Rattle.node_rules.specs.Memory.{StationMemory}
+use Rattle.node_rules.specs.Laws.{WaitingFits}
 use Rattle.node_rules.specs.Plans.{resting}
 use Rattle.node_rules.specs.Accepting.{Accepting, accept, accept_head, is_for_me, refuse, marking, admitted, open_sealed, with_key}
 use Rattle.plc_station.specs.Heard.{Fits}
@@ -89,11 +90,15 @@ of_memory : (y : MeterState) (o : Option StationMemory) (got : Accepted) → IsS
 of_memory y None got is h = absurd (cc)
 of_memory y (Some l) got is h = ((cc), h)
 
+waiting_in : (y : MeterState) (o : Option StationMemory) → IfSome o (λ l. WaitingFits l) → IfSome (option_map (memory_with y) o) (λ m. WaitingFits m.station)
+waiting_in y None w = tt
+waiting_in y (Some l) w = w
+
 -- a meter that accepted a frame may hear it
 pub meter_may_hear : (x : MeterState) (s t : State StationMemory) (a : Option Arrived) (r : Result Accepted FrameRefusal) (out : Out)
     → IfNone s.memory ((r ≡ Err Halted) × (t ≡ s)) → IfSome s.memory (λ l. Carries s (accept l s.eui a) r out t) → IfOk r (λ got. Fits got)
-    → IfOk r (λ got. MayHear (of_meter (with_its t x)) got)
-meter_may_hear x s t a (Ok got) out halted carries fits =
+    → IfSome t.memory (λ l. WaitingFits l) → IfOk r (λ got. MayHear (of_meter (with_its t x)) got)
+meter_may_hear x s t a (Ok got) out halted carries fits waits =
     let both = of_memory (with_its t x) t.memory got (runs s t a got out halted carries) (accepted_came s t a got out halted carries) in
-    record { running = both.0; fits = fits; came = both.1 }
-meter_may_hear x s t a (Err reason) out halted carries fits = tt
+    record { running = both.0; fits = fits; came = both.1; waits = waiting_in (with_its t x) t.memory waits }
+meter_may_hear x s t a (Err reason) out halted carries fits waits = tt

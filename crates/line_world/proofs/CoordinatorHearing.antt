@@ -14,6 +14,7 @@ use Rattle.node_rules.specs.Carrying.{Carries}
 use Rattle.node_rules.specs.Ciphers.{network}
 use Rattle.node_rules.specs.Coordinators as coordinator_rules
 use Rattle.node_rules.specs.Frames.{Arrived}
+use Rattle.node_rules.specs.Laws.{WaitingFits}
 use Rattle.node_rules.specs.Memory.{StationMemory, Memory, Coordinator}
 use Rattle.node_rules.specs.NodeSteps.{acts}
 use Rattle.node_rules.specs.Plans.{Plan}
@@ -46,15 +47,21 @@ any_came : (x : CoordinatorState) (got : Accepted) (o : Option StationMemory) �
 any_came x got None = tt
 any_came x got (Some l) = tt
 
+waiting_too : (x : CoordinatorState) (t : State StationMemory) (o : Option StationMemory) → IfSome (option_map (memory_with (meter_with t)) o) (λ m. WaitingFits m.station)
+    → IfSome (option_map (memory_in x.randoms x.sessions x.book) o) (λ m. WaitingFits m.station)
+waiting_too x t None w = tt
+waiting_too x t (Some l) w = w
+
 runs_too : (x : CoordinatorState) (t : State StationMemory) (got : Accepted) → MayHear (of_meter (meter_with t)) got → MayHear (of_coordinator (with_its t x)) got
-runs_too x t got h = record { running = of_station x t t.memory h.running; fits = h.fits; came = any_came x got t.memory }
+runs_too x t got h =
+    record { running = of_station x t t.memory h.running; fits = h.fits; came = any_came x got t.memory; waits = waiting_too x t t.memory h.waits }
 
 -- the coordinator that accepted a frame may hear it
 pub may_hear : (x : CoordinatorState) (s t : State StationMemory) (a : Option Arrived) (r : Result Accepted FrameRefusal) (out : Out)
     → IfNone s.memory ((r ≡ Err Halted) × (t ≡ s)) → IfSome s.memory (λ l. Carries s (accept l s.eui a) r out t) → IfOk r (λ got. Fits got)
-    → IfOk r (λ got. MayHear (of_coordinator (with_its t x)) got)
-may_hear x s t a (Ok got) out halted carries fits = runs_too x t got (meter_may_hear (meter_with s) s t a (Ok got) out halted carries fits)
-may_hear x s t a (Err reason) out halted carries fits = tt
+    → IfSome t.memory (λ l. WaitingFits l) → IfOk r (λ got. MayHear (of_coordinator (with_its t x)) got)
+may_hear x s t a (Ok got) out halted carries fits waits = runs_too x t got (meter_may_hear (meter_with s) s t a (Ok got) out halted carries fits waits)
+may_hear x s t a (Err reason) out halted carries fits waits = tt
 
 module _ (x y : CoordinatorState) (got : Accepted) (cost note now : ℕ) (r : Result CoordinatorHeard Dropped) (out : Out) (sound : IsSoundCoordinator x) (may : MayHear (of_coordinator x) got) where
   -- what it does about the frame

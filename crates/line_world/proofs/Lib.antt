@@ -14,3 +14,5 @@ mod Taking
 mod Arrivals
 mod Sendings
 mod Settings
+pub mod FurtherPlans
+pub mod Besides

@@ -342,7 +342,7 @@ module _ (w : World) (a b cost : ℕ) (x y : Node) (p q : ℕ) (may : MayMeet w 
 -- # coordinator, meter
 
 -- bounds do not speak of what stands beside the nodes
-bounded_beside : (w : World) (beside : List Beside) → IsBounded w → IsBounded (record w { beside = beside })
+pub bounded_beside : (w : World) (beside : List Beside) → IsBounded w → IsBounded (record w { beside = beside })
 bounded_beside w beside b = record {
   events = b.events;
   clock = b.clock;

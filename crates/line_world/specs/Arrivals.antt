@@ -1,11 +1,13 @@
 -- What becomes of octets that came to a node.
-use Rattle.std.specs.Prelude.{ℕ, Bool, true, ◌||◌, List, ◌++◌, length, map, Option, Some, None, is_some, Result, Ok, Err, if◌then◌else◌}
+use Rattle.std.specs.Prelude.{◌≡◌, ℕ, Bool, slice_set, IfNone, IfSome, true, ◌||◌, List, ◌++◌, length, map, Option, Some, None, is_some, Result, Ok, Err, if◌then◌else◌}
 use Rattle.std.specs.List.{list_any}
-use Rattle.std.specs.Option.{option_map}
+use Rattle.std.specs.Option.{option_map, option_map_or}
 use Rattle.plc_base.specs.declared.address.Eui.{Eui}
 use Rattle.plc_base.specs.declared.out_frame.Out.{Out}
 use Rattle.node_rules.specs.declared.heard.Accepted.{Accepted}
 use Rattle.node_rules.specs.declared.heard.Path.{Path}
+use Rattle.node_rules.specs.declared.heard.Reply.{Reply}
+use Rattle.node_rules.specs.declared.refusal.LocalRefusal.{LocalRefusal}
 use Rattle.node_rules.specs.declared.refusal.FrameRefusal.{FrameRefusal}
 use Rattle.node_rules.specs.Ciphers.{Ciphers}
 use Rattle.node_rules.specs.Memory.{Node}
@@ -13,9 +15,15 @@ use Rattle.node_rules.specs.NodeSteps.{NodeStep}
 use Rattle.line_flights.specs.declared.flights.Origin.{Origin}
 use Rattle.line_world.specs.declared.nodes.reception.HandedUp.{HandedUp}
 use Rattle.line_world.specs.declared.nodes.reception.Reception as telling
+use Rattle.line_world.specs.Reaching.{given_after}
 use Rattle.line_rules.specs.declared.happenings.Handed.{Handed}
 use Rattle.line_rules.specs.declared.happenings.Happenings.{Happenings}
-use Rattle.line_rules.specs.Answers.{frame_word, Reception}
+use Rattle.node_rules.specs.NodeSteps.{stays}
+use Rattle.reach_rules.specs.CheckedReplies.{checks_after}
+use Rattle.reach_rules.specs.Receiving.{NeighbourCommand, command_of}
+use Rattle.line_rules.specs.declared.event.Answer.TheVariants as said
+use Rattle.line_rules.specs.Further.{acknowledging, beside_at, checked, commanded, is_dropped, set_beside}
+use Rattle.line_rules.specs.Answers.{frame_word, only, Reception}
 use Rattle.line_rules.specs.Worlds.{Flight, World, Trace, start, is_forged_tag}
 use Rattle.line_rules.specs.Steps.{flight_by, forged_by, happened, hears, note_by, number_if, number_of, ran, received, trace_of}
 
@@ -40,9 +48,50 @@ abbrev pub hears_so : Ciphers → World → ℕ → Node → Accepted → Origin
 hears_so ciphers w number x got origin cost =
     received_so ciphers w number origin (hears ciphers x got cost origin.note w.clock)
 
+-- the checks that are left where a node sent this reply
+abbrev pub with_check_of : World → ℕ → Option Reply → World
+with_check_of w number sent =
+    set_beside number (record (beside_at w number) { checks = checks_after (beside_at w number).checks sent w.clock }) w
+
+-- a node hears a frame where neighbours are checked
+abbrev pub checked_so : Ciphers → World → ℕ → Node → Accepted → Origin → ℕ → World × Trace
+checked_so ciphers w number x got origin cost =
+    checked ciphers w number got (hears ciphers x got cost origin.note w.clock) (hears_so ciphers w number x got origin cost)
+
+-- what a node does about an acknowledgement that is due
+abbrev pub acknowledging_if : Node → Option Reply → NodeStep (Result (Unit {0}) LocalRefusal)
+acknowledging_if x None = stays x (Ok tt)
+acknowledging_if x (Some reply) = acknowledging x reply
+
+-- An acknowledgement went out after what was given out before, if one was due. Where its put failed nothing is left of either.
+pub record Acknowledges (w : World) (number : ℕ) (x : Node) (due : Option Reply) (before : Out) (done : Bool) (out : Out) (new : World)
+    : Type 0 where
+  pub world_is : new ≡ record w { nodes = slice_set w.nodes number (acknowledging_if x due).node }
+  pub done_is : done ≡ option_map_or (λ _. is_some (acknowledging_if x due).node.memory) due true
+  pub out_is : IfSome due (λ _. out ≡ given_after before (acknowledging_if x due))
+  pub kept : IfNone due (out ≡ before)
+
+-- by the command that the frame carries, if it carries one
+abbrev pub heard_so : Ciphers → World → ℕ → Node → Accepted → Origin → ℕ → Option NeighbourCommand → World × Trace
+heard_so ciphers w number x got origin cost (Some c) =
+    commanded ciphers number (hears ciphers x got cost origin.note w.clock).node c (hears_so ciphers w number x got origin cost)
+heard_so ciphers w number x got origin cost None =
+    if w.checks_on then checked_so ciphers w number x got origin cost
+    else hears_so ciphers w number x got origin cost
+
+-- the request of a listed neighbour was dropped
+abbrev pub unbelieved_so : Ciphers → World → ℕ → Node → Origin → World × Trace
+unbelieved_so ciphers w number x origin = received_so ciphers w number origin (stays x (only said.Blacklisted))
+
+-- a node with further reach hears a frame that it accepted, of this origin
+abbrev pub heard_further_so : Ciphers → World → ℕ → Node → Accepted → Origin → ℕ → World × Trace
+heard_further_so ciphers w number x got origin cost =
+    if is_dropped w number got then unbelieved_so ciphers w number x origin
+    else heard_so ciphers w number x got origin cost (command_of got)
+
 -- a node has looked at octets of this origin
 abbrev pub comes_so : Ciphers → World → ℕ → Node → Result Accepted FrameRefusal → Origin → ℕ → World × Trace
-comes_so ciphers w number x (Ok got) origin cost = hears_so ciphers w number x got origin cost
+comes_so ciphers w number x (Ok got) origin cost = heard_further_so ciphers w number x got origin cost
 comes_so ciphers w number x (Err reason) origin cost = (ran w, trace_of (happened w (frame_word reason)))
 
 -- a datagram that was handed up

@@ -9,3 +9,5 @@ pub mod Bounds
 pub mod WorldCodes
 pub mod Arrivals
 pub mod Finding
+pub mod Reaching
+pub mod Discovering

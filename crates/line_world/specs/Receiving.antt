@@ -4,6 +4,7 @@ use Rattle.std.specs.Option.{option_map}
 use Rattle.plc_base.specs.declared.out_frame.Out.{Out}
 use Rattle.node_rules.specs.declared.heard.Accepted.{Accepted}
 use Rattle.node_rules.specs.Memory.{Memory, Node, Role, Coordinator, Meter}
+use Rattle.node_rules.specs.Laws.{WaitingFits}
 use Rattle.node_rules.specs.NodeSteps.{NodeStep}
 use Rattle.line_rules.specs.Answers as rules
 use Rattle.plc_station.specs.Heard.{Fits}
@@ -17,11 +18,12 @@ abbrev pub CameTo : Role → Accepted → Memory → Type 0
 CameTo Coordinator got m = ⊤
 CameTo (Meter psk) got m = CameUp got.path m.station
 
--- A node may hear a frame: it is not halted, and its station accepted the frame.
+-- A node may hear a frame: it is not halted, its station accepted the frame, and what waits fits.
 pub record MayHear (x : Node) (got : Accepted) : Type 0 where
   pub running : IsSome x.memory
   pub fits : Fits got
   pub came : IfSome x.memory (λ m. CameTo x.role got m)
+  pub waits : IfSome x.memory (λ m. WaitingFits m.station)
 
 -- a datagram that the rules hand up, as a node tells it
 abbrev pub handed_up : rules.Up → HandedUp

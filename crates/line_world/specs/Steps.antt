@@ -41,6 +41,10 @@ takes_memory w (events.Inject node cost octets) = true
 takes_memory w (events.Challenge node) = true
 takes_memory w (events.Activate node index) = not (node == 0)
 takes_memory w (events.Kick node) = true
+takes_memory w (events.Bcast node datagram) = true
+takes_memory w (events.Scan node) = true
+takes_memory w (events.Choose node k) = true
+takes_memory w (events.Path from to) = has_address w to
 takes_memory w _ = false
 
 abbrev pub is_memory : StepFault → Bool

@@ -5,6 +5,8 @@ ghost use Rattle.node_rules.specs.Ciphers.{network};
 ghost use Rattle.line_rules.specs.declared.event.TheConstants.{MAX_EVENTS};
 ghost use Rattle.line_rules.specs.Answers as words;
 ghost use Rattle.line_rules.specs.Steps as rules;
+ghost use Rattle.line_rules.specs.Further as further;
+ghost use Rattle.line_rules.specs.Logs.{LogsKept};
 ghost use Rattle.line_rules.specs.Worlds.{is_forged_tag};
 ghost use Rattle.line_world.specs.Receiving.{MayHear};
 ghost use Rattle.line_world.specs.Arrivals.{comes_so, done_in, forged_in, handed_in, hears_so, in_run, left_of, note_in, said_of, taker_in};
@@ -12,12 +14,14 @@ ghost use Rattle.line_world.specs.Bounds.{IsBounded};
 ghost use Rattle.line_world.specs.Lines.{HasRoom, world_of};
 ghost use Rattle.line_world.specs.Steps.{Steps};
 
+use crate::discovery::is_discovery;
 use crate::line::Line;
 use crate::nodes::{HandedUp, Reception};
 use crate::world::Space;
 use line_flights::{Flights, Origin};
 use line_rules::{Answer, Handed, Happenings, StepFault};
 use node_rules::{Accepted, FrameRefusal, Path};
+use pan_discovery::read_discovery;
 use plc_base::{DatagramBuf, Eui, LinkCost, OctetRef};
 
 fn frame_word(reason: FrameRefusal) -> Answer
@@ -105,7 +109,7 @@ impl Line {
     }
 
     // Whether the octets are forged, or a tag that the node found right was made by nobody.
-    fn is_forged(&self, origin: Origin) -> bool
+    pub(crate) fn is_forged(&self, origin: Origin) -> bool
         ensures { result ≡ (origin.is_forged || list_any (is_forged_tag self.now.made.tags) self.now.out.tags.opened) }
     {
         if origin.is_forged {
@@ -131,7 +135,12 @@ impl Line {
     }
 
     // What a frame led to, for the world and for the report.
-    fn received<'a>(&mut self, node: usize, forged: bool, told: &Reception<'a>) -> Happenings<'a>
+    pub(crate) fn received<'a>(
+        &mut self,
+        node: usize,
+        forged: bool,
+        told: &Reception<'a>,
+    ) -> Happenings<'a>
         requires room { HasRoom self.old }
         requires node { node < 1000 }
         requires bounds { IsBounded (in_run (world_of self.old)) }
@@ -160,8 +169,8 @@ impl Line {
         }
     }
 
-    // A node hears a frame that it accepted, under the note with which its octets were sent.
-    fn heard<'a>(
+    /// A node hears a frame that it accepted, under the note with which its octets were sent.
+    pub(crate) fn heard<'a>(
         &mut self,
         node: usize,
         got: &Accepted<'a>,
@@ -202,13 +211,15 @@ impl Line {
         requires room { HasRoom self.old }
         requires there { node < length self.old.nodes }
         requires accepted { IfOk accepted.now (λ got. IfSome (slice_get self.old.nodes node) (λ x. MayHear x got)) }
+        requires beside { length self.old.beside.items ≡ length self.old.nodes }
+        requires logs { LogsKept (world_of self.old) }
         requires bounds { IsBounded (in_run (world_of self.old)) }
         requires events { self.old.events < MAX_EVENTS }
         ensures { IfSome (slice_get self.old.nodes node) (λ x. Steps true (world_of self.old) (Ok result)
             (world_of self.new) (Ok (comes_so network (world_of self.old) node x accepted.now origin cost))) }
     {
         match accepted {
-            Ok(got) => self.heard(node, got, origin, cost, datagram),
+            Ok(got) => self.heard_further(node, got, origin, cost, datagram),
             Err(reason) => self.answered(frame_word(*reason)),
         }
     }
@@ -222,9 +233,11 @@ impl Line {
         space: &'a mut Space,
     ) -> Result<Happenings<'a>, StepFault>
         requires bounds { IsBounded (world_of self.old) }
+        requires beside { length self.old.beside.items ≡ length self.old.nodes }
+        requires logs { LogsKept (world_of self.old) }
         requires events { self.old.events < MAX_EVENTS }
         ensures { Steps true (world_of self.old) result (world_of self.new)
-            (rules.deliver network (world_of self.old) flight node cost) }
+            (further.delivers network (world_of self.old) flight node cost) }
     {
         let number = self.node(node)?;
         if self.flights.flying(flight).is_none() {
@@ -235,6 +248,10 @@ impl Line {
         let Some(octets) = self.flights.flying(flight) else {
             return Err(StepFault::Flight);
         };
+        if is_discovery(octets) {
+            let frame = read_discovery(octets);
+            return Ok(self.discovered(number, frame, cost));
+        }
         let accepted = self.nodes.accept(number, octets, &mut space.payload);
         let origin = origin(&self.flights, octets, &accepted);
         Ok(self.arrived(number, &accepted, origin, cost, &mut space.datagram))
@@ -249,12 +266,18 @@ impl Line {
         space: &'a mut Space,
     ) -> Result<Happenings<'a>, StepFault>
         requires bounds { IsBounded (world_of self.old) }
+        requires beside { length self.old.beside.items ≡ length self.old.nodes }
+        requires logs { LogsKept (world_of self.old) }
         requires events { self.old.events < MAX_EVENTS }
         ensures { Steps true (world_of self.old) result (world_of self.new)
-            (rules.inject network (world_of self.old) node cost octets.now) }
+            (further.injects network (world_of self.old) node cost octets.now) }
     {
         let number = self.node(node)?;
         self.reserve()?;
+        if is_discovery(octets) {
+            let frame = read_discovery(octets);
+            return Ok(self.discovered(number, frame, cost));
+        }
         let accepted = self.nodes.accept(number, octets, &mut space.payload);
         let origin = origin(&self.flights, octets, &accepted);
         Ok(self.arrived(number, &accepted, origin, cost, &mut space.datagram))

@@ -5,6 +5,8 @@
 
 mod arriving;
 mod beside;
+mod discovery;
+mod further;
 mod happening;
 mod joining;
 mod line;

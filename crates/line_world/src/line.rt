@@ -3,7 +3,7 @@
 use crate::beside::Beside;
 use crate::nodes::Nodes;
 use line_flights::{Flights, MadeTags};
-use plc_base::Out;
+use plc_base::{FrameBuf, Out};
 use std::alloc::Global;
 
 /// A line has at most so many nodes.
@@ -27,6 +27,8 @@ pub(crate) struct Line {
     pub(crate) checks_on: bool,
     // What each node holds beside its memory, by its number.
     pub(crate) beside: Vec<Beside>,
+    // Where the body of a command is written.
+    pub(crate) body: FrameBuf,
     // What the node of the event gave out.
     pub(crate) out: Out,
 }

@@ -9,7 +9,9 @@ ghost use Rattle.node_rules.specs.Memory as memory;
 ghost use Rattle.node_rules.specs.Accepting.{same_eui};
 ghost use Rattle.line_rules.specs.Steps.{psk_of};
 
+mod command;
 mod creation;
+mod further;
 mod hearing;
 mod joining;
 mod line_coordinator;
@@ -18,12 +20,14 @@ mod ordering;
 mod reception;
 mod setting;
 mod station_calls;
+mod station_further;
 mod station_steps;
 mod telling;
 mod time;
 
 use crate::nodes::line_coordinator::LineCoordinator;
 use crate::nodes::meters::Meters;
+pub(crate) use command::{CommandRef, command_on};
 use plc_base::{Eui, Key, Short};
 pub(crate) use reception::{HandedUp, Reception};
 use std::alloc::Global;

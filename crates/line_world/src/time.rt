@@ -1,16 +1,22 @@
 //! Time, losses of power, restarts, and what a node shows.
-ghost use Rattle.std.specs.Prelude.{◌≡◌, ◌<◌, ◌≤◌, true, false};
+ghost use Rattle.std.specs.Prelude.{◌≡◌, ◌<◌, ◌≤◌, true, false, length, map};
 ghost use Rattle.node_rules.specs.Calls as calls;
 ghost use Rattle.node_rules.specs.Ciphers.{network};
 ghost use Rattle.line_rules.specs.declared.event.TheConstants.{MAX_EVENTS};
 ghost use Rattle.line_rules.specs.Answers as words;
+ghost use Rattle.line_rules.specs.Further as further;
+ghost use Rattle.line_rules.specs.Logs.{LogsKept};
 ghost use Rattle.line_rules.specs.Steps as rules;
+ghost use Rattle.neighbour_checks.specs.Neighbours.{nobody};
+ghost use Rattle.pan_discovery.specs.History.{ended};
+ghost use Rattle.reach_rules.specs.ReachingNodes.{tick_beside};
 ghost use Rattle.line_world.specs.Bounds.{IsBounded};
 ghost use Rattle.line_world.specs.Lines.{world_of};
 ghost use Rattle.line_world.specs.Steps.{Steps};
 
 use crate::line::Line;
 use crate::world::Space;
+use broadcast_log::BroadcastLog;
 use line_rules::{Answer, Happenings, StepFault};
 use node_rules::ShownRef;
 
@@ -20,24 +26,52 @@ impl Line {
         requires bounds { IsBounded (world_of self.old) }
         requires events { self.old.events < MAX_EVENTS }
         ensures { Steps false (world_of self.old) result (world_of self.new)
-            (rules.tick (world_of self.old) seconds) }
+            (further.ticks (world_of self.old) seconds) }
     {
         if !self.has_begun() {
             return Err(StepFault::Setup);
         }
         self.clock += u64::from(seconds);
         self.nodes.tick(self.clock);
+        self.tick_beside();
         Ok(self.answered(Answer::Ticked))
+    }
+
+    // Neighbours that have been listed for long enough are let go, and those that have not acknowledged in time are listed.
+    fn tick_beside(&mut self)
+        ensures { world_of self.new ≡ record (world_of self.old) { beside = map (tick_beside self.old.clock) self.old.beside.items } }
+    {
+        let now = self.clock;
+        for beside in &mut self.beside {
+            beside.checks.tick(now);
+        }
+    }
+
+    // Of what a node holds beside its memory the log alone is left, as its store gives it.
+    fn restart_beside(&mut self, node: usize, log: BroadcastLog)
+        requires there { node < length self.old.beside.items }
+        ensures { world_of self.new ≡ further.set_beside node (record { checks = nobody; log = log; scan = ended }) (world_of self.old) }
+    {
+        let beside = &mut self.beside[node];
+        beside.checks.clear();
+        beside.log = log;
+        beside.scan.clear();
     }
 
     /// A node restarts.
     pub(crate) fn restart(&mut self, node: u32) -> Result<Happenings<'static>, StepFault>
         requires bounds { IsBounded (world_of self.old) }
+        requires beside { length self.old.beside.items ≡ length self.old.nodes }
+        requires logs { LogsKept (world_of self.old) }
         requires events { self.old.events < MAX_EVENTS }
         ensures { Steps false (world_of self.old) result (world_of self.new)
-            (rules.restart network (world_of self.old) node) }
+            (further.restarts_further network (world_of self.old) node) }
     {
         let number = self.node(node)?;
+        let Ok(log) = self.nodes.open_log(number) else {
+            unreachable!()
+        };
+        self.restart_beside(number, log);
         let answer = self.nodes.restart(number);
         Ok(self.answered(answer))
     }

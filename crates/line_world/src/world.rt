@@ -74,6 +74,7 @@ pub struct World {
 }
 
 impl Model for World {
+    ghost use Rattle.line_rules.specs.Logs.{LogsKept};
     ghost use Rattle.line_rules.specs.Worlds.{World};
     ghost use Rattle.line_world.specs.WorldCodes.{world_code};
     ghost use Rattle.line_world.specs.Bounds.{IsBounded};
@@ -85,14 +86,14 @@ impl Model for World {
 
     ghost view = { λ w. world_of w.line };
 
-    ghost invariant = { λ w. IsBounded (world_of w.line) };
+    ghost invariant = { λ w. IsBounded (world_of w.line) × LogsKept (world_of w.line) };
 }
 
 impl World {
     ghost use Rattle.std.specs.Option.{option_copied, option_map};
     ghost use Rattle.node_rules.specs.Ciphers.{network};
     ghost use Rattle.line_rules.specs.Worlds.{start, flight_at};
-    ghost use Rattle.line_rules.specs.Steps.{step};
+    ghost use Rattle.line_rules.specs.Further.{line_step};
     ghost use Rattle.line_world.specs.Steps.{Gives, HasMemory, takes_memory};
 
     /// A world with no node. It takes no memory.
@@ -114,6 +115,7 @@ impl World {
                 done: 0,
                 checks_on: false,
                 beside: Vec::new(alloc),
+                body: FrameBuf::new(),
                 out: Out::new(),
             },
         }
@@ -166,7 +168,7 @@ impl World {
     ) -> Result<Happenings<'a>, StepFault>
         requires events { self.old.events < MAX_EVENTS }
         requires event { IsEvent event.now }
-        ensures step { Gives self.old result self.new (step network self.old event.now) }
+        ensures step { Gives self.old result self.new (line_step network self.old event.now) }
         ensures memory { HasMemory (takes_memory self.old event.now) result }
     {
         match event {
@@ -201,11 +203,11 @@ impl World {
             Event::Activate { node, index } => self.line.activate(*node, *index),
             Event::Kick { node } => self.line.kick(*node),
             Event::Show { node } => self.line.show(*node, space),
-            Event::Checks => Err(StepFault::Setup),
-            Event::Bcast { .. } => Err(StepFault::Setup),
-            Event::Scan { .. } => Err(StepFault::Setup),
-            Event::Choose { .. } => Err(StepFault::Setup),
-            Event::Path { .. } => Err(StepFault::Setup),
+            Event::Checks => self.line.checks(),
+            Event::Bcast { node, datagram } => self.line.bcast(*node, datagram.octets()),
+            Event::Scan { node } => self.line.scan(*node),
+            Event::Choose { node, k } => self.line.choose(*node, *k),
+            Event::Path { from, to } => self.line.path(*from, *to),
         }
     }
 }

@@ -111,6 +111,14 @@ impl<K: Keeper + Drop> Meter<K> {
         self.station.ring().joined()
     }
 
+    /// The neighbour, the number and the origin of the route reply that its station sent at its last `hear`, as
+    /// [`Station::last_reply`] tells it.
+    pub fn last_reply(&self) -> Option<(Short, u16, Short)>
+        ensures { result ≡ option_map (λ r. (r.to, r.number, r.origin)) self.now.station.replied }
+    {
+        self.station.last_reply()
+    }
+
     /// Ends what is old at a time in seconds: what its station ends, and a session after 120. A halted meter stays as it is.
     pub fn tick(&mut self, now: u64)
         requires agrees { Agrees self.old.station }

@@ -8,6 +8,7 @@ ghost use Rattle.mac_frames.specs.Grammar.{Frame, IsSealed};
 ghost use Rattle.node_rules.specs.Ciphers.{network};
 ghost use Rattle.node_rules.specs.Frames.{arrived, arrived_with};
 ghost use Rattle.node_rules.specs.Accepting as accepting;
+ghost use Rattle.node_rules.specs.Laws.{WaitingFits};
 
 use crate::station::Station;
 use aes_modes::Aes;
@@ -187,13 +188,17 @@ impl<K: Keeper + Drop> Station<K> {
         ensures agrees { Agrees self.new }
         ensures replied { self.new.replied ≡ self.old.replied }
         ensures fits { IfOk result (λ got. Fits got) }
+        ensures waits { IfSome self.new.memory (λ l. WaitingFits l) }
     {
         if self.halted {
             return Err(FrameRefusal::Halted);
         }
-        match read_frame(octets) {
+        let accepted = match read_frame(octets) {
             Err(_) => Err(FrameRefusal::Malformed),
             Ok(raw) => self.accept_raw(&raw, payload),
-        }
+        };
+        // What waits fits, by its type.
+        let _waiting = self.bodies.count();
+        accepted
     }
 }

@@ -1,5 +1,5 @@
 //! What is shown of a station.
-ghost use Rattle.std.specs.Prelude.{◌≡◌, ◌<◌, map, None, Some, IfSome, IsSome, length};
+ghost use Rattle.std.specs.Prelude.{◌≡◌, ◌+◌, ◌<◌, map, None, Some, IfSome, IsSome, length};
 ghost use Rattle.std.specs.Option.{option_map};
 ghost use Rattle.plc_base.specs.Orders.{ordered_by};
 ghost use Rattle.store_tables.specs.SlotTables.{entry_of};
@@ -133,6 +133,13 @@ impl<K: Keeper + Drop> Station<K> {
         ensures { IfSome self.now.memory (λ l. result.now ≡ l.routing) }
     {
         &self.parts.routing
+    }
+
+    /// How many frame counters are left. Of a halted one that says nothing.
+    pub fn counters_left(&self) -> u32
+        ensures { IfSome self.now.memory (λ l. result + l.counter.next ≡ 4294967295) }
+    {
+        self.parts.counter.left()
     }
 
     /// The next hop of the valid route to an address and the cost of the address's rank, None where it has no valid route. One that

@@ -1,6 +1,8 @@
 //! What a node makes of a frame that it accepted.
-ghost use Rattle.std.specs.Prelude.{◌<◌, length, IfSome, slice_get};
+ghost use Rattle.std.specs.Prelude.{◌≡◌, ◌<◌, length, IfSome, IsSome, slice_get};
 ghost use Rattle.node_rules.specs.Ciphers.{network};
+ghost use Rattle.node_rules.specs.Replies.{reply_among};
+ghost use Rattle.reach_rules.specs.CheckedReplies.{message_of};
 ghost use Rattle.line_rules.specs.Steps.{hears};
 ghost use Rattle.line_world.specs.Receiving.{MayHear, Received};
 
@@ -25,8 +27,10 @@ impl Nodes {
     ) -> Reception<'a>
         requires there { number < length self.old }
         requires accepted { IfSome (slice_get self.old number) (λ x. MayHear x got.now) }
-        ensures { IfSome (slice_get self.old number) (λ x. Received (hears network x got.now cost note now)
+        ensures received { IfSome (slice_get self.old number) (λ x. Received (hears network x got.now cost note now)
             self.old number result out.new self.new) }
+        ensures replied { IsSome (message_of got.now) → IfSome (slice_get self.old number)
+            (λ x. result.replied ≡ reply_among (hears network x got.now cost note now).frames) }
     {
         if number > 0 {
             return self
@@ -39,6 +43,7 @@ impl Nodes {
                 up: None,
                 took: false,
                 done: None,
+                replied: None,
             };
         };
         coordinator.hear(got, cost, note, now, datagram, out)

@@ -1,5 +1,5 @@
 //! The coordinator of a line, and what it does.
-ghost use Rattle.std.specs.Prelude.{◌≡◌, ◌≤◌, Ok, Err, IfOk, Some};
+ghost use Rattle.std.specs.Prelude.{◌≡◌, ◌≤◌, Ok, Err, IfOk, IsSome, Some};
 ghost use Rattle.line_world.specs.Doings.{Took};
 ghost use Rattle.line_world.specs.Receiving.{MayHear, Tells};
 ghost use Rattle.line_rules.specs.Steps.{coordinator_node, hears, keeps_rank, ranks_full, restarts, ticked};
@@ -13,9 +13,12 @@ ghost use Rattle.node_rules.specs.Frames.{arrived};
 ghost use Rattle.node_rules.specs.Memory.{node_address};
 ghost use Rattle.node_rules.specs.MemoryDrafts as drafts;
 ghost use Rattle.node_rules.specs.NodeSteps.{acts, changing, of_station, stays};
+ghost use Rattle.node_rules.specs.Replies.{reply_among};
 ghost use Rattle.node_rules.specs.Showing.{shown_of};
+ghost use Rattle.reach_rules.specs.CheckedReplies.{message_of};
 
 use crate::nodes::reception::Reception;
+use crate::nodes::station_further::reply_of;
 use crate::nodes::station_steps::{
     break_at, has_rank, is_full, offer_near, restart_word, set_counter, set_number,
 };
@@ -296,8 +299,11 @@ impl LineCoordinator {
         ensures took { Took (hears network self.old got.now cost note now)
             (hears network self.old got.now cost note now).answer
             out.new self.new }
+        ensures replied { IsSome (message_of got.now)
+            → result.replied ≡ reply_among (hears network self.old got.now cost note now).frames }
     {
         let heard = self.coordinator.hear(got, cost, note, now, datagram, out);
-        coordinator_told(&heard)
+        let replied = reply_of(self.coordinator.last_reply());
+        coordinator_told(&heard).with_reply(replied)
     }
 }

@@ -11,7 +11,9 @@ ghost use Rattle.node_rules.specs.Meters as meters;
 ghost use Rattle.node_rules.specs.NodeSteps.{acts, changing, of_station, stays};
 ghost use Rattle.line_rules.specs.Steps.{blank_node, hears, identity, keeps_rank, psk_of, ranks_full, restarts, ticked};
 ghost use Rattle.node_rules.specs.Memory as memory;
+ghost use Rattle.node_rules.specs.Replies.{reply_among};
 ghost use Rattle.node_rules.specs.Showing.{shown_of};
+ghost use Rattle.reach_rules.specs.CheckedReplies.{message_of};
 ghost use Rattle.node_rules.specs.Accepting.{same_eui};
 ghost use Rattle.line_rules.specs.declared.event.Answer.TheVariants as said;
 ghost use Rattle.line_world.specs.Doings.{Did};
@@ -19,6 +21,7 @@ ghost use Rattle.line_world.specs.Nodes.{has_eui};
 ghost use Rattle.line_world.specs.Receiving.{MayHear, Received};
 
 use crate::nodes::reception::Reception;
+use crate::nodes::station_further::reply_of;
 use crate::nodes::station_steps::{
     break_at, has_rank, is_full, offer_near, restart_word, set_counter, set_number,
 };
@@ -356,10 +359,13 @@ impl Meters {
     ) -> Reception<'a>
         requires there { place < length self.old }
         requires accepted { IfSome (slice_get self.old place) (λ x. MayHear x got.now) }
-        ensures { IfSome (slice_get self.old place) (λ x. Received (hears network x got.now cost note now)
+        ensures received { IfSome (slice_get self.old place) (λ x. Received (hears network x got.now cost note now)
             self.old place result out.new self.new) }
+        ensures replied { IsSome (message_of got.now) → IfSome (slice_get self.old place)
+            (λ x. result.replied ≡ reply_among (hears network x got.now cost note now).frames) }
     {
         let heard = self.meters[place].hear(got, cost, note, now, datagram, out);
-        meter_told(&heard)
+        let replied = reply_of(self.meters[place].last_reply());
+        meter_told(&heard).with_reply(replied)
     }
 }

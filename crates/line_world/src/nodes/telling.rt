@@ -17,11 +17,12 @@ fn only(answer: Answer) -> Reception<'static>
         up: None,
         took: false,
         done: None,
+        replied: None,
     }
 }
 
 // The word of a frame that was accepted and dropped.
-fn drop_word(reason: Dropped) -> Answer
+pub(crate) fn drop_word(reason: Dropped) -> Answer
     ensures { result ≡ rules.drop_word reason }
 {
     match reason {
@@ -61,6 +62,7 @@ fn station_told<'a>(heard: &Heard<'a>) -> Reception<'a>
             }),
             took: false,
             done: None,
+            replied: None,
         },
         Heard::Held => only(Answer::Held),
         Heard::Relayed => only(Answer::Relayed),
@@ -87,6 +89,7 @@ fn meter_words<'a>(heard: &MeterHeard<'a>) -> Reception<'a>
             up: None,
             took: true,
             done: None,
+            replied: None,
         },
         MeterHeard::Noted => only(Answer::Noted),
         MeterHeard::Declined => only(Answer::Declined),
@@ -118,6 +121,7 @@ fn coordinator_words<'a>(heard: &CoordinatorHeard<'a>) -> Reception<'a>
             up: None,
             took: false,
             done: Some(*eui),
+            replied: None,
         },
         CoordinatorHeard::Declined => only(Answer::Declined),
     }

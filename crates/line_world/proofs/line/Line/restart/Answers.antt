@@ -1,25 +1,63 @@
 -- A node restarts.
-use Rattle.std.proofs.Common.{false, ap, ◌∙◌, Err}
-use Rattle.line_rules.specs.declared.event.StepFault.{StepFault}
+use Rattle.std.proofs.Common.{◌≡◌, ◌∙◌, ◌<◌, ℕ, List, length, Err, Ok, false, ap, refl, subst, sym}
+use Rattle.std.specs.Prelude.{IfSome, slice_get, slice_set}
 use Rattle.std.proofs.lemmas.Result.{err_from_is_err_and}
-use Rattle.line_rules.specs.Steps.{restart, restarts}
+use Rattle.neighbour_checks.specs.Neighbours.{nobody}
+use Rattle.pan_discovery.specs.History.{ended}
+use Rattle.node_rules.specs.Carrying.{nothing}
+use Rattle.node_rules.specs.Ciphers.{network}
+use Rattle.node_rules.specs.Memory.{Node}
+use Rattle.reach_rules.specs.ReachingNodes.{Beside}
+use Rattle.line_rules.specs.declared.event.StepFault.{StepFault}
+use Rattle.line_rules.specs.Further.{restarts_further}
+use Rattle.line_rules.specs.Steps.{acted, happened, ran, restarts}
+use Rattle.line_rules.specs.Worlds.{World, Trace}
+use Rattle.line_world.specs.Doings.{Did}
 use Rattle.line_world.specs.Lines.{world_of}
+use Rattle.line_world.specs.Steps.{Steps}
+use Rattle.line_world.proofs.Besides.{log_opened, restart_is, steps_beside}
 use Rattle.line_world.proofs.Taking.{steps_as, begun, at_node, is_there, node_said, not_found, has_coordinator}
 use Rattle.line_world.proofs.line.Line.restart.Goals as goal
 
 pub returns-in_err-number : goal.returns-in_err-number
-unfolding restart
+unfolding restarts_further
 returns-in_err-number c =
     let p = err_from_is_err_and c.from_residual.result c.from_residual.ensures.1 in
     rw p.1 (not_found false (world_of c.args.self.now) c.args.node _ p.0 c.requires.bounds (ap (λ (f : StepFault). Err f) p.2 ∙ c.in_err-number.ensures))
 
+pub open_log-requires : goal.open_log-requires
+open_log-requires c = record { there = (is_there (world_of c.args.self.now) c.args.node c.in_ok-number.number c.in_ok-number.ensures).within }
+
+pub unreachable-requires : goal.unreachable-requires
+unreachable-requires c =
+    let there = is_there (world_of c.args.self.now) c.args.node c.in_ok-number.number c.in_ok-number.ensures in
+    let opened = log_opened there c.requires.logs c.open_log.result c.open_log.ensures.value in
+    c.in_default.not-Ok opened.0 opened.1
+
+pub restart_beside-requires : goal.restart_beside-requires
+restart_beside-requires c =
+    record { there = subst (λ (n : ℕ). c.in_ok-number.number < n) (sym c.requires.beside) (is_there (world_of c.args.self.now) c.args.node c.in_ok-number.number c.in_ok-number.ensures).within }
+
 pub restart-answer-requires : goal.restart-answer-requires
-restart-answer-requires c = record { there = (is_there (world_of c.args.self.now) c.args.node c.in_ok-number.number c.in_ok-number.ensures).within }
+restart-answer-requires c =
+    let there = is_there (world_of c.args.self.now) c.args.node c.in_ok-number.number c.in_ok-number.ensures in
+    record { there = subst (λ (v : World). c.in_ok-number.number < length v.nodes) (sym c.restart_beside.ensures) there.within }
 
 pub returns : goal.returns
-unfolding restart
+unfolding restarts_further
 returns c =
     let w = world_of c.args.self.now in
     let there = is_there w c.args.node c.in_ok-number.number c.in_ok-number.ensures in
-    steps_as _ _ (begun w _ (has_coordinator (world_of c.args.self.now) c.args.node c.in_ok-number.number c.in_ok-number.ensures) ∙ at_node w c.args.node there.node _ there.at)
-    (node_said false w _ there restarts _ _ _ c.requires.bounds c.requires.events c.restart-answer.ensures c.answered.ensures.told (ap world_of c.answered.ensures.line))
+    let b : Beside = record { checks = nobody; log = c.in-Ok.log; scan = ended } in
+    let bs : List Beside = slice_set w.beside c.args.node b in
+    let nodes = c.restart-answer.new.self in
+    let did = subst (λ (v : World). IfSome (slice_get v.nodes c.in_ok-number.number) (λ (x : Node). Did (restarts x) v.nodes c.in_ok-number.number c.restart-answer.result nothing nodes)) c.restart_beside.ensures c.restart-answer.ensures in
+    let told = c.answered.ensures.told ∙ ap (λ (v : World). happened (record v { nodes = nodes }) c.restart-answer.result) c.restart_beside.ensures in
+    let left : World = record (record (ran w) { nodes = nodes }) { beside = bs } in
+    let new : world_of c.answered.new.self ≡ left =
+    ap world_of c.answered.ensures.line ∙ ap (λ (v : World). ran (record v { nodes = nodes })) c.restart_beside.ensures ∙ (λ i. record (record (ran w) { nodes = nodes }) { beside = slice_set w.beside (there.same i) b }) in
+    subst (λ (v : World). Steps false w _ v (restarts_further network w c.args.node)) (sym new)
+    (steps_as _ _ (begun w _ (has_coordinator w c.args.node c.in_ok-number.number c.in_ok-number.ensures) ∙ at_node w c.args.node there.node _ there.at
+    ∙ ap (λ (r : World × Trace). Ok r) (restart_is there c.requires.logs c.open_log.result c.open_log.ensures.value c.in-Ok.log c.in-Ok.is))
+    (steps_beside false w (record (ran w) { nodes = nodes }) _ (acted network w c.args.node (restarts there.node)) bs
+    (node_said false w (record (ran w) { nodes = nodes }) there restarts c.restart-answer.result nodes _ c.requires.bounds c.requires.events did told refl)))

@@ -25,7 +25,7 @@ returns-clause-took c =
 pub returns-clause-hears : goal.returns-clause-hears
 returns-clause-hears c =
     may_hear c.self.inside.coordinator c.station.result.now c.accept.new.self (arrived network c.args.octets.now) c.accept.result nothing
-    c.accept.ensures.halted c.accept.ensures.carries c.accept.ensures.fits
+    c.accept.ensures.halted c.accept.ensures.carries c.accept.ensures.fits c.accept.ensures.waits
 
 pub invariant_of-self : goal.invariant_of-self
 invariant_of-self c =

@@ -24,7 +24,7 @@ pub returns-clause-hears : goal.returns-clause-hears
 returns-clause-hears c =
     hears_in c.self.inside.meters.items _ c.args.place _ c.self.view_is c.requires.there c.accept.result
     (meter_may_hear c.index_mut.result.now c.station.result.now c.accept.new.self (arrived network c.args.octets.now) c.accept.result nothing
-    c.accept.ensures.halted c.accept.ensures.carries c.accept.ensures.fits)
+    c.accept.ensures.halted c.accept.ensures.carries c.accept.ensures.fits c.accept.ensures.waits)
 
 pub invariant_of-self : goal.invariant_of-self
 invariant_of-self c =

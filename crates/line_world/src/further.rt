@@ -1,0 +1,468 @@
+//! Checks of neighbours, broadcasts and path requests.
+ghost use Rattle.std.specs.Prelude.{◌≡◌, ◌==◌, ◌<◌, ◌≤◌, true, false, length, Ok, None, Some, IfSome, IsSome, is_some, slice_get, if◌then◌else◌};
+ghost use Rattle.std.specs.Option.{option_and_then};
+ghost use Rattle.loadng_messages.specs.Grammar as messages;
+ghost use Rattle.loadng_messages.specs.Reading as reading;
+ghost use Rattle.mesh_header.specs.Reading as units;
+ghost use Rattle.node_rules.specs.Ciphers.{network};
+ghost use Rattle.node_rules.specs.Replies.{route_message};
+ghost use Rattle.reach_rules.specs.CheckedReplies as replies;
+ghost use Rattle.reach_rules.specs.Receiving.{command_of as further_command};
+ghost use Rattle.line_rules.specs.declared.event.TheConstants.{MAX_EVENTS};
+ghost use Rattle.line_rules.specs.Answers as words;
+ghost use Rattle.line_rules.specs.Further as further;
+ghost use Rattle.line_rules.specs.Logs.{LogsKept};
+ghost use Rattle.line_rules.specs.Steps as rules;
+ghost use Rattle.line_world.specs.Arrivals.{Acknowledges, checked_so, heard_further_so, heard_so, in_run, unbelieved_so, with_check_of};
+ghost use Rattle.line_world.specs.Bounds.{IsBounded};
+ghost use Rattle.line_world.specs.Lines.{HasRoom, world_of};
+ghost use Rattle.line_world.specs.Reaching as reaching;
+ghost use Rattle.line_world.specs.Receiving.{MayHear};
+ghost use Rattle.line_world.specs.Steps.{Steps, has_address};
+
+use crate::line::Line;
+use crate::nodes::{CommandRef, Reception, command_on};
+use line_flights::Origin;
+use line_rules::{Answer, Happenings, StepFault};
+use loadng_messages::{Message, read_message};
+use mesh_header::{Unit, read_unit};
+use neighbour_checks::Checks;
+use node_rules::{Accepted, LocalRefusal, Path, Reply};
+use plc_base::{DatagramBuf, LinkCost, Short};
+use reach_rules::{AskRefusal, BroadcastRefusal};
+
+fn broadcast_word(sent: Result<(), BroadcastRefusal>) -> Answer
+    ensures { result ≡ words.broadcast_word sent }
+{
+    match sent {
+        Ok(()) => Answer::Sent,
+        Err(BroadcastRefusal::Halted) => Answer::Halted,
+        Err(BroadcastRefusal::NotJoined) => Answer::NotJoined,
+        Err(BroadcastRefusal::BadSize) => Answer::BadSize,
+        Err(BroadcastRefusal::NumberSpent) => Answer::NumberSpent,
+        Err(BroadcastRefusal::CounterSpent) => Answer::CounterSpent,
+        Err(BroadcastRefusal::Store) => Answer::Store,
+    }
+}
+
+fn ask_word(asked: Result<(), AskRefusal>) -> Answer
+    ensures { result ≡ words.ask_word asked }
+{
+    match asked {
+        Ok(()) => Answer::Traced,
+        Err(AskRefusal::Halted) => Answer::Halted,
+        Err(AskRefusal::NotJoined) => Answer::NotJoined,
+        Err(AskRefusal::ToSelf) => Answer::ToSelf,
+        Err(AskRefusal::NoRoute) => Answer::NoRoute,
+        Err(AskRefusal::CounterSpent) => Answer::CounterSpent,
+        Err(AskRefusal::Store) => Answer::Store,
+    }
+}
+
+// The unit of an accepted frame, if it carries one.
+fn unit_of<'a>(got: &Accepted<'a>) -> Option<Unit<'a>>
+    ensures { result ≡ units.unit_in got.now.payload }
+{
+    match read_unit(got.payload.octets()) {
+        Ok(unit) => Some(unit),
+        Err(_) => None,
+    }
+}
+
+// The message that the body of a command 01 is, if it is one.
+fn message_in(code: u8, body: &[u8]) -> Option<Message>
+    ensures value { result ≡ (if code == 1 then reading.message_in body.now else None) }
+    ensures allowed { IfSome result (λ m. messages.IsAllowed m) }
+{
+    if code != 1 {
+        return None;
+    }
+    match read_message(body) {
+        Ok(message) => Some(message),
+        Err(_) => None,
+    }
+}
+
+// The route message that a unit carries, if it carries one.
+fn message_of(unit: &Option<Unit<'_>>) -> Option<Message>
+    ensures value { result ≡ option_and_then route_message unit.now }
+    ensures allowed { IfSome result (λ m. messages.IsAllowed m) }
+{
+    match unit {
+        Some(Unit::Local { code, body }) => message_in(*code, body.octets()),
+        Some(Unit::Whole { .. }) => None,
+        Some(Unit::Part { .. }) => None,
+        Some(Unit::Carried { .. }) => None,
+        None => None,
+    }
+}
+
+// Whether a message is the request of a listed neighbour.
+fn asks_unbelieved(checks: &Checks, from: Short, message: &Option<Message>) -> bool
+    ensures { result ≡ replies.asks_unbelieved checks.now from message.now }
+{
+    match message {
+        Some(Message::Rreq { .. }) => checks.listed(from),
+        Some(Message::Rrep { .. }) => false,
+        Some(Message::Rerr { .. }) => false,
+        None => false,
+    }
+}
+
+// Whether a frame is the request to all of a listed neighbour.
+fn is_unbelieved(checks: &Checks, path: &Path, message: &Option<Message>) -> bool
+    ensures { result ≡ replies.is_unbelieved checks.now path.now message.now }
+{
+    match path {
+        Path::Sealed {
+            from,
+            to_all: true,
+            ..
+        } => asks_unbelieved(checks, *from, message),
+        Path::Sealed { to_all: false, .. } => false,
+        Path::Up { .. } => false,
+        Path::Down { .. } => false,
+    }
+}
+
+// The acknowledgement that a reply is due, where it is taken.
+fn due_of(from: Short, message: &Option<Message>) -> Option<Reply>
+    requires allowed { IfSome message.now (λ m. messages.IsAllowed m) }
+    ensures value { result ≡ further.due_of from message.now }
+    ensures number { IfSome result (λ r. 0 < r.number) }
+{
+    match message {
+        Some(Message::Rrep { number, origin, .. }) => Some(Reply {
+            to: from,
+            number: *number,
+            origin: *origin,
+        }),
+        Some(Message::Rreq { .. }) => None,
+        Some(Message::Rerr { .. }) => None,
+        None => None,
+    }
+}
+
+// Whether a reply was taken.
+fn is_reply_taken(answer: Answer) -> bool
+    ensures { result ≡ further.is_reply_taken answer }
+{
+    matches!(answer, Answer::Learned | Answer::Relayed)
+}
+
+// The acknowledgement that is due for a frame: of a reply that came to one node and was taken.
+fn due(path: &Path, message: &Option<Message>, answer: Answer) -> Option<Reply>
+    requires allowed { IfSome message.now (λ m. messages.IsAllowed m) }
+    ensures value { result ≡ further.due path.now message.now answer }
+    ensures number { IfSome result (λ r. 0 < r.number) }
+{
+    if !is_reply_taken(answer) {
+        return None;
+    }
+    match path {
+        Path::Sealed {
+            from,
+            to_all: false,
+            ..
+        } => due_of(*from, message),
+        Path::Sealed { to_all: true, .. } => None,
+        Path::Up { .. } => None,
+        Path::Down { .. } => None,
+    }
+}
+
+// The reply that a node sent, which only a route message brings.
+fn reply_of(message: &Option<Message>, replied: Option<Reply>) -> Option<Reply>
+    ensures { result ≡ (if is_some message.now then replied else None) }
+{
+    if message.is_none() {
+        return None;
+    }
+    replied
+}
+
+// Nothing came up, and a write failed.
+fn failed() -> Reception<'static> {
+    Reception {
+        answer: Answer::Store,
+        up: None,
+        took: false,
+        done: None,
+        replied: None,
+    }
+}
+
+impl Line {
+    /// Neighbours are checked from now on.
+    pub(crate) fn checks(&mut self) -> Result<Happenings<'static>, StepFault>
+        requires bounds { IsBounded (world_of self.old) }
+        requires events { self.old.events < MAX_EVENTS }
+        ensures { Steps false (world_of self.old) result (world_of self.new) (further.checks (world_of self.old)) }
+    {
+        if !self.takes_setup() {
+            return Err(StepFault::Setup);
+        }
+        if self.checks_on {
+            return Err(StepFault::Setup);
+        }
+        self.set_up();
+        self.checks_on = true;
+        Ok(self.happened(Answer::Set))
+    }
+
+    /// A node sends a datagram to all.
+    pub(crate) fn bcast(
+        &mut self,
+        node: u32,
+        datagram: &[u8],
+    ) -> Result<Happenings<'static>, StepFault>
+        requires bounds { IsBounded (world_of self.old) }
+        requires beside { length self.old.beside.items ≡ length self.old.nodes }
+        requires logs { LogsKept (world_of self.old) }
+        requires events { self.old.events < MAX_EVENTS }
+        ensures { Steps true (world_of self.old) result (world_of self.new)
+            (further.bcast network (world_of self.old) node datagram.now) }
+    {
+        let number = self.node(node)?;
+        self.reserve()?;
+        let sent = self.nodes.broadcast(
+            number,
+            &mut self.beside[number],
+            datagram,
+            &mut self.body,
+            &mut self.out,
+        );
+        Ok(self.acted(number, broadcast_word(sent)))
+    }
+
+    /// A node asks for the way to a node.
+    pub(crate) fn path(&mut self, from: u32, to: u32) -> Result<Happenings<'static>, StepFault>
+        requires bounds { IsBounded (world_of self.old) }
+        requires beside { length self.old.beside.items ≡ length self.old.nodes }
+        requires logs { LogsKept (world_of self.old) }
+        requires events { self.old.events < MAX_EVENTS }
+        ensures { Steps (has_address (world_of self.old) to) (world_of self.old) result (world_of self.new)
+            (further.path network (world_of self.old) from to) }
+    {
+        let from = self.node(from)?;
+        let to = self.node(to)?;
+        let Some(target) = self.nodes.address(to) else {
+            return Ok(self.answered(Answer::NoAddress));
+        };
+        self.reserve()?;
+        let asked = self.nodes.ask(
+            from,
+            &mut self.beside[from],
+            target,
+            &mut self.body,
+            &mut self.out,
+        );
+        Ok(self.acted(from, ask_word(asked)))
+    }
+
+    // The request of a listed neighbour is dropped.
+    fn unbelieved(&mut self, node: usize, origin: Origin) -> Happenings<'static>
+        requires room { HasRoom self.old }
+        requires there { node < length self.old.nodes }
+        requires bounds { IsBounded (in_run (world_of self.old)) }
+        requires events { self.old.events < MAX_EVENTS }
+        ensures { IfSome (slice_get self.old.nodes node) (λ x. Steps true (world_of self.old) (Ok result)
+            (world_of self.new) (Ok (unbelieved_so network (world_of self.old) node x origin))) }
+    {
+        self.out.clear();
+        let forged = self.is_forged(origin);
+        let told = Reception {
+            answer: Answer::Blacklisted,
+            up: None,
+            took: false,
+            done: None,
+            replied: None,
+        };
+        self.received(node, forged, &told)
+    }
+
+    // A node hears a command for its neighbours.
+    fn commanded<'a>(
+        &mut self,
+        node: usize,
+        got: &Accepted<'a>,
+        command: &CommandRef<'a>,
+        origin: Origin,
+        cost: LinkCost,
+        datagram: &'a mut DatagramBuf,
+    ) -> Happenings<'a>
+        requires room { HasRoom self.old }
+        requires there { node < length self.old.nodes }
+        requires bounds { IsBounded (in_run (world_of self.old)) }
+        requires beside { length self.old.beside.items ≡ length self.old.nodes }
+        requires events { self.old.events < MAX_EVENTS }
+        requires accepted { IfSome (slice_get self.old.nodes node) (λ x. MayHear x got.now) }
+        requires logs { LogsKept (world_of self.old) }
+        requires command { further_command got.now ≡ Some (reaching.command_of command.now) }
+        ensures { IfSome (slice_get self.old.nodes node) (λ x. Steps true (world_of self.old) (Ok result) (world_of self.new)
+            (Ok (heard_so network (world_of self.old) node x got.now origin cost (Some (reaching.command_of command.now))))) }
+    {
+        let told = self.nodes.hear(
+            node,
+            got,
+            cost,
+            origin.note,
+            self.clock,
+            datagram,
+            &mut self.out,
+        );
+        let forged = self.is_forged(origin);
+        let commanded = self.nodes.hear_command(
+            node,
+            &mut self.beside[node],
+            command,
+            &mut self.body,
+            &mut self.out,
+        );
+        let happened = self.received(node, forged, &told);
+        Happenings {
+            answer: commanded.answer,
+            forged,
+            up: happened.up,
+            bup: commanded.bup,
+            agent: None,
+            path: commanded.path,
+            grant: None,
+            took: happened.took,
+            done: happened.done,
+            shown: None,
+            first_flight: happened.first_flight,
+            flights: happened.flights,
+        }
+    }
+
+    // The reply that the node sent begins a check, if it sent one.
+    fn begin_check(&mut self, node: usize, sent: Option<Reply>)
+        requires there { node < length self.old.beside.items }
+        ensures { world_of self.new ≡ with_check_of (world_of self.old) node sent }
+    {
+        let Some(reply) = sent else {
+            return;
+        };
+        self.beside[node]
+            .checks
+            .sent(reply.to, reply.number, reply.origin, self.clock);
+    }
+
+    // An acknowledgement goes out, if one is due. Whether no write failed by it.
+    fn acknowledged(&mut self, node: usize, due: Option<Reply>) -> bool
+        requires there { node < length self.old.nodes }
+        requires number { IfSome due (λ r. 0 < r.number) }
+        requires joined { IsSome due → IfSome (slice_get self.old.nodes node) (λ x. IfSome x.memory (λ m. IsSome m.station.ring)) }
+        requires room { IsSome due → length self.old.out.frames < 24 }
+        ensures { IfSome (slice_get self.old.nodes node) (λ x. Acknowledges (world_of self.old) node x due self.old.out result self.new.out
+            (world_of self.new)) }
+    {
+        let Some(reply) = due else {
+            return true;
+        };
+        let sent = self
+            .nodes
+            .acknowledge(node, reply, &mut self.body, &mut self.out);
+        !matches!(sent, Err(LocalRefusal::Store))
+    }
+
+    // A node hears a frame where neighbours are checked.
+    fn checked<'a>(
+        &mut self,
+        node: usize,
+        got: &Accepted<'a>,
+        message: &Option<Message>,
+        origin: Origin,
+        cost: LinkCost,
+        datagram: &'a mut DatagramBuf,
+    ) -> Happenings<'a>
+        requires room { HasRoom self.old }
+        requires there { node < length self.old.nodes }
+        requires bounds { IsBounded (in_run (world_of self.old)) }
+        requires beside { length self.old.beside.items ≡ length self.old.nodes }
+        requires events { self.old.events < MAX_EVENTS }
+        requires accepted { IfSome (slice_get self.old.nodes node) (λ x. MayHear x got.now) }
+        requires logs { LogsKept (world_of self.old) }
+        requires message { message.now ≡ replies.message_of got.now }
+        requires allowed { IfSome message.now (λ m. messages.IsAllowed m) }
+        ensures { IfSome (slice_get self.old.nodes node) (λ x. Steps true (world_of self.old) (Ok result) (world_of self.new)
+            (Ok (checked_so network (world_of self.old) node x got.now origin cost))) }
+    {
+        let told = self.nodes.hear(
+            node,
+            got,
+            cost,
+            origin.note,
+            self.clock,
+            datagram,
+            &mut self.out,
+        );
+        let forged = self.is_forged(origin);
+        if !self.acknowledged(node, due(&got.path, message, told.answer)) {
+            return self.received(node, forged, &failed());
+        }
+        self.begin_check(node, reply_of(message, told.replied));
+        self.received(node, forged, &told)
+    }
+
+    // A frame that carries no command for the neighbours, where these are checked.
+    fn heard_checked<'a>(
+        &mut self,
+        node: usize,
+        got: &Accepted<'a>,
+        message: &Option<Message>,
+        origin: Origin,
+        cost: LinkCost,
+        datagram: &'a mut DatagramBuf,
+    ) -> Happenings<'a>
+        requires room { HasRoom self.old }
+        requires there { node < length self.old.nodes }
+        requires bounds { IsBounded (in_run (world_of self.old)) }
+        requires beside { length self.old.beside.items ≡ length self.old.nodes }
+        requires events { self.old.events < MAX_EVENTS }
+        requires accepted { IfSome (slice_get self.old.nodes node) (λ x. MayHear x got.now) }
+        requires logs { LogsKept (world_of self.old) }
+        requires message { message.now ≡ replies.message_of got.now }
+        requires allowed { IfSome message.now (λ m. messages.IsAllowed m) }
+        requires checks { self.old.checks_on ≡ true }
+        requires plain { further_command got.now ≡ None }
+        ensures { IfSome (slice_get self.old.nodes node) (λ x. Steps true (world_of self.old) (Ok result) (world_of self.new)
+            (Ok (heard_further_so network (world_of self.old) node x got.now origin cost))) }
+    {
+        if is_unbelieved(&self.beside[node].checks, &got.path, message) {
+            return self.unbelieved(node, origin);
+        }
+        self.checked(node, got, message, origin, cost, datagram)
+    }
+
+    /// A node hears a frame that it accepted, under the note with which its octets were sent.
+    pub(crate) fn heard_further<'a>(
+        &mut self,
+        node: usize,
+        got: &Accepted<'a>,
+        origin: Origin,
+        cost: LinkCost,
+        datagram: &'a mut DatagramBuf,
+    ) -> Happenings<'a>
+        requires room { HasRoom self.old }
+        requires there { node < length self.old.nodes }
+        requires bounds { IsBounded (in_run (world_of self.old)) }
+        requires beside { length self.old.beside.items ≡ length self.old.nodes }
+        requires events { self.old.events < MAX_EVENTS }
+        requires accepted { IfSome (slice_get self.old.nodes node) (λ x. MayHear x got.now) }
+        requires logs { LogsKept (world_of self.old) }
+        ensures { IfSome (slice_get self.old.nodes node) (λ x. Steps true (world_of self.old) (Ok result) (world_of self.new)
+            (Ok (heard_further_so network (world_of self.old) node x got.now origin cost))) }
+    {
+        let unit = unit_of(got);
+        if let Some(command) = command_on(&got.path, &unit) {
+            return self.commanded(node, got, &command, origin, cost, datagram);
+        }
+        if self.checks_on {
+            let message = message_of(&unit);
+            return self.heard_checked(node, got, &message, origin, cost, datagram);
+        }
+        self.heard(node, got, origin, cost, datagram)
+    }
+}

@@ -1,0 +1,374 @@
+//! What the nodes of a line do about acknowledgements, broadcasts, beacons and path requests.
+ghost use Rattle.std.specs.Prelude.{◌≡◌, ◌<◌, ◌≤◌, ◌+◌, length, Ok, Err, IfSome, IsSome, is_some, not, slice_get};
+ghost use Rattle.std.specs.Option.{option_and_then};
+ghost use Rattle.broadcast_log.specs.Log as logs;
+ghost use Rattle.node_rules.specs.MemoryDrafts.{in_memory};
+ghost use Rattle.node_rules.specs.NodeSteps.{acts};
+ghost use Rattle.reach_rules.specs.Beacons.{cost_home};
+ghost use Rattle.reach_rules.specs.Broadcasts as broadcast_rules;
+ghost use Rattle.reach_rules.specs.CheckedReplies.{acknowledges};
+ghost use Rattle.reach_rules.specs.PathAsking.{ask_path};
+ghost use Rattle.line_world.specs.Reaching.{DidAfter, IsLogOf, Reached, ReachedCommand, ReachedFirst, TellsCommand, TookAlone, TookCommand, TookFirst, command_of};
+ghost use Rattle.line_rules.specs.Further.{reaches};
+ghost use Rattle.node_rules.specs.declared.refusal.Dropped.TheVariants.{Store};
+ghost use Rattle.reach_rules.specs.declared.refusal.ReachDropped.TheVariants.{Known};
+ghost use Rattle.reach_rules.specs.Receiving.{hear_command};
+
+use crate::beside::Beside;
+use crate::nodes::Nodes;
+use crate::nodes::command::{CommandRef, Commanded};
+use crate::nodes::line_coordinator::LineCoordinator;
+use crate::nodes::meters::Meters;
+use crate::nodes::station_further::{acknowledge_at, ask_at, broadcast_at, hear_command_at};
+use broadcast_log::BroadcastLog;
+use line_rules::Answer;
+use node_rules::{LocalRefusal, Reply};
+use plc_base::{BadStore, FrameBuf, Out, Short};
+use reach_rules::{AskRefusal, BroadcastRefusal};
+
+// The coordinator's address.
+fn coordinator() -> Short
+    ensures { result ≡ 0 }
+{
+    let Some(address) = Short::new(0) else {
+        unreachable!()
+    };
+    address
+}
+
+impl LineCoordinator {
+    /// Whether it is halted.
+    pub fn halted(&mut self) -> bool
+        ensures value { result ≡ not (is_some self.old.memory) }
+        ensures same { self.new ≡ self.old }
+    {
+        self.coordinator.station().halted()
+    }
+
+    /// The log that its store gives.
+    pub fn open_log(&mut self) -> Result<BroadcastLog, BadStore>
+        ensures value { result ≡ logs.opened self.old.store.records }
+        ensures same { self.new ≡ self.old }
+    {
+        BroadcastLog::open(self.coordinator.station().keeper_mut())
+    }
+
+    /// It sends a datagram to all.
+    pub fn broadcast(
+        &mut self,
+        beside: &mut Beside,
+        datagram: &[u8],
+        room: &mut FrameBuf,
+        out: &mut Out,
+    ) -> Result<(), BroadcastRefusal>
+        requires log { IsLogOf beside.old self.old }
+        ensures { TookFirst self.old beside.old (Err BroadcastRefusal.Halted)
+            (λ y. broadcast_rules.broadcast in_memory y datagram.now) result out.new self.new beside.new }
+    {
+        broadcast_at(self.coordinator.station(), beside, datagram, room, out)
+    }
+
+    /// It asks for the way to an address.
+    pub fn ask(
+        &mut self,
+        beside: &mut Beside,
+        target: Short,
+        room: &mut FrameBuf,
+        out: &mut Out,
+    ) -> Result<(), AskRefusal>
+        ensures { TookFirst self.old beside.old (Err AskRefusal.Halted)
+            (λ y. ask_path in_memory y target) result out.new self.new beside.new }
+    {
+        ask_at(self.coordinator.station(), beside, target, room, out)
+    }
+
+    /// It acknowledges a reply.
+    pub fn acknowledge(
+        &mut self,
+        reply: Reply,
+        room: &mut FrameBuf,
+        out: &mut Out,
+    ) -> Result<(), LocalRefusal>
+        requires number { 0 < reply.number }
+        requires joined { IfSome self.old.memory (λ m. IsSome m.station.ring) }
+        requires room { length out.old.frames < 24 }
+        ensures { TookAlone (acts self.old (Err LocalRefusal.Store) (λ m. acknowledges in_memory reply.to reply.number reply.origin m))
+            result out.old out.new self.new }
+    {
+        acknowledge_at(self.coordinator.station(), reply, room, out)
+    }
+
+    /// It hears a command for its neighbours.
+    pub fn hear_command<'a>(
+        &mut self,
+        beside: &mut Beside,
+        command: &CommandRef<'a>,
+        room: &mut FrameBuf,
+        out: &mut Out,
+    ) -> Commanded<'a>
+        requires log { IsLogOf beside.old self.old }
+        requires room { length out.old.frames < 24 }
+        ensures { TookCommand self.old beside.old (command_of command.now) result out.old out.new self.new beside.new }
+    {
+        hear_command_at(0, self.coordinator.station(), beside, command, room, out)
+    }
+}
+
+impl Meters {
+    /// Whether a meter is halted.
+    pub fn halted(&mut self, place: usize) -> bool
+        requires there { place < length self.old }
+        ensures value { IfSome (slice_get self.old place) (λ x. result ≡ not (is_some x.memory)) }
+        ensures same { self.new ≡ self.old }
+    {
+        self.meters[place].station().halted()
+    }
+
+    /// The cost of a meter's valid route to the coordinator.
+    pub fn cost_home(&mut self, place: usize) -> Option<u16>
+        requires there { place < length self.old }
+        ensures value { IfSome (slice_get self.old place) (λ x. result ≡ option_and_then (λ m. cost_home x.role m.station) x.memory) }
+        ensures same { self.new ≡ self.old }
+    {
+        let (_, cost) = self.meters[place].station().valid(coordinator())?;
+        Some(cost)
+    }
+
+    /// The log that a meter's store gives.
+    pub fn open_log(&mut self, place: usize) -> Result<BroadcastLog, BadStore>
+        requires there { place < length self.old }
+        ensures value { IfSome (slice_get self.old place) (λ x. result ≡ logs.opened x.store.records) }
+        ensures same { self.new ≡ self.old }
+    {
+        BroadcastLog::open(self.meters[place].station().keeper_mut())
+    }
+
+    /// A meter sends a datagram to all.
+    pub fn broadcast(
+        &mut self,
+        place: usize,
+        beside: &mut Beside,
+        datagram: &[u8],
+        room: &mut FrameBuf,
+        out: &mut Out,
+    ) -> Result<(), BroadcastRefusal>
+        requires there { place < length self.old }
+        requires log { IfSome (slice_get self.old place) (λ x. IsLogOf beside.old x) }
+        ensures { IfSome (slice_get self.old place) (λ x. ReachedFirst x beside.old (Err BroadcastRefusal.Halted)
+            (λ y. broadcast_rules.broadcast in_memory y datagram.now) self.old place result out.new self.new beside.new) }
+    {
+        broadcast_at(self.meters[place].station(), beside, datagram, room, out)
+    }
+
+    /// A meter asks for the way to an address.
+    pub fn ask(
+        &mut self,
+        place: usize,
+        beside: &mut Beside,
+        target: Short,
+        room: &mut FrameBuf,
+        out: &mut Out,
+    ) -> Result<(), AskRefusal>
+        requires there { place < length self.old }
+        ensures { IfSome (slice_get self.old place) (λ x. ReachedFirst x beside.old (Err AskRefusal.Halted)
+            (λ y. ask_path in_memory y target) self.old place result out.new self.new beside.new) }
+    {
+        ask_at(self.meters[place].station(), beside, target, room, out)
+    }
+
+    /// A meter acknowledges a reply.
+    pub fn acknowledge(
+        &mut self,
+        place: usize,
+        reply: Reply,
+        room: &mut FrameBuf,
+        out: &mut Out,
+    ) -> Result<(), LocalRefusal>
+        requires there { place < length self.old }
+        requires number { 0 < reply.number }
+        requires joined { IfSome (slice_get self.old place) (λ x. IfSome x.memory (λ m. IsSome m.station.ring)) }
+        requires room { length out.old.frames < 24 }
+        ensures { IfSome (slice_get self.old place) (λ x. DidAfter (acts x (Err LocalRefusal.Store)
+            (λ m. acknowledges in_memory reply.to reply.number reply.origin m)) self.old place result out.old out.new self.new) }
+    {
+        acknowledge_at(self.meters[place].station(), reply, room, out)
+    }
+
+    /// A meter hears a command for its neighbours. The node's number is one more than its place.
+    pub fn hear_command<'a>(
+        &mut self,
+        place: usize,
+        beside: &mut Beside,
+        command: &CommandRef<'a>,
+        room: &mut FrameBuf,
+        out: &mut Out,
+    ) -> Commanded<'a>
+        requires there { place < length self.old }
+        requires few { place < 999 }
+        requires log { IfSome (slice_get self.old place) (λ x. IsLogOf beside.old x) }
+        requires room { length out.old.frames < 24 }
+        ensures tells { IfSome (slice_get self.old place) (λ x. TellsCommand result (place + 1) (reaches x beside.old (Err (Known Store))
+            (λ y. hear_command in_memory y (command_of command.now))).answer) }
+        ensures reached { IfSome (slice_get self.old place) (λ x. Reached x beside.old (Err (Known Store))
+            (λ y. hear_command in_memory y (command_of command.now)) self.old place
+            (reaches x beside.old (Err (Known Store)) (λ y. hear_command in_memory y (command_of command.now))).answer
+            out.old out.new self.new beside.new) }
+    {
+        let number = place as u16 + 1;
+        hear_command_at(
+            number,
+            self.meters[place].station(),
+            beside,
+            command,
+            room,
+            out,
+        )
+    }
+}
+
+impl Nodes {
+    /// Whether a node is halted.
+    pub fn halted(&mut self, number: usize) -> bool
+        requires there { number < length self.old }
+        ensures value { IfSome (slice_get self.old number) (λ x. result ≡ not (is_some x.memory)) }
+        ensures same { self.new ≡ self.old }
+    {
+        if number > 0 {
+            return self.meters.halted(number - 1);
+        }
+        let Some(coordinator) = &mut self.coordinator else {
+            return true;
+        };
+        coordinator.halted()
+    }
+
+    /// The cost from a node to the coordinator: nothing from the coordinator itself, and from a meter that of its valid route.
+    pub fn cost_home(&mut self, number: usize) -> Option<u16>
+        requires there { number < length self.old }
+        requires running { IfSome (slice_get self.old number) (λ x. IsSome x.memory) }
+        ensures value { IfSome (slice_get self.old number) (λ x. result ≡ option_and_then (λ m. cost_home x.role m.station) x.memory) }
+        ensures same { self.new ≡ self.old }
+    {
+        if number > 0 {
+            return self.meters.cost_home(number - 1);
+        }
+        Some(0)
+    }
+
+    /// The log of broadcasts that a node's store gives.
+    pub fn open_log(&mut self, number: usize) -> Result<BroadcastLog, BadStore>
+        requires there { number < length self.old }
+        ensures value { IfSome (slice_get self.old number) (λ x. result ≡ logs.opened x.store.records) }
+        ensures same { self.new ≡ self.old }
+    {
+        if number > 0 {
+            return self.meters.open_log(number - 1);
+        }
+        let Some(coordinator) = &mut self.coordinator else {
+            return Ok(BroadcastLog::new());
+        };
+        coordinator.open_log()
+    }
+
+    /// A node sends a datagram to all. `room` is overwritten, and what goes out is in `out`.
+    pub fn broadcast(
+        &mut self,
+        number: usize,
+        beside: &mut Beside,
+        datagram: &[u8],
+        room: &mut FrameBuf,
+        out: &mut Out,
+    ) -> Result<(), BroadcastRefusal>
+        requires there { number < length self.old }
+        requires log { IfSome (slice_get self.old number) (λ x. IsLogOf beside.old x) }
+        ensures { IfSome (slice_get self.old number) (λ x. ReachedFirst x beside.old (Err BroadcastRefusal.Halted)
+            (λ y. broadcast_rules.broadcast in_memory y datagram.now) self.old number result out.new self.new beside.new) }
+    {
+        if number > 0 {
+            return self
+                .meters
+                .broadcast(number - 1, beside, datagram, room, out);
+        }
+        let Some(coordinator) = &mut self.coordinator else {
+            return Err(BroadcastRefusal::Halted);
+        };
+        coordinator.broadcast(beside, datagram, room, out)
+    }
+
+    /// A node asks for the way to an address. `room` is overwritten, and what goes out is in `out`.
+    pub fn ask(
+        &mut self,
+        number: usize,
+        beside: &mut Beside,
+        target: Short,
+        room: &mut FrameBuf,
+        out: &mut Out,
+    ) -> Result<(), AskRefusal>
+        requires there { number < length self.old }
+        ensures { IfSome (slice_get self.old number) (λ x. ReachedFirst x beside.old (Err AskRefusal.Halted)
+            (λ y. ask_path in_memory y target) self.old number result out.new self.new beside.new) }
+    {
+        if number > 0 {
+            return self.meters.ask(number - 1, beside, target, room, out);
+        }
+        let Some(coordinator) = &mut self.coordinator else {
+            return Err(AskRefusal::Halted);
+        };
+        coordinator.ask(beside, target, room, out)
+    }
+
+    /// A node acknowledges a reply to the neighbour that sent it. `room` is overwritten, and what goes out comes after what `out` has.
+    pub fn acknowledge(
+        &mut self,
+        number: usize,
+        reply: Reply,
+        room: &mut FrameBuf,
+        out: &mut Out,
+    ) -> Result<(), LocalRefusal>
+        requires there { number < length self.old }
+        requires number { 0 < reply.number }
+        requires joined { IfSome (slice_get self.old number) (λ x. IfSome x.memory (λ m. IsSome m.station.ring)) }
+        requires room { length out.old.frames < 24 }
+        ensures { IfSome (slice_get self.old number) (λ x. DidAfter (acts x (Err LocalRefusal.Store)
+            (λ m. acknowledges in_memory reply.to reply.number reply.origin m)) self.old number result out.old out.new self.new) }
+    {
+        if number > 0 {
+            return self.meters.acknowledge(number - 1, reply, room, out);
+        }
+        let Some(coordinator) = &mut self.coordinator else {
+            return Err(LocalRefusal::Store);
+        };
+        coordinator.acknowledge(reply, room, out)
+    }
+
+    /// A node hears a command for its neighbours. `room` is overwritten, and what goes out comes after what `out` has.
+    pub fn hear_command<'a>(
+        &mut self,
+        number: usize,
+        beside: &mut Beside,
+        command: &CommandRef<'a>,
+        room: &mut FrameBuf,
+        out: &mut Out,
+    ) -> Commanded<'a>
+        requires there { number < length self.old }
+        requires few { length self.old ≤ 1000 }
+        requires log { IfSome (slice_get self.old number) (λ x. IsLogOf beside.old x) }
+        requires room { length out.old.frames < 24 }
+        ensures { IfSome (slice_get self.old number) (λ x. ReachedCommand x beside.old (command_of command.now) self.old number result out.old out.new
+            self.new beside.new) }
+    {
+        if number > 0 {
+            return self
+                .meters
+                .hear_command(number - 1, beside, command, room, out);
+        }
+        let Some(coordinator) = &mut self.coordinator else {
+            return Commanded {
+                answer: Answer::Store,
+                bup: None,
+                path: None,
+            };
+        };
+        coordinator.hear_command(beside, command, room, out)
+    }
+}
