@@ -168,6 +168,7 @@ pub mod ReachHistory
 pub mod ReachLogs
 pub mod OldUnits
 pub mod FlightsSay
+pub mod CommandTags
 pub mod CommandsCome
 pub mod SendsSay
 pub mod WalkRuns

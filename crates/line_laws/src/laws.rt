@@ -65,7 +65,7 @@ pub fn every_tag_rises()
     ensures { EveryTagRises }
 {}
 
-/// In every run, forged or not, no datagram that was sent is empty.
+/// In every run, forged or not, whatever the ciphers are, no datagram that was sent is empty.
 #[tactic(auto)]
 pub fn every_send_has_octets()
     ensures { EverySendHasOctets }
@@ -109,21 +109,21 @@ pub fn every_joining_agrees()
     ensures { EveryJoiningAgrees }
 {}
 
-/// In every run, forged or not, the world counts events, sends, datagrams that were handed up, forged events, joinings, flights and
+/// In every run, forged or not, whatever the ciphers are, the world counts events, sends, datagrams that were handed up, forged events, joinings, flights and
 /// pair tags as its history has them.
 #[tactic(auto)]
 pub fn every_count_is_right()
     ensures { EveryCountIsRight }
 {}
 
-/// In every run, forged or not, the history has a send, a datagram that was handed up, a grant that was taken, issued keys or a
+/// In every run, forged or not, whatever the ciphers are, the history has a send, a datagram that was handed up, a grant that was taken, issued keys or a
 /// joining that is done exactly where the answer of the event says so; a broadcast, which is answered as a send, is none.
 #[tactic(auto)]
 pub fn every_trace_is_right()
     ensures { EveryTraceIsRight }
 {}
 
-/// In every run exactly those events are reported to be forged in which a node accepted octets that no node sent under their key, or
+/// In every run, whatever the ciphers are, exactly those events are reported to be forged in which a node accepted octets that no node sent under their key, or
 /// found a pair tag right that no node made.
 #[tactic(auto)]
 pub fn every_forgery_is_told()
