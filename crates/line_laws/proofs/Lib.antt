@@ -164,6 +164,13 @@ pub mod FurtherLive
 pub mod FurtherRight
 pub mod FurtherRestarts
 pub mod ReachSteps
+pub mod ReachWords
+pub mod ReachCame
+pub mod ReachTold
+pub mod CheckHistories
+pub mod CheckedRight
+pub mod StepsTaken
+pub mod OnePlan
 pub mod ReachHistory
 pub mod ReachLogs
 pub mod OldUnits

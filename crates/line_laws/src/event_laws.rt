@@ -2,6 +2,7 @@
 ghost use Rattle.line_laws.specs.FurtherLines.{CallsKeepAll, CallsKeepTheLine, CommandsFit, CommandsKeepTheLine, DiscoveryKeepsTheLine, LineLogsHold, LineStepsHold, LineStepsRise, LineStepsSpell, LinesSpellBeacons, LogsFit, TablesAreShort};
 ghost use Rattle.line_laws.specs.Later.{BesideKeeps, CommandsMayBeSealed, DiscoveringKeeps, JoinedNodesSeal, KeepsInTurn, OthersMayNot, PlainKeeps, PlansSplit, RunningKeeps, SealingKeeps, StartHolds, StoringKeeps, UnsentHolds};
 ghost use Rattle.line_laws.specs.LineAccounts.{LineBooksGrow, LineFlightsFall, LineKicksShut, LineNodesAcceptOnce, LineRestartsAreRight, LineSendersAreRight, LineStepsShut, LineTagsRise, LineTracesRight};
+ghost use Rattle.line_laws.specs.OnePlan.{AcknowledgesInTurn};
 
 /// Where a node seals a command alone of code 03, 04 or 05, under note 0 and with its next counter, as it seals each of its commands, all is
 /// kept that the laws rest on: no mark and no stored rank falls, no flight comes to life, and the flight has the address of its node. A
@@ -21,6 +22,13 @@ pub fn storing_keeps()
 #[tactic(auto)]
 pub fn plans_split<A>()
     ensures { PlansSplit A }
+{}
+
+/// A node that hears a reply and acknowledges it by one plan does the same as one that hears it and then acknowledges it, whichever write fails:
+/// it is left the same, and sends both, or nothing where a write failed.
+#[tactic(auto)]
+pub fn acknowledges_in_turn<A>()
+    ensures { AcknowledgesInTurn A }
 {}
 
 /// Where a frame of discovery flies, all of this is kept too.
