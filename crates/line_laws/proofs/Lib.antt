@@ -97,6 +97,7 @@ pub mod CustodyHomes
 pub mod CustodyRuns
 pub mod IssueCalls
 pub mod IssueWorlds
+pub mod ReceivedKeys
 pub mod IssueSteps
 pub mod IssueRuns
 pub mod AddressWorlds
@@ -129,7 +130,7 @@ pub mod ShutCalls
 pub mod ShutSteps
 pub mod KeysStood
 pub mod KickRuns
-pub mod RestartRuns
+pub mod RestartRoutes
 pub mod LaterSeals
 pub mod LaterKeeps
 pub mod LaterEnds
