@@ -138,7 +138,8 @@ pub record Listed (p : ListedNeighbour → Bool) (h : History) : Type 0 where
 any_newly : (p : ListedNeighbour → Bool) (time : ℕ) (checks : List OpenCheck)
     → list_any p (newly_listed time checks) ≡ list_any (λ c. not (is_open_at time c) && p (listed_from time c)) checks
 any_newly p time checks =
-    any_mapped (listed_from time) p (filter (λ c. not (is_open_at time c)) checks) ∙ any_filtered (λ c. not (is_open_at time c)) (λ c. p (listed_from time c)) checks
+    any_mapped (listed_from time) p (filter (λ c. not (is_open_at time c)) checks)
+    ∙ any_filtered (λ c. not (is_open_at time c)) (λ c. p (listed_from time c)) checks
 
 pub listed : (p : ListedNeighbour → Bool) (h : History) → list_any p (after_history h).listed ≡ true → Listed p h
 listed p [] e = absurd (cc (none_any p (after_history []) (λ s. s.listed) refl nobody_at_the_start e))
@@ -160,7 +161,8 @@ listed p (Acknowledgement neighbour number origin ∷ h) e =
     let any = subst (λ (t : Neighbours). list_any p t.listed ≡ true) (one_more_entry h (Acknowledgement neighbour number origin)) e in
     let l = listed p h any in
     record { neighbour = l.neighbour; listed = StaysListed _ h l.listed refl; passes = l.passes }
-listed p (Tick time ∷ h) e = ⊎_elim (kept (λ q a. listed q h a)) new (either_true _ _ (sym (list_any-append p (filter (is_listed_at time) s.listed) (newly_listed time s.checks)) ∙ any))
+listed p (Tick time ∷ h) e = ⊎_elim (kept (λ q a. listed q h a)) new
+    (either_true _ _ (sym (list_any-append p (filter (is_listed_at time) s.listed) (newly_listed time s.checks)) ∙ any))
   where
     s : Neighbours
     s = after_history h
@@ -185,7 +187,8 @@ listed p (Tick time ∷ h) e = ⊎_elim (kept (λ q a. listed q h a)) new (eithe
 pub held_listed : (l : ListedNeighbour) (p : ListedNeighbour → Bool) (h : History) → IsListed l h → p l ≡ true → list_any p (after_history h).listed ≡ true
 held_listed l p h (Lists past c held same due) e =
     subst (λ (t : Neighbours). list_any p t.listed ≡ true) (sym (one_more_entry past (Tick l.since)))
-    (list_any-append p (filter (is_listed_at l.since) s.listed) (newly_listed l.since s.checks) ∙ or_right (list_any p (filter (is_listed_at l.since) s.listed)) _
+    (list_any-append p (filter (is_listed_at l.since) s.listed) (newly_listed l.since s.checks)
+    ∙ or_right (list_any p (filter (is_listed_at l.since) s.listed)) _
     (any_newly p l.since s.checks ∙ held_open c (λ k. not (is_open_at l.since k) && p (listed_from l.since k)) past held
     (both_true _ _ (not_is _ due) (subst (λ n. p (record { neighbour = n; since = l.since }) ≡ true) (sym same) e))))
   where

@@ -79,7 +79,8 @@ module _ (w : World) (before : List Entry) (h : IsOfHistory before w) (n : ℕ) 
   CheckedIn event (Ok r) = IsCheckedRight w before (entry n event r)
   CheckedIn event (Err fault) = Unit {0}
 
-  quiet_checked : (event : Event) (v : World) (t : Trace) → Quiet t.happened.answer → (IsBlacklisted w before event → ⊥) → IsCheckedRight w before (entry n event (v, t))
+  quiet_checked : (event : Event) (v : World) (t : Trace) → Quiet t.happened.answer → (IsBlacklisted w before event → ⊥)
+      → IsCheckedRight w before (entry n event (v, t))
   quiet_checked event v t quiet none = record {
     blacklisted = (λ e. absurd (new_word t.happened.answer said.Blacklisted quiet refl e), λ b. absurd (none b));
     acked = λ e. absurd (new_word t.happened.answer said.Acked quiet refl e);
@@ -129,7 +130,8 @@ module _ (w : World) (before : List Entry) (h : IsOfHistory before w) (n : ℕ) 
       s : Neighbours
       s = (beside_at w number).checks
 
-      by_path : w.checks_on ≡ true → (p : Path) → got.path ≡ p → (o : Option Message) → message_of got ≡ o → is_unbelieved s p o ≡ true → IsBlacklisted w before event
+      by_path : w.checks_on ≡ true → (p : Path) → got.path ≡ p → (o : Option Message) → message_of got ≡ o → is_unbelieved s p o ≡ true
+          → IsBlacklisted w before event
       by_path on (paths.Up from) e o m t = absurd (cc (t))
       by_path on (paths.Down from) e o m t = absurd (cc (t))
       by_path on (paths.Sealed from false key) e o m t = absurd (cc (t))
@@ -188,7 +190,8 @@ module _ (w : World) (before : List Entry) (h : IsOfHistory before w) (n : ℕ) 
       came : c.code ≡ 3 → c.to_all ≡ false → Came w event number c.from false (units.Local 3 c.body)
       came code alone =
           subst (λ t. Came w event number c.from t (units.Local 3 c.body)) alone
-          (subst (λ k. Came w event number c.from c.to_all (units.Local k c.body)) code (command_came w event number x octets got c a.there a.comes a.is carries))
+          (subst (λ k. Came w event number c.from c.to_all (units.Local k c.body)) code
+          (command_came w event number x octets got c a.there a.comes a.is carries))
 
       no_black : (o : Result CommandHeard ReachDropped) → Says b c o → command_word o ≡ said.Blacklisted → ⊥
       no_black (Ok heard_of.Acked) s e = cc (e)
@@ -379,12 +382,18 @@ module _ (w : World) (before : List Entry) (h : IsOfHistory before w) (n : ℕ) 
       rest_none number x octets got comes is false sealed = none number octets comes sealed
   checked_in event s Opens = quiet_checked events.Checks _ _ refl (unbrought events.Checks (λ k o c. comes_brought w events.Checks k o c))
   checked_in event s (Bcasts number x datagram there are) =
-      quiet_checked (events.Bcast number datagram) _ _ (broadcast_quiet (reaches x (beside_at w number) (Err broadcast_faults.Halted) (λ z. broadcast in_memory z datagram)).answer) (unbrought _ (λ k o c. comes_brought w (events.Bcast number datagram) k o c))
+      quiet_checked (events.Bcast number datagram) _ _
+      (broadcast_quiet (reaches x (beside_at w number) (Err broadcast_faults.Halted) (λ z. broadcast in_memory z datagram)).answer)
+      (unbrought _ (λ k o c. comes_brought w (events.Bcast number datagram) k o c))
   checked_in event s (Asks from to x y target there other address) =
-      quiet_checked (events.Path from to) _ _ (ask_quiet (reaches x (beside_at w from) (Err ask_faults.Halted) (λ z. ask_path in_memory z target)).answer) (unbrought _ (λ k o c. comes_brought w (events.Path from to) k o c))
+      quiet_checked (events.Path from to) _ _
+      (ask_quiet (reaches x (beside_at w from) (Err ask_faults.Halted) (λ z. ask_path in_memory z target)).answer)
+      (unbrought _ (λ k o c. comes_brought w (events.Path from to) k o c))
   checked_in event s (Scans number x m there here) = scan_other number _ _ (begin_scan m (beside_at w number).scan).answer refl
   checked_in event s (Chooses number k x psk there pair) =
-      quiet_checked (events.Choose number k) _ _ (choice_quiet (reaches x (beside_at w number) (Err choices.Halted) (λ z. choose_agent (identity network x psk) z k w.clock)).answer) (unbrought _ (λ i o c. comes_brought w (events.Choose number k) i o c))
+      quiet_checked (events.Choose number k) _ _
+      (choice_quiet (reaches x (beside_at w number) (Err choices.Halted) (λ z. choose_agent (identity network x psk) z k w.clock)).answer)
+      (unbrought _ (λ i o c. comes_brought w (events.Choose number k) i o c))
   checked_in event s (Discovers e number x m octets link other there here comes over is) =
       discovery_other e _ _ (hear_discovery x.role m.station (beside_at w number).scan octets link).answer refl (undiscovered e number octets comes is)
   checked_in event s (Unbelieves e number x octets got a is) = unbelieves_checked e number x octets got a is
@@ -393,7 +402,8 @@ module _ (w : World) (before : List Entry) (h : IsOfHistory before w) (n : ℕ) 
   checked_in event s (Hears e number x octets cost got a low passes none off) = hears_checked e number x octets cost got a passes
   checked_in event s (Ticks seconds) = quiet_checked (events.Tick seconds) _ _ refl (unbrought _ (λ k o c. comes_brought w (events.Tick seconds) k o c))
   checked_in event s (Restarts number x b there read) =
-      quiet_checked (events.Restart number) _ _ (restart_quiet (memory_of x.role x.store.records)) (unbrought _ (λ k o c. comes_brought w (events.Restart number) k o c))
+      quiet_checked (events.Restart number) _ _ (restart_quiet (memory_of x.role x.store.records))
+      (unbrought _ (λ k o c. comes_brought w (events.Restart number) k o c))
 
 -- # Runs
 

@@ -71,7 +71,8 @@ pub data IsReachStep (ciphers : Ciphers) (w : World) : Event → Step → Type 1
       → (accepting ciphers x octets).answer ≡ Ok got → ⊥)
       → IsReachStep ciphers w event s
   -- nothing is done
-  Rests : (event : Event) (answer : Answer) → is_idle answer ≡ true → IsOther event → ((number : ℕ) (octets : List ℕ) → Comes w event number octets → is_discovery octets ≡ false → ⊥)
+  Rests : (event : Event) (answer : Answer) → is_idle answer ≡ true → IsOther event
+      → ((number : ℕ) (octets : List ℕ) → Comes w event number octets → is_discovery octets ≡ false → ⊥)
       → IsReachStep ciphers w event (Ok (ran w, trace_of (happened w answer)))
   -- neighbours are checked from now on
   Opens : IsReachStep ciphers w events.Checks (Ok (record (set_up w) { checks_on = true }, trace_of (happened w said.Set)))

@@ -351,7 +351,8 @@ module _ (w : World) (logs : LogsKept w) (n : ℕ) where
         frame = λ x octets comes over is. subst (λ t. IfSome t (HasFrame w x)) (sym none) tt;
       }
 
-  finds_so : (number link : ℕ) (r : Role) (l : StationMemory) (scan : Scanned) (o : Option Discovery) → FindsSo number link o (hear_discovery_in r l scan o link).answer
+  finds_so : (number link : ℕ) (r : Role) (l : StationMemory) (scan : Scanned) (o : Option Discovery)
+      → FindsSo number link o (hear_discovery_in r l scan o link).answer
   finds_so number link r l scan None = loses_so number link None discovery_drops.Malformed refl
   finds_so number link r l scan (Some (discoveries.Request seq)) = by_address (address_of l)
     where
@@ -389,7 +390,8 @@ module _ (w : World) (logs : LogsKept w) (n : ℕ) where
   finds_told event number x m octets link comes over =
       let h = finds_so number link x.role m.station (beside_at w number).scan (discovery_in octets) in
       record {
-        broadcast = sym (unsent_event event (discovery_word (hear_discovery x.role m.station (beside_at w number).scan octets link).answer) (unsent_octets comes));
+        broadcast = sym (unsent_event event (discovery_word (hear_discovery x.role m.station (beside_at w number).scan octets link).answer)
+            (unsent_octets comes));
         bup = h.bup;
         bup_came = tt;
         path = h.path;
@@ -422,7 +424,8 @@ module _ (w : World) (logs : LogsKept w) (n : ℕ) where
 
       came_so : (code : ℕ) (all : Bool) → c.code ≡ code → c.to_all ≡ all → Came w event number c.from all (units.Local code c.body)
       came_so code all is to =
-          subst (λ t. Came w event number c.from t (units.Local code c.body)) to (subst (λ k. Came w event number c.from c.to_all (units.Local k c.body)) is came)
+          subst (λ t. Came w event number c.from t (units.Local code c.body)) to
+          (subst (λ k. Came w event number c.from c.to_all (units.Local k c.body)) is came)
 
       abbrev Answer_of : Type 0
       Answer_of = Result CommandHeard ReachDropped

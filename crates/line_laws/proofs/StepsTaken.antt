@@ -123,7 +123,16 @@ module _ (x : Node) (b : Beside) (target : ℕ) (m : Memory) where
     where
       by_test : (t : Bool) → AskLeaves (if t then refused ask_ends asker ask_ends.spent else sealing (in_reach in_memory) ask_ends d tt)
       by_test true = (inl refl, refl)
-      by_test false = (inr (tt, (ap (λ (y : Reaching Memory). address_of y.memory.station) same, λ dest. ap (λ (y : Reaching Memory). station_route y.memory.station dest) same)), refl)
+      by_test false = (
+        inr (
+          tt,
+          (
+            ap (λ (y : Reaching Memory). address_of y.memory.station) same,
+            λ dest. ap (λ (y : Reaching Memory). station_route y.memory.station dest) same,
+          ),
+        ),
+        refl,
+      )
 
   asks_leave : AskLeaves (ask_path in_memory asker target)
   unfolding choose tells_neighbours empty_draft
@@ -133,7 +142,8 @@ module _ (x : Node) (b : Beside) (target : ℕ) (m : Memory) where
       by_route own None = ask_refused ask_faults.NoRoute
       by_route own (Some to) = ask_sealed (tells_neighbours to 5 (path_spelling (Ask target (own ∷ []))) (empty_draft asker)) refl
 
-      by_test : (own : ℕ) (t : Bool) → AskLeaves (choose t (refused ask_ends asker ask_faults.ToSelf) (asks_over in_memory asker own target (station_route m.station target)))
+      by_test : (own : ℕ) (t : Bool)
+          → AskLeaves (choose t (refused ask_ends asker ask_faults.ToSelf) (asks_over in_memory asker own target (station_route m.station target)))
       by_test own true = ask_refused ask_faults.ToSelf
       by_test own false = by_route own (station_route m.station target)
 
@@ -238,7 +248,8 @@ module _ (x : Node) (b : Beside) (m : Memory) (c : NeighbourCommand) where
 
   tells_follow : (walk : List ℕ) → path_in c.body ≡ Some (Tell walk) → (o : Result PathStep PathRefusal) → Leaves (follows_path in_memory y o)
   tells_follow walk read (Err reason) = dropped (path_word reason)
-  tells_follow walk read (Ok (Forward to more)) = seals (tells_neighbours to 5 (path_spelling more) (empty_draft y)) heard_of.Relayed (inl (ap (goes_toward x) read))
+  tells_follow walk read (Ok (Forward to more)) =
+      seals (tells_neighbours to 5 (path_spelling more) (empty_draft y)) heard_of.Relayed (inl (ap (goes_toward x) read))
   tells_follow walk read (Ok (Answers to more)) = seals (tells_neighbours to 5 (path_spelling more) (empty_draft y)) heard_of.Answered (inl refl)
   tells_follow walk read (Ok (Done other)) = kept y (heard_of.Path other) refl
 
@@ -247,13 +258,15 @@ module _ (x : Node) (b : Beside) (m : Memory) (c : NeighbourCommand) where
   asks_follow code alone target walk read (Err reason) last = dropped (path_word reason)
   asks_follow code alone target walk read (Ok (Forward to more)) last = seals (tells_neighbours to 5 (path_spelling more) (empty_draft y)) heard_of.Relayed
       (inr (record { code = code; alone = alone; target = target; walk = walk; read = read; last = last }, same_draft to more))
-  asks_follow code alone target walk read (Ok (Answers to more)) last = seals (tells_neighbours to 5 (path_spelling more) (empty_draft y)) heard_of.Answered (inl refl)
+  asks_follow code alone target walk read (Ok (Answers to more)) last =
+      seals (tells_neighbours to 5 (path_spelling more) (empty_draft y)) heard_of.Answered (inl refl)
   asks_follow code alone target walk read (Ok (Done other)) last = kept y (heard_of.Path other) refl
 
   walks : c.code ≡ 5 → c.to_all ≡ false → (own : ℕ) (o : Option PathMessage) → path_in c.body ≡ o → Leaves (hear_path_in in_memory y own c.from o)
   walks code alone own None e = bad
   walks code alone own (Some (Tell walk)) e = tells_follow walk e (taken own c.from (next_toward m.station (Tell walk)) (Tell walk))
-  walks code alone own (Some (Ask target walk)) e = asks_follow code alone target walk e (taken own c.from (next_toward m.station (Ask target walk)) (Ask target walk))
+  walks code alone own (Some (Ask target walk)) e = asks_follow code alone target walk e
+      (taken own c.from (next_toward m.station (Ask target walk)) (Ask target walk))
       (ends_ask own c.from (next_toward m.station (Ask target walk)) target walk)
 
   left_at : (own : ℕ) → Leaves (hear_command_at in_memory y own c)
@@ -340,7 +353,8 @@ module _ (w : World) (n : ℕ) where
 
       came : IsForward c → Came w event number c.from false (units.Local 5 c.body)
       came f = subst (λ t. Came w event number c.from t (units.Local 5 c.body)) f.alone
-          (subst (λ k. Came w event number c.from c.to_all (units.Local k c.body)) f.code (command_came w event number x octets got c a.there a.comes a.is carries))
+          (subst (λ k. Came w event number c.from c.to_all (units.Local k c.body)) f.code
+          (command_came w event number x octets got c a.there a.comes a.is carries))
 
       commands_taken : TakenIn event (Ok (commanded network number d.node c r))
       commands_taken =
@@ -352,7 +366,8 @@ module _ (w : World) (n : ℕ) where
           q : World × Trace
           q = commanded network number d.node c r
 
-          by_answer : IsForward c → Keeps d.node did.node → (o : Result CommandHeard ReachDropped) → IfSome (step_by d.node c o) (IsStepTaken w (entry n event q))
+          by_answer : IsForward c → Keeps d.node did.node → (o : Result CommandHeard ReachDropped)
+              → IfSome (step_by d.node c o) (IsStepTaken w (entry n event q))
           by_answer f k (Ok heard_of.Acked) = tt
           by_answer f k (Ok (heard_of.Broadcast origin count body)) = tt
           by_answer f k (Ok heard_of.Answered) = tt
