@@ -68,9 +68,9 @@ pub record Opened (p : OpenCheck → Bool) (h : History) : Type 0 where
   pub held : IsOpen check h
   pub passes : p check ≡ true
 
-pub opened : (p : OpenCheck → Bool) (h : History) → list_any p (after_history h).checks ≡ true → Opened p h
-opened p [] e = absurd (cc (none_any p (after_history []) (λ s. s.checks) refl nobody_at_the_start e))
-opened p (Reply neighbour number origin time ∷ h) e = by_test (λ a. opened p h a) (may_begin s neighbour) refl
+pub some_open : (p : OpenCheck → Bool) (h : History) → list_any p (after_history h).checks ≡ true → Opened p h
+some_open p [] e = absurd (cc (none_any p (after_history []) (λ s. s.checks) refl nobody_at_the_start e))
+some_open p (Reply neighbour number origin time ∷ h) e = by_test (λ a. some_open p h a) (may_begin s neighbour) refl
     (subst (λ (t : Neighbours). list_any p t.checks ≡ true) (one_more_entry h (Reply neighbour number origin time)) e)
   where
     s : Neighbours
@@ -88,28 +88,29 @@ opened p (Reply neighbour number origin time ∷ h) e = by_test (λ a. opened p 
         (λ (new : list_any p (check_of neighbour number origin time ∷ []) ≡ true).
         record { check = check_of neighbour number origin time; held = Begins h may; passes = or_nothing _ new })
         (either_true _ _ (sym (list_any-append p s.checks (check_of neighbour number origin time ∷ [])) ∙ any))
-opened p (Acknowledgement neighbour number origin ∷ h) e =
+some_open p (Acknowledgement neighbour number origin ∷ h) e =
     let any = subst (λ (t : Neighbours). list_any p t.checks ≡ true) (one_more_entry h (Acknowledgement neighbour number origin)) e in
-    let o = opened (λ c. not (waits_for neighbour number origin c) && p c) h (sym (any_filtered (λ c. not (waits_for neighbour number origin c)) p _) ∙ any) in
+    let o = some_open (λ c. not (waits_for neighbour number origin c) && p c) h
+    (sym (any_filtered (λ c. not (waits_for neighbour number origin c)) p _) ∙ any) in
     let both = and_parts (not (waits_for neighbour number origin o.check)) (p o.check) o.passes in
     record { check = o.check; held = StaysOpen _ h o.held (is_not _ both.0); passes = both.1 }
-opened p (Tick time ∷ h) e =
+some_open p (Tick time ∷ h) e =
     let any = subst (λ (t : Neighbours). list_any p t.checks ≡ true) (one_more_entry h (Tick time)) e in
-    let o = opened (λ c. is_open_at time c && p c) h (sym (any_filtered (is_open_at time) p _) ∙ any) in
+    let o = some_open (λ c. is_open_at time c && p c) h (sym (any_filtered (is_open_at time) p _) ∙ any) in
     let both = and_parts (is_open_at time o.check) (p o.check) o.passes in
     record { check = o.check; held = StaysOpen _ h o.held (not_true _ both.0); passes = both.1 }
 
 -- what is open is there
-pub held_open : (c : OpenCheck) (p : OpenCheck → Bool) (h : History) → IsOpen c h → p c ≡ true → list_any p (after_history h).checks ≡ true
-held_open c p h (Begins past may) e =
+pub open_is_there : (c : OpenCheck) (p : OpenCheck → Bool) (h : History) → IsOpen c h → p c ≡ true → list_any p (after_history h).checks ≡ true
+open_is_there c p h (Begins past may) e =
     let entry = Reply c.neighbour c.number c.origin c.since in
     subst (λ (t : Neighbours). list_any p t.checks ≡ true) (sym (one_more_entry past entry)) (rw may (last (after_history past)))
   where
     last : (s : Neighbours) → list_any p (s.checks ++ c ∷ []) ≡ true
     last s = list_any-append p s.checks (c ∷ []) ∙ or_right (list_any p s.checks) (p c || false) (or_left (p c) false e)
-held_open c p h (StaysOpen (Reply neighbour number origin time) past o stays) e =
+open_is_there c p h (StaysOpen (Reply neighbour number origin time) past o stays) e =
     subst (λ (t : Neighbours). list_any p t.checks ≡ true) (sym (one_more_entry past (Reply neighbour number origin time)))
-    (by_test (held_open c p past o e) (may_begin (after_history past) neighbour))
+    (by_test (open_is_there c p past o e) (may_begin (after_history past) neighbour))
   where
     s : Neighbours
     s = after_history past
@@ -118,13 +119,13 @@ held_open c p h (StaysOpen (Reply neighbour number origin time) past o stays) e 
         → list_any p (if t then record s { checks = s.checks ++ check_of neighbour number origin time ∷ [] } else s).checks ≡ true
     by_test before false = before
     by_test before true = list_any-append p s.checks (check_of neighbour number origin time ∷ []) ∙ or_left (list_any p s.checks) _ before
-held_open c p h (StaysOpen (Acknowledgement neighbour number origin) past o stays) e =
+open_is_there c p h (StaysOpen (Acknowledgement neighbour number origin) past o stays) e =
     subst (λ (t : Neighbours). list_any p t.checks ≡ true) (sym (one_more_entry past (Acknowledgement neighbour number origin)))
     (any_filtered (λ c. not (waits_for neighbour number origin c)) p _
-    ∙ held_open c (λ k. not (waits_for neighbour number origin k) && p k) past o (both_true _ _ (not_is _ stays) e))
-held_open c p h (StaysOpen (Tick time) past o stays) e =
+    ∙ open_is_there c (λ k. not (waits_for neighbour number origin k) && p k) past o (both_true _ _ (not_is _ stays) e))
+open_is_there c p h (StaysOpen (Tick time) past o stays) e =
     subst (λ (t : Neighbours). list_any p t.checks ≡ true) (sym (one_more_entry past (Tick time)))
-    (any_filtered (is_open_at time) p _ ∙ held_open c (λ k. is_open_at time k && p k) past o (both_true _ _ (not_not_is _ stays) e))
+    (any_filtered (is_open_at time) p _ ∙ open_is_there c (λ k. is_open_at time k && p k) past o (both_true _ _ (not_not_is _ stays) e))
 
 -- # Listed neighbours
 
@@ -141,9 +142,9 @@ any_newly p time checks =
     any_mapped (listed_from time) p (filter (λ c. not (is_open_at time c)) checks)
     ∙ any_filtered (λ c. not (is_open_at time c)) (λ c. p (listed_from time c)) checks
 
-pub listed : (p : ListedNeighbour → Bool) (h : History) → list_any p (after_history h).listed ≡ true → Listed p h
-listed p [] e = absurd (cc (none_any p (after_history []) (λ s. s.listed) refl nobody_at_the_start e))
-listed p (Reply neighbour number origin time ∷ h) e = by_test (λ a. listed p h a) (may_begin s neighbour)
+pub some_listed : (p : ListedNeighbour → Bool) (h : History) → list_any p (after_history h).listed ≡ true → Listed p h
+some_listed p [] e = absurd (cc (none_any p (after_history []) (λ s. s.listed) refl nobody_at_the_start e))
+some_listed p (Reply neighbour number origin time ∷ h) e = by_test (λ a. some_listed p h a) (may_begin s neighbour)
     (subst (λ (t : Neighbours). list_any p t.listed ≡ true) (one_more_entry h (Reply neighbour number origin time)) e)
   where
     s : Neighbours
@@ -157,11 +158,11 @@ listed p (Reply neighbour number origin time ∷ h) e = by_test (λ a. listed p 
         → Listed p (Reply neighbour number origin time ∷ h)
     by_test rest true any = more (rest any)
     by_test rest false any = more (rest any)
-listed p (Acknowledgement neighbour number origin ∷ h) e =
+some_listed p (Acknowledgement neighbour number origin ∷ h) e =
     let any = subst (λ (t : Neighbours). list_any p t.listed ≡ true) (one_more_entry h (Acknowledgement neighbour number origin)) e in
-    let l = listed p h any in
+    let l = some_listed p h any in
     record { neighbour = l.neighbour; listed = StaysListed _ h l.listed refl; passes = l.passes }
-listed p (Tick time ∷ h) e = ⊎_elim (kept (λ q a. listed q h a)) new
+some_listed p (Tick time ∷ h) e = ⊎_elim (kept (λ q a. some_listed q h a)) new
     (either_true _ _ (sym (list_any-append p (filter (is_listed_at time) s.listed) (newly_listed time s.checks)) ∙ any))
   where
     s : Neighbours
@@ -179,24 +180,24 @@ listed p (Tick time ∷ h) e = ⊎_elim (kept (λ q a. listed q h a)) new
 
     new : list_any p (newly_listed time s.checks) ≡ true → Listed p (Tick time ∷ h)
     new now =
-        let o = opened (λ c. not (is_open_at time c) && p (listed_from time c)) h (sym (any_newly p time s.checks) ∙ now) in
+        let o = some_open (λ c. not (is_open_at time c) && p (listed_from time c)) h (sym (any_newly p time s.checks) ∙ now) in
         let both = and_parts (not (is_open_at time o.check)) (p (listed_from time o.check)) o.passes in
         record { neighbour = listed_from time o.check; listed = Lists h o.check o.held refl (is_not _ both.0); passes = both.1 }
 
 -- who is listed is there
-pub held_listed : (l : ListedNeighbour) (p : ListedNeighbour → Bool) (h : History) → IsListed l h → p l ≡ true → list_any p (after_history h).listed ≡ true
-held_listed l p h (Lists past c held same due) e =
+pub listed_is_there : (l : ListedNeighbour) (p : ListedNeighbour → Bool) (h : History) → IsListed l h → p l ≡ true → list_any p (after_history h).listed ≡ true
+listed_is_there l p h (Lists past c held same due) e =
     subst (λ (t : Neighbours). list_any p t.listed ≡ true) (sym (one_more_entry past (Tick l.since)))
     (list_any-append p (filter (is_listed_at l.since) s.listed) (newly_listed l.since s.checks)
     ∙ or_right (list_any p (filter (is_listed_at l.since) s.listed)) _
-    (any_newly p l.since s.checks ∙ held_open c (λ k. not (is_open_at l.since k) && p (listed_from l.since k)) past held
+    (any_newly p l.since s.checks ∙ open_is_there c (λ k. not (is_open_at l.since k) && p (listed_from l.since k)) past held
     (both_true _ _ (not_is _ due) (subst (λ n. p (record { neighbour = n; since = l.since }) ≡ true) (sym same) e))))
   where
     s : Neighbours
     s = after_history past
-held_listed l p h (StaysListed (Reply neighbour number origin time) past k stays) e =
+listed_is_there l p h (StaysListed (Reply neighbour number origin time) past k stays) e =
     subst (λ (t : Neighbours). list_any p t.listed ≡ true) (sym (one_more_entry past (Reply neighbour number origin time)))
-    (by_test (held_listed l p past k e) (may_begin (after_history past) neighbour))
+    (by_test (listed_is_there l p past k e) (may_begin (after_history past) neighbour))
   where
     s : Neighbours
     s = after_history past
@@ -205,12 +206,12 @@ held_listed l p h (StaysListed (Reply neighbour number origin time) past k stays
         → list_any p (if t then record s { checks = s.checks ++ check_of neighbour number origin time ∷ [] } else s).listed ≡ true
     by_test before true = before
     by_test before false = before
-held_listed l p h (StaysListed (Acknowledgement neighbour number origin) past k stays) e =
-    subst (λ (t : Neighbours). list_any p t.listed ≡ true) (sym (one_more_entry past (Acknowledgement neighbour number origin))) (held_listed l p past k e)
-held_listed l p h (StaysListed (Tick time) past k stays) e =
+listed_is_there l p h (StaysListed (Acknowledgement neighbour number origin) past k stays) e =
+    subst (λ (t : Neighbours). list_any p t.listed ≡ true) (sym (one_more_entry past (Acknowledgement neighbour number origin))) (listed_is_there l p past k e)
+listed_is_there l p h (StaysListed (Tick time) past k stays) e =
     subst (λ (t : Neighbours). list_any p t.listed ≡ true) (sym (one_more_entry past (Tick time)))
     (list_any-append p (filter (is_listed_at time) s.listed) (newly_listed time s.checks) ∙ or_left (list_any p (filter (is_listed_at time) s.listed)) _
-    (any_filtered (is_listed_at time) p s.listed ∙ held_listed l (λ n. is_listed_at time n && p n) past k (both_true _ _ (not_not_is _ stays) e)))
+    (any_filtered (is_listed_at time) p s.listed ∙ listed_is_there l (λ n. is_listed_at time n && p n) past k (both_true _ _ (not_not_is _ stays) e)))
   where
     s : Neighbours
     s = after_history past

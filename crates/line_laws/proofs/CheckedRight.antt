@@ -56,8 +56,8 @@ use Rattle.line_rules.specs.Steps.{Step, heard, identity, note_by, told}
 use Rattle.line_rules.specs.Worlds.{Trace, World, node_at, start}
 use Rattle.line_laws.specs.CheckHistories.{AreCheckedRightAfter, EveryCheckIsRight, IsAwaited, IsBlacklisted, IsCheckedRight, IsListed, IsNotAwaited, IsOpen}
 use Rattle.line_laws.specs.FurtherLines.{HoldsAfter}
-use Rattle.line_laws.specs.ReachTraces.{Came}
-use Rattle.line_laws.proofs.CheckHistories.{held_listed, held_open, listed, opened}
+use Rattle.line_laws.specs.ReachTraces.{FrameCame}
+use Rattle.line_laws.proofs.CheckHistories.{listed_is_there, open_is_there, some_listed, some_open}
 use Rattle.line_laws.proofs.FurtherEvents.{none_accepts}
 use Rattle.line_laws.proofs.FurtherOctets.{every_run_holds}
 use Rattle.line_laws.proofs.ReachCame.{Says, acts_says, command_came, command_said}
@@ -114,7 +114,7 @@ module _ (w : World) (before : List Entry) (h : IsOfHistory before w) (n : ℕ) 
       let same : got ≡ c.got = same_Ok got c.got (accepting network c.node c.octets).answer
       (sym (λ i. (accepting network (node i) (both.1 i)).answer) ∙ a.is) c.is in
       let is : is_listed (beside_at w b.number).checks b.from ≡ true = ap (λ (s : Neighbours). is_listed s b.from) (h.checks b.number)
-      ∙ held_listed (record { neighbour = b.from; since = b.since }) (λ (l : ListedNeighbour). l.neighbour == b.from) (check_history b.number [] before)
+      ∙ listed_is_there (record { neighbour = b.from; since = b.since }) (λ (l : ListedNeighbour). l.neighbour == b.from) (check_history b.number [] before)
       b.listed (eq-eqb b.from b.from refl) in
       let dropped : is_dropped w b.number c.got ≡ true = dropped_so b.number c.got b.from c.key c.count c.cost c.origin c.dest b.on c.path c.carries is in
       false_true (sym passes ∙ (λ i. is_dropped w (both.0 i) (same i)) ∙ dropped)
@@ -139,7 +139,7 @@ module _ (w : World) (before : List Entry) (h : IsOfHistory before w) (n : ℕ) 
       by_path on (paths.Sealed from true key) e (Some (Rrep count cost origin to)) m t = absurd (cc (t))
       by_path on (paths.Sealed from true key) e (Some (Rerr lost to)) m t = absurd (cc (t))
       by_path on (paths.Sealed from true key) e (Some (Rreq count cost origin dest)) m t =
-          let l = listed (λ (k : ListedNeighbour). k.neighbour == from) (check_history number [] before)
+          let l = some_listed (λ (k : ListedNeighbour). k.neighbour == from) (check_history number [] before)
           (sym (ap (λ (z : Neighbours). is_listed z from) (h.checks number)) ∙ t) in
           record {
             on = on;
@@ -187,10 +187,10 @@ module _ (w : World) (before : List Entry) (h : IsOfHistory before w) (n : ℕ) 
       abbrev b : Beside
       b = beside_at w number
 
-      came : c.code ≡ 3 → c.to_all ≡ false → Came w event number c.from false (units.Local 3 c.body)
+      came : c.code ≡ 3 → c.to_all ≡ false → FrameCame w event number c.from false (units.Local 3 c.body)
       came code alone =
-          subst (λ t. Came w event number c.from t (units.Local 3 c.body)) alone
-          (subst (λ k. Came w event number c.from c.to_all (units.Local k c.body)) code
+          subst (λ t. FrameCame w event number c.from t (units.Local 3 c.body)) alone
+          (subst (λ k. FrameCame w event number c.from c.to_all (units.Local k c.body)) code
           (command_came w event number x octets got c a.there a.comes a.is carries))
 
       no_black : (o : Result CommandHeard ReachDropped) → Says b c o → command_word o ≡ said.Blacklisted → ⊥
@@ -209,7 +209,7 @@ module _ (w : World) (before : List Entry) (h : IsOfHistory before w) (n : ℕ) 
 
       acked_is : (o : Result CommandHeard ReachDropped) → Says b c o → command_word o ≡ said.Acked → IsAwaited w before event
       acked_is (Ok heard_of.Acked) s e =
-          let o = opened (waits_for c.from s.number s.origin) (check_history number [] before)
+          let o = some_open (waits_for c.from s.number s.origin) (check_history number [] before)
           (sym (ap (λ (z : Neighbours). is_awaited z c.from s.number s.origin) (h.checks number)) ∙ s.waits) in
           record {
             number = number;
@@ -254,7 +254,7 @@ module _ (w : World) (before : List Entry) (h : IsOfHistory before w) (n : ℕ) 
               → waits_for c.from s.number s.origin k ≡ false
           by_test k held false is = is
           by_test k held true is =
-              absurd (false_true (sym none_there ∙ held_open k (waits_for c.from s.number s.origin) (check_history number [] before) held is))
+              absurd (false_true (sym none_there ∙ open_is_there k (waits_for c.from s.number s.origin) (check_history number [] before) held is))
       unawaited_is (Ok heard_of.Acked) s e = absurd (cc (e))
       unawaited_is (Ok (heard_of.Broadcast origin count body)) s e = absurd (cc (e))
       unawaited_is (Ok heard_of.Relayed) s e = absurd (cc (e))

@@ -51,7 +51,7 @@ use Rattle.line_rules.specs.declared.event.Event.{Event}
 use Rattle.line_rules.specs.Forgery.{Comes, accepting}
 use Rattle.line_rules.specs.Further.{with_beside}
 use Rattle.line_rules.specs.Worlds.{World, node_at}
-use Rattle.line_laws.specs.ReachTraces.{Came}
+use Rattle.line_laws.specs.ReachTraces.{FrameCame}
 
 -- # The frame of a command
 
@@ -80,7 +80,7 @@ carried (paths.Sealed from all key) (Some (units.Local code body)) c e = by_code
 -- a command that a node accepted came in its frame
 pub command_came : (w : World) (event : Event) (number : ℕ) (x : Node) (octets : List ℕ) (got : Accepted) (c : NeighbourCommand) → node_at w number ≡ Some x
     → Comes w event number octets → (accepting network x octets).answer ≡ Ok got → command_of got ≡ Some c
-    → Came w event number c.from c.to_all (units.Local c.code c.body)
+    → FrameCame w event number c.from c.to_all (units.Local c.code c.body)
 command_came w event number x octets got c there comes is e =
     let k = carried got.path (unit_in got.payload) c e in
     record { node = x; there = there; octets = octets; comes = comes; got = got; is = is; key = k.key; path = k.path; carries = k.carries }

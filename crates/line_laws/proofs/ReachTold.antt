@@ -66,7 +66,7 @@ use Rattle.line_rules.specs.Forgery.{Comes}
 use Rattle.line_rules.specs.FurtherRuns.{broadcasts}
 use Rattle.line_rules.specs.Worlds.{Acknowledged, Broadcasting, Flight, Noticed, Trace, World, start}
 use Rattle.line_laws.specs.FurtherLines.{HoldsAfter}
-use Rattle.line_laws.specs.ReachTraces.{AckCame, AreReachTold, BeaconCame, BroadcastCame, Came, EveryBroadcastIsListed, EveryEventIsTold, HasFrame, IsReachTold, ListsBroadcasts, ReplyFlew, WalkCame, as_bcast, is_acked, is_acknowledged, is_beacon, is_beaconed, is_bup, is_path, is_scan, is_scanning, is_sent, link_of, sent_to_all, to_all_of}
+use Rattle.line_laws.specs.ReachTraces.{AckCame, AreReachTold, BeaconCame, BroadcastCame, FrameCame, EveryBroadcastIsListed, EveryEventIsTold, HasFrame, IsReachTold, ListsBroadcasts, ReplyFlew, WalkCame, as_bcast, is_acked, is_acknowledged, is_beacon, is_beaconed, is_bup, is_path, is_scan, is_scanning, is_sent, link_of, sent_to_all, to_all_of}
 use Rattle.line_laws.proofs.FurtherOctets.{every_run_holds}
 use Rattle.line_laws.proofs.ReachCame.{Says, acts_says, command_came, command_said}
 use Rattle.line_laws.proofs.ReachSteps.{Asks, Bcasts, Checked, Chooses, Commands, Discovers, Fails, Hears, IsAccepted, IsReachStep, Known, Opens, Restarts, Rests, Scans as Begins, Ticks, Unbelieves, after_accepting, heard_node, reach_step_is}
@@ -419,13 +419,13 @@ module _ (w : World) (logs : LogsKept w) (n : ℕ) where
 
     -- a command
     module _ (c : NeighbourCommand) (carries : command_of got ≡ Some c) where
-      came : Came w event number c.from c.to_all (units.Local c.code c.body)
+      came : FrameCame w event number c.from c.to_all (units.Local c.code c.body)
       came = command_came w event number x octets got c a.there a.comes a.is carries
 
-      came_so : (code : ℕ) (all : Bool) → c.code ≡ code → c.to_all ≡ all → Came w event number c.from all (units.Local code c.body)
+      came_so : (code : ℕ) (all : Bool) → c.code ≡ code → c.to_all ≡ all → FrameCame w event number c.from all (units.Local code c.body)
       came_so code all is to =
-          subst (λ t. Came w event number c.from t (units.Local code c.body)) to
-          (subst (λ k. Came w event number c.from c.to_all (units.Local k c.body)) is came)
+          subst (λ t. FrameCame w event number c.from t (units.Local code c.body)) to
+          (subst (λ k. FrameCame w event number c.from c.to_all (units.Local k c.body)) is came)
 
       abbrev Answer_of : Type 0
       Answer_of = Result CommandHeard ReachDropped

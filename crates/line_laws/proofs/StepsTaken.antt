@@ -55,7 +55,7 @@ use Rattle.line_rules.specs.Runs.{Entry, IsRun, events_of}
 use Rattle.line_rules.specs.Steps.{Step, heard, ran, told}
 use Rattle.line_rules.specs.Worlds.{Further, Stepping, Trace, World, node_at, nothing_further, start}
 use Rattle.line_laws.specs.FurtherLines.{HoldsAfter}
-use Rattle.line_laws.specs.ReachTraces.{Came}
+use Rattle.line_laws.specs.ReachTraces.{FrameCame}
 use Rattle.line_laws.specs.StepsTaken.{AreStepsTaken, AskCame, AskSent, EveryStepIsTaken, IsStepTaken}
 use Rattle.line_laws.proofs.FurtherOctets.{every_run_holds}
 use Rattle.line_laws.proofs.IssueWorlds.{told_here}
@@ -351,9 +351,9 @@ module _ (w : World) (n : ℕ) where
       abbrev did : NodeStep (Result CommandHeard ReachDropped)
       did = reaches d.node (beside_at r.0 number) halted (λ y. hear_command in_memory y c)
 
-      came : IsForward c → Came w event number c.from false (units.Local 5 c.body)
-      came f = subst (λ t. Came w event number c.from t (units.Local 5 c.body)) f.alone
-          (subst (λ k. Came w event number c.from c.to_all (units.Local k c.body)) f.code
+      came : IsForward c → FrameCame w event number c.from false (units.Local 5 c.body)
+      came f = subst (λ t. FrameCame w event number c.from t (units.Local 5 c.body)) f.alone
+          (subst (λ k. FrameCame w event number c.from c.to_all (units.Local k c.body)) f.code
           (command_came w event number x octets got c a.there a.comes a.is carries))
 
       commands_taken : TakenIn event (Ok (commanded network number d.node c r))

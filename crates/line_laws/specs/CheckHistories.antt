@@ -22,7 +22,7 @@ use Rattle.line_rules.specs.FurtherRuns.{check_history}
 use Rattle.line_rules.specs.Runs.{Entry}
 use Rattle.line_rules.specs.Worlds.{World, node_at, start}
 use Rattle.line_laws.specs.Laws.{IsLineRun}
-use Rattle.line_laws.specs.ReachTraces.{Came}
+use Rattle.line_laws.specs.ReachTraces.{FrameCame}
 
 -- # In a history
 
@@ -70,7 +70,7 @@ pub record IsAwaited (w : World) (before : List Entry) (event : Event) : Type 0 
   pub number : ℕ
   pub from : ℕ
   pub body : List ℕ
-  pub came : Came w event number from false (units.Local 3 body)
+  pub came : FrameCame w event number from false (units.Local 3 body)
   pub count : ℕ
   pub origin : ℕ
   pub read : ack_in body ≡ Some (count, origin)
@@ -83,7 +83,7 @@ pub record IsNotAwaited (w : World) (before : List Entry) (event : Event) : Type
   pub number : ℕ
   pub from : ℕ
   pub body : List ℕ
-  pub came : Came w event number from false (units.Local 3 body)
+  pub came : FrameCame w event number from false (units.Local 3 body)
   pub count : ℕ
   pub origin : ℕ
   pub read : ack_in body ≡ Some (count, origin)

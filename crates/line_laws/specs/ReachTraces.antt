@@ -36,7 +36,7 @@ use Rattle.line_laws.specs.Laws.{IsLineRun}
 -- # Frames that come and fly
 
 -- A node accepted octets that came to it, sealed by a neighbour at this address for it alone or for all, which carry this unit.
-pub record Came (w : World) (event : Event) (number from : ℕ) (all : Bool) (unit : MeshUnit) : Type 0 where
+pub record FrameCame (w : World) (event : Event) (number from : ℕ) (all : Bool) (unit : MeshUnit) : Type 0 where
   pub node : Node
   pub there : node_at w number ≡ Some node
   pub octets : List ℕ
@@ -87,7 +87,7 @@ ListsBroadcasts entries = map to_all_of (broadcasts entries) ≡ all_sent_to_all
 pub record BroadcastCame (w : World) (event : Event) (u : BroadcastUp) : Type 0 where
   pub from : ℕ
   pub body : List ℕ
-  pub came : Came w event u.node from true (units.Local 4 body)
+  pub came : FrameCame w event u.node from true (units.Local 4 body)
   pub broadcast : Broadcast
   pub read : broadcast_in body ≡ Some broadcast
   pub origin : broadcast.origin ≡ u.origin
@@ -104,7 +104,7 @@ is_bup _ = false
 pub record WalkCame (w : World) (event : Event) (line : PathLine) : Type 0 where
   pub from : ℕ
   pub body : List ℕ
-  pub came : Came w event line.node from false (units.Local 5 body)
+  pub came : FrameCame w event line.node from false (units.Local 5 body)
   pub read : path_in body ≡ Some (Tell line.walk)
 
 abbrev pub is_path : Answer → Bool
@@ -127,7 +127,7 @@ pub record ReplyFlew (w : World) (x : Entry) (node neighbour number origin : ℕ
 -- An acknowledgement of this number and origin came from a neighbour, in a frame to this node alone.
 pub record AckCame (w : World) (event : Event) (node neighbour number origin : ℕ) : Type 0 where
   pub body : List ℕ
-  pub came : Came w event node neighbour false (units.Local 3 body)
+  pub came : FrameCame w event node neighbour false (units.Local 3 body)
   pub read : ack_in body ≡ Some (number, origin)
 
 -- A beacon came over a link of this cost.

@@ -11,7 +11,7 @@ use Rattle.line_rules.specs.declared.event.Event.TheVariants as events
 use Rattle.line_rules.specs.Runs.{Entry}
 use Rattle.line_rules.specs.Worlds.{Stepping, World, node_at, start}
 use Rattle.line_laws.specs.Laws.{IsLineRun}
-use Rattle.line_laws.specs.ReachTraces.{Came}
+use Rattle.line_laws.specs.ReachTraces.{FrameCame}
 
 -- A line asks a node for the way to another one, which has this address.
 pub record AskSent (w : World) (event : Event) (number target : ℕ) : Type 0 where
@@ -25,7 +25,7 @@ pub record AskSent (w : World) (event : Event) (number target : ℕ) : Type 0 wh
 pub record AskCame (w : World) (event : Event) (number target : ℕ) : Type 0 where
   pub from : ℕ
   pub body : List ℕ
-  pub came : Came w event number from false (units.Local 5 body)
+  pub came : FrameCame w event number from false (units.Local 5 body)
   pub walk : List ℕ
   pub read : path_in body ≡ Some (Ask target walk)
   pub last : ends_with from walk ≡ true

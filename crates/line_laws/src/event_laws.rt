@@ -2,7 +2,7 @@
 ghost use Rattle.line_laws.specs.FurtherLines.{CallsKeepAll, CallsKeepTheLine, CommandsFit, CommandsKeepTheLine, DiscoveryKeepsTheLine, LineLogsHold, LineStepsHold, LineStepsRise, LineStepsSpell, LinesSpellBeacons, LogsFit, TablesAreShort};
 ghost use Rattle.line_laws.specs.Later.{BesideKeeps, CommandsMayBeSealed, DiscoveringKeeps, JoinedNodesSeal, KeepsInTurn, OthersMayNot, PlainKeeps, PlansSplit, RunningKeeps, SealingKeeps, StartHolds, StoringKeeps, UnsentHolds};
 ghost use Rattle.line_laws.specs.LineAccounts.{LineBooksGrow, LineFlightsFall, LineKicksShut, LineNodesAcceptOnce, LineRestartsAreRight, LineSendersAreRight, LineStepsShut, LineTagsRise, LineTracesRight};
-ghost use Rattle.line_laws.specs.OnePlan.{AcknowledgesInTurn};
+ghost use Rattle.line_laws.specs.OnePlan.{AcknowledgesInTurn, CommandsInTurn, OthersInTurn};
 
 /// Where a node seals a command alone of code 03, 04 or 05, under note 0 and with its next counter, as it seals each of its commands, all is
 /// kept that the laws rest on: no mark and no stored rank falls, no flight comes to life, and the flight has the address of its node. A
@@ -29,6 +29,19 @@ pub fn plans_split<A>()
 #[tactic(auto)]
 pub fn acknowledges_in_turn<A>()
     ensures { AcknowledgesInTurn A }
+{}
+
+/// A command for the neighbours is heard by the one plan of a node with further reach as by the two moves of a line, of which the first leaves the
+/// node as it is.
+#[tactic(auto)]
+pub fn commands_in_turn<H>()
+    ensures { CommandsInTurn H }
+{}
+
+/// Where checks are off, every other frame is heard by that one plan as by the first move of a line alone.
+#[tactic(auto)]
+pub fn others_in_turn<H>()
+    ensures { OthersInTurn H }
 {}
 
 /// Where a frame of discovery flies, all of this is kept too.
