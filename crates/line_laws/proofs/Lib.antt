@@ -172,6 +172,7 @@ pub mod CheckHistories
 pub mod CheckedRight
 pub mod StepsTaken
 pub mod OnePlan
+pub mod RepliesTaken
 pub mod ReachHistory
 pub mod ReachLogs
 pub mod OldUnits

@@ -1,20 +1,26 @@
 -- The one plan by which a node with further reach hears a frame (`reach_rules`), and the two moves that the line makes of it: they leave the same node
 -- and send the same, whichever write fails.
-use Rattle.std.specs.Prelude.{◌≡◌, ℕ, Bool, true, false, List, [], ◌++◌, is_some, Some, None, Result, Err}
+use Rattle.std.specs.Prelude.{◌≡◌, ℕ, Bool, true, false, List, [], ◌++◌, is_ok, is_some, Some, None, Result, Err}
+use Rattle.plc_base.specs.declared.key.Key.{Key}
+use Rattle.loadng_messages.specs.declared.message.Message.TheVariants.{Rrep}
 use Rattle.node_rules.specs.declared.heard.Accepted.{Accepted}
+use Rattle.node_rules.specs.declared.heard.Path.TheVariants as paths
 use Rattle.node_rules.specs.declared.heard.Reply.{Reply}
 use Rattle.node_rules.specs.declared.refusal.Dropped.{Dropped}
 use Rattle.node_rules.specs.declared.refusal.Dropped.TheVariants as drops
 use Rattle.node_rules.specs.Ciphers.{Ciphers}
+use Rattle.node_rules.specs.Coordinators.{CoordinatorIdentity, hear_coordinator}
+use Rattle.node_rules.specs.Meters.{Identity, hear_meter}
 use Rattle.node_rules.specs.Memory.{Memory, Node}
 use Rattle.node_rules.specs.MemoryDrafts.{in_memory}
 use Rattle.node_rules.specs.NodeSteps.{NodeStep, acts}
 use Rattle.node_rules.specs.Plans.{Plan}
-use Rattle.reach_rules.specs.CheckedReplies.{acknowledges}
+use Rattle.reach_rules.specs.CheckedReplies.{acknowledges, message_of}
 use Rattle.reach_rules.specs.ReachingNodes.{Beside, command_answer, followed_by, known_answer}
 use Rattle.reach_rules.specs.Receiving.{NeighbourCommand, command_of, hear_command, hear_reaching}
 use Rattle.reach_rules.specs.declared.refusal.ReachDropped.TheVariants as reach_drops
-use Rattle.line_rules.specs.Further.{acknowledging, reaches}
+use Rattle.line_rules.specs.Answers.{coordinator_reception, meter_reception}
+use Rattle.line_rules.specs.Further.{acknowledging, is_reply_taken, reaches}
 use Rattle.line_rules.specs.Steps.{hears}
 
 -- What a node did by one plan is what it did by two, of which the second finds no pair tag right. Where a write of either failed, nothing is sent and
@@ -58,3 +64,13 @@ OthersInTurn H =
     (x : Node) (b : Beside) (got : Accepted) (now : ℕ) → command_of got ≡ None → (p : Memory → Plan Memory (Result H Dropped))
     → IsSameMove known_answer (reaches x b (Err (reach_drops.Known drops.Store)) (λ y. hear_reaching in_memory false y got now (p y.memory)))
     (acts x (Err drops.Store) p)
+
+-- The replies that a line acknowledges, by the word of what its node made of them (Learned or Relayed), are those that the plan acknowledges: those that
+-- their own rule did not refuse.
+abbrev pub RepliesTakenAlike : Type 0
+RepliesTakenAlike =
+    (got : Accepted) (cost note now : ℕ) (from : ℕ) (key : Key) (number c origin to : ℕ) → got.path ≡ paths.Sealed from false key
+    → message_of got ≡ Some (Rrep number c origin to) → (m : Memory)
+    → ((own : CoordinatorIdentity) → is_reply_taken (coordinator_reception (hear_coordinator own m got cost note now).answer).answer
+    ≡ is_ok (hear_coordinator own m got cost note now).answer)
+    × ((own : Identity) → is_reply_taken (meter_reception (hear_meter own m got cost note now).answer).answer ≡ is_ok (hear_meter own m got cost note now).answer)

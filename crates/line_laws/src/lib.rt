@@ -10,8 +10,9 @@ pub use event_laws::{
     further_calls_keep_all, joined_nodes_seal, keeps_in_turn, line_books_grow, line_flights_fall,
     line_logs_hold, line_nodes_accept_once, line_restarts_are_right, line_senders_are_right,
     line_steps_hold, line_steps_rise, line_steps_shut, line_steps_spell, line_tags_rise,
-    line_traces_are_right, others_in_turn, others_may_not, plain_keeps, plans_split, running_keeps,
-    sealing_keeps, storing_keeps, the_start_holds, unsent_holds,
+    line_traces_are_right, others_in_turn, others_may_not, plain_keeps, plans_split,
+    replies_are_taken_alike, running_keeps, sealing_keeps, storing_keeps, the_start_holds,
+    unsent_holds,
 };
 pub use laws::{
     every_address_differs, every_broadcast_is_listed, every_broadcast_is_once,
