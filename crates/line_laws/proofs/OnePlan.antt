@@ -24,17 +24,20 @@ use Rattle.node_rules.specs.Memory.{StationMemory, Memory, Node, Role, Coordinat
 use Rattle.node_rules.specs.MemoryDrafts.{in_memory, unread, with_station}
 use Rattle.node_rules.specs.NodeSteps.{NodeStep, acts, answering, stays, left_by}
 use Rattle.node_rules.specs.Plans.{Plan, carry_out, finished, halted as cut_off, outcome_of, resting, within}
-use Rattle.reach_rules.specs.CheckedReplies.{acknowledges}
-use Rattle.reach_rules.specs.ReachingNodes.{Beside, ReachHeard, command_answer, followed_by, known_answer}
+use Rattle.reach_rules.specs.CheckedReplies.{acknowledged, acknowledges, is_unbelieved, message_of, with_check}
+use Rattle.reach_rules.specs.ReachingNodes.{Beside, ReachHeard, command_answer, followed_by, known_answer, known_plan}
+use Rattle.reach_rules.specs.ReachingNodes.{drop_it as drop_reach}
+use Rattle.node_rules.specs.Replies.{reply_among}
 use Rattle.reach_rules.specs.Receiving.{NeighbourCommand, command_of, command_on, command_with, hear_by, hear_command, hear_reaching}
 use Rattle.reach_rules.specs.declared.refusal.ReachDropped.{ReachDropped}
 use Rattle.reach_rules.specs.declared.refusal.ReachDropped.TheVariants as reach_drops
 use Rattle.line_rules.specs.Answers.{Reception, coordinator_reception, meter_reception}
 use Rattle.line_rules.specs.Further.{acknowledging, reaches, with_beside}
 use Rattle.line_rules.specs.Steps.{hears, identity}
-use Rattle.line_laws.specs.OnePlan.{AcknowledgesInTurn, CommandsInTurn, IsInTurn, IsSameMove, OthersInTurn}
+use Rattle.line_laws.specs.OnePlan.{AcknowledgesInTurn, ChecksInTurn, CommandsInTurn, IsInTurn, IsSameMove, OthersInTurn}
 use Rattle.line_laws.proofs.FurtherForms.{AnyUnits, Goes, IsFurther, Rests}
 use Rattle.line_laws.proofs.FurtherSteps.{ack_is}
+use Rattle.line_laws.proofs.Quiet.{acts_quiet}
 use Rattle.line_laws.proofs.SplitWrites.{write_append}
 
 module _ {A B : Type 0} (p : Memory → Plan Memory A) (next : Memory → Plan Memory B) (none : (m : Memory) → (next m).opened ≡ []) (answer : A) (other : B)
@@ -234,3 +237,28 @@ others_in_turn {H} x b got now e p =
   where
     halted : Result (ReachHeard H) ReachDropped
     halted = Err (reach_drops.Known drops.Store)
+
+pub checks_in_turn : {H : Type 0} → ChecksInTurn H
+unfolding choose_plan resting
+checks_in_turn {H} x b got now e p = (
+  λ listed. (
+    subst (λ o. (hears_by o).node ≡ x) (sym e) (subst (λ t. (checked_by t).node ≡ x) (sym listed)
+        (acts_idle x halted (with_beside b (λ y. drop_reach y reach_drops.Blacklisted)) (λ m. record { puts = refl; memory = refl }))),
+    subst (λ o. (hears_by o).frames ≡ []) (sym e) (subst (λ t. (checked_by t).frames ≡ []) (sym listed)
+        (acts_quiet x halted (with_beside b (λ y. drop_reach y reach_drops.Blacklisted)) (λ m. refl))),
+  ),
+  λ other. subst (λ o. IsSameMove known_answer (hears_by o) (acts x (Err drops.Store) (λ m. acknowledged in_memory got.path (message_of got) (p m)))) (sym e)
+      (subst (λ t. IsSameMove known_answer (checked_by t) (acts x (Err drops.Store) (λ m. acknowledged in_memory got.path (message_of got) (p m)))) (sym other)
+      (same_move known_answer x (Err drops.Store) (λ m. acknowledged in_memory got.path (message_of got) (p m)))),
+)
+  where
+    halted : Result (ReachHeard H) ReachDropped
+    halted = Err (reach_drops.Known drops.Store)
+
+    hears_by : Option NeighbourCommand → NodeStep (Result (ReachHeard H) ReachDropped)
+    hears_by o = reaches x b halted (λ y. hear_by in_memory true y got now (p y.memory) o)
+
+    -- what is done where checks are on, by whether the frame is such a request
+    checked_by : Bool → NodeStep (Result (ReachHeard H) ReachDropped)
+    checked_by t = reaches x b halted (λ y. choose_plan t (drop_reach y reach_drops.Blacklisted)
+        (with_check (reply_among (p y.memory).frames) now (known_plan y (acknowledged in_memory got.path (message_of got) (p y.memory)))))

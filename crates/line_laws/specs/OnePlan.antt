@@ -15,7 +15,7 @@ use Rattle.node_rules.specs.Memory.{Memory, Node}
 use Rattle.node_rules.specs.MemoryDrafts.{in_memory}
 use Rattle.node_rules.specs.NodeSteps.{NodeStep, acts}
 use Rattle.node_rules.specs.Plans.{Plan}
-use Rattle.reach_rules.specs.CheckedReplies.{acknowledges, message_of}
+use Rattle.reach_rules.specs.CheckedReplies.{acknowledged, acknowledges, is_unbelieved, message_of}
 use Rattle.reach_rules.specs.ReachingNodes.{Beside, command_answer, followed_by, known_answer}
 use Rattle.reach_rules.specs.Receiving.{NeighbourCommand, command_of, hear_command, hear_reaching}
 use Rattle.reach_rules.specs.declared.refusal.ReachDropped.TheVariants as reach_drops
@@ -64,6 +64,16 @@ OthersInTurn H =
     (x : Node) (b : Beside) (got : Accepted) (now : ℕ) → command_of got ≡ None → (p : Memory → Plan Memory (Result H Dropped))
     → IsSameMove known_answer (reaches x b (Err (reach_drops.Known drops.Store)) (λ y. hear_reaching in_memory false y got now (p y.memory)))
     (acts x (Err drops.Store) p)
+
+-- Where checks are on, a request of a listed neighbour is dropped: the node is left as it is, and sends nothing. Every other frame that carries no command
+-- is heard by its own rule, and acknowledged if it is a reply that was taken.
+abbrev pub ChecksInTurn : Type 0 → Type 0
+ChecksInTurn H =
+    (x : Node) (b : Beside) (got : Accepted) (now : ℕ) → command_of got ≡ None → (p : Memory → Plan Memory (Result H Dropped))
+    → let one = reaches x b (Err (reach_drops.Known drops.Store)) (λ y. hear_reaching in_memory true y got now (p y.memory)) in
+    (is_unbelieved b.checks got.path (message_of got) ≡ true → (one.node ≡ x) × (one.frames ≡ []))
+    × (is_unbelieved b.checks got.path (message_of got) ≡ false
+    → IsSameMove known_answer one (acts x (Err drops.Store) (λ m. acknowledged in_memory got.path (message_of got) (p m))))
 
 -- The replies that a line acknowledges, by the word of what its node made of them (Learned or Relayed), are those that the plan acknowledges: those that
 -- their own rule did not refuse.

@@ -2,7 +2,7 @@
 ghost use Rattle.line_laws.specs.FurtherLines.{CallsKeepAll, CallsKeepTheLine, CommandsFit, CommandsKeepTheLine, DiscoveryKeepsTheLine, LineLogsHold, LineStepsHold, LineStepsRise, LineStepsSpell, LinesSpellBeacons, LogsFit, TablesAreShort};
 ghost use Rattle.line_laws.specs.Later.{BesideKeeps, CommandsMayBeSealed, DiscoveringKeeps, JoinedNodesSeal, KeepsInTurn, OthersMayNot, PlainKeeps, PlansSplit, RunningKeeps, SealingKeeps, StartHolds, StoringKeeps, UnsentHolds};
 ghost use Rattle.line_laws.specs.LineAccounts.{LineBooksGrow, LineFlightsFall, LineKicksShut, LineNodesAcceptOnce, LineRestartsAreRight, LineSendersAreRight, LineStepsShut, LineTagsRise, LineTracesRight};
-ghost use Rattle.line_laws.specs.OnePlan.{AcknowledgesInTurn, CommandsInTurn, OthersInTurn, RepliesTakenAlike};
+ghost use Rattle.line_laws.specs.OnePlan.{AcknowledgesInTurn, ChecksInTurn, CommandsInTurn, OthersInTurn, RepliesTakenAlike};
 
 /// Where a node seals a command alone of code 03, 04 or 05, under note 0 and with its next counter, as it seals each of its commands, all is
 /// kept that the laws rest on: no mark and no stored rank falls, no flight comes to life, and the flight has the address of its node. A
@@ -42,6 +42,13 @@ pub fn commands_in_turn<H>()
 #[tactic(auto)]
 pub fn others_in_turn<H>()
     ensures { OthersInTurn H }
+{}
+
+/// Where checks are on, the one plan drops a request of a listed neighbour and leaves the node as it is, and hears every other frame that carries no
+/// command by its own rule, which is followed by the acknowledgement of a reply that was taken.
+#[tactic(auto)]
+pub fn checks_in_turn<H>()
+    ensures { ChecksInTurn H }
 {}
 
 /// The replies that a line acknowledges, answered Learned or Relayed, are those that the plan acknowledges: those that their own rule did not refuse.

@@ -5,7 +5,7 @@ mod event_laws;
 mod laws;
 
 pub use event_laws::{
-    acknowledges_in_turn, beside_keeps, calls_keep_the_line, commands_in_turn,
+    acknowledges_in_turn, beside_keeps, calls_keep_the_line, checks_in_turn, commands_in_turn,
     commands_keep_the_line, commands_may_be_sealed, discovering_keeps, discovery_keeps_the_line,
     further_calls_keep_all, joined_nodes_seal, keeps_in_turn, line_books_grow, line_flights_fall,
     line_logs_hold, line_nodes_accept_once, line_restarts_are_right, line_senders_are_right,
