@@ -83,4 +83,5 @@ RepliesTakenAlike =
     → message_of got ≡ Some (Rrep number c origin to) → (m : Memory)
     → ((own : CoordinatorIdentity) → is_reply_taken (coordinator_reception (hear_coordinator own m got cost note now).answer).answer
     ≡ is_ok (hear_coordinator own m got cost note now).answer)
-    × ((own : Identity) → is_reply_taken (meter_reception (hear_meter own m got cost note now).answer).answer ≡ is_ok (hear_meter own m got cost note now).answer)
+    × ((own : Identity) → is_reply_taken (meter_reception (hear_meter own m got cost note now).answer).answer
+    ≡ is_ok (hear_meter own m got cost note now).answer)
