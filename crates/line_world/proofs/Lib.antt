@@ -15,6 +15,7 @@ mod Arrivals
 mod Sendings
 mod Settings
 pub mod FurtherPlans
+pub mod BroadcastPlans
 pub mod Besides
 mod LentFurther
 mod LentReaches

@@ -19,6 +19,7 @@ mod meters;
 mod ordering;
 mod reception;
 mod setting;
+mod station_broadcasts;
 mod station_calls;
 mod station_further;
 mod station_steps;
