@@ -15,4 +15,5 @@ mod Arrivals
 mod Sendings
 mod Settings
 pub mod FurtherPlans
+pub mod PathPlans
 pub mod Besides
