@@ -16,6 +16,7 @@ mod Sendings
 mod Settings
 pub mod FurtherPlans
 pub mod BroadcastPlans
+pub mod PathPlans
 pub mod Besides
 mod LentFurther
 mod LentReaches
