@@ -21,3 +21,4 @@ mod LentReaches
 mod CoordinatorReaching
 mod MeterReaching
 mod ToldReplies
+mod NumberedNodes
