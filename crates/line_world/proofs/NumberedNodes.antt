@@ -1,5 +1,5 @@
 -- What a meter did at its place, the node of its number did.
-use Rattle.std.proofs.Common.{◌≡◌, ℕ, zero, suc, ◌+◌, ◌<◌, List, [], ◌∷◌, length, Option, Some, None, Err, sym, ap, subst, ◌∙◌, arith}
+use Rattle.std.proofs.Common.{◌≡◌, ℕ, zero, suc, ◌+◌, ◌<◌, List, ◌∷◌, length, Option, Some, None, Err, sym, ap, subst, ◌∙◌, arith}
 use Rattle.std.specs.Prelude.{IfSome, slice_get}
 use Rattle.plc_base.specs.declared.out_frame.Out.{Out}
 use Rattle.node_rules.specs.declared.refusal.Dropped.TheVariants.{Store}
