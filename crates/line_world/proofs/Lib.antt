@@ -23,3 +23,4 @@ mod LentReaches
 mod CoordinatorReaching
 mod MeterReaching
 mod ToldReplies
+mod NumberedNodes
