@@ -16,3 +16,5 @@ mod Sendings
 mod Settings
 pub mod FurtherPlans
 pub mod Besides
+mod Comings
+mod Hearings

@@ -9,7 +9,6 @@ ghost use Rattle.line_rules.specs.Answers as words;
 ghost use Rattle.line_rules.specs.Further as further;
 ghost use Rattle.line_rules.specs.Steps as rules;
 ghost use Rattle.line_world.specs.Bounds.{IsBounded};
-ghost use Rattle.node_rules.specs.Memory.{address_of};
 ghost use Rattle.line_world.specs.Discovering.{HearsBeacon, TakesBeacon, discovered_in, discovers_in, flies_in, joins_in};
 ghost use Rattle.line_world.specs.Lines.{HasRoom, world_of};
 ghost use Rattle.line_world.specs.Steps.{Steps};
@@ -202,9 +201,8 @@ impl Line {
         requires events { self.old.events < MAX_EVENTS }
         requires there { node < length self.old.nodes }
         requires meter { 1 ≤ node }
-        ensures { IfSome (slice_get self.old.nodes node) (λ x. IfSome x.memory (λ m. address_of m.station ≡ None
-            → IfSome (rules.psk_of x) (λ psk. Steps true (world_of self.old) (Ok result) (world_of self.new)
-            (Ok (joins_in (world_of self.old) node x psk address total))))) }
+        ensures { IfSome (slice_get self.old.nodes node) (λ x. IfSome (rules.psk_of x) (λ psk. Steps true (world_of self.old) (Ok result)
+            (world_of self.new) (Ok (joins_in (world_of self.old) node x psk address total)))) }
     {
         let asked = self.nodes.join(node, address, self.clock, &mut self.out);
         let happened = self.acted(node, choice_word(asked));
@@ -239,6 +237,8 @@ impl Line {
     {
         let number = self.meter_number(node)?;
         self.reserve()?;
+        // Only a meter has a pair key, and can choose.
+        let _psk = self.nodes.psk(number);
         if self.nodes.halted(number) {
             return Ok(self.answered(Answer::Halted));
         }

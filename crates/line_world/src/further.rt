@@ -4,6 +4,7 @@ ghost use Rattle.std.specs.Option.{option_and_then};
 ghost use Rattle.loadng_messages.specs.Grammar as messages;
 ghost use Rattle.loadng_messages.specs.Reading as reading;
 ghost use Rattle.mesh_header.specs.Reading as units;
+ghost use Rattle.node_rules.specs.declared.refusal.Dropped.TheVariants.{Store};
 ghost use Rattle.node_rules.specs.Ciphers.{network};
 ghost use Rattle.node_rules.specs.Replies.{route_message};
 ghost use Rattle.reach_rules.specs.CheckedReplies as replies;
@@ -182,7 +183,9 @@ fn reply_of(message: &Option<Message>, replied: Option<Reply>) -> Option<Reply>
 }
 
 // Nothing came up, and a write failed.
-fn failed() -> Reception<'static> {
+fn failed() -> Reception<'static>
+    ensures { result ≡ record { answer = words.drop_word Store; up = None; took = false; done = None; replied = None } }
+{
     Reception {
         answer: Answer::Store,
         up: None,
@@ -339,7 +342,10 @@ impl Line {
     // The reply that the node sent begins a check, if it sent one.
     fn begin_check(&mut self, node: usize, sent: Option<Reply>)
         requires there { node < length self.old.beside.items }
-        ensures { world_of self.new ≡ with_check_of (world_of self.old) node sent }
+        ensures world { world_of self.new ≡ with_check_of (world_of self.old) node sent }
+        ensures flights { self.new.flights ≡ self.old.flights }
+        ensures made { self.new.made ≡ self.old.made }
+        ensures out { self.new.out ≡ self.old.out }
     {
         let Some(reply) = sent else {
             return;
@@ -355,8 +361,10 @@ impl Line {
         requires number { IfSome due (λ r. 0 < r.number) }
         requires joined { IsSome due → IfSome (slice_get self.old.nodes node) (λ x. IfSome x.memory (λ m. IsSome m.station.ring)) }
         requires room { IsSome due → length self.old.out.frames < 24 }
-        ensures { IfSome (slice_get self.old.nodes node) (λ x. Acknowledges (world_of self.old) node x due self.old.out result self.new.out
-            (world_of self.new)) }
+        ensures acknowledges { IfSome (slice_get self.old.nodes node) (λ x. Acknowledges (world_of self.old) node x due self.old.out result
+            self.new.out (world_of self.new)) }
+        ensures flights { self.new.flights ≡ self.old.flights }
+        ensures made { self.new.made ≡ self.old.made }
     {
         let Some(reply) = due else {
             return true;

@@ -22,6 +22,7 @@ mod setting;
 mod station_calls;
 mod station_further;
 mod station_steps;
+mod tables;
 mod telling;
 mod time;
 
