@@ -16,5 +16,10 @@ mod Sendings
 mod Settings
 pub mod FurtherPlans
 pub mod Besides
+mod LentFurther
+mod LentReaches
+mod CoordinatorReaching
+mod MeterReaching
+mod ToldReplies
 mod Comings
 mod Hearings
