@@ -489,6 +489,10 @@ module _ (v w : World) (node number : ℕ) (octets : List ℕ) (accepted : Resul
   pub still_bounded : IsBounded w → IsBounded (in_run (record v { nodes = nodes }))
   still_bounded bounds = in_run_bounded v nodes (subst IsBounded (sym same) bounds) looked_many
 
+  -- each node has something beside it, as before
+  pub still_many : length w.beside ≡ length w.nodes → length v.beside ≡ length nodes
+  still_many long = subst (λ (it : World). length it.beside ≡ length it.nodes) (sym same) long ∙ sym looked_many
+
   -- what is said and what is left of them
   pub came_to : (new : World) (cost : ℕ) (origin : Origin) (h : Happenings) → is_discovery octets ≡ false
       → IfOk accepted (λ got. origin.is_forged ≡ forged_in v.flights octets got.path) → IfOk accepted (λ got. origin.note ≡ note_in v.flights octets got.path)

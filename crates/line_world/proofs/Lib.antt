@@ -23,3 +23,6 @@ mod MeterReaching
 mod ToldReplies
 mod Comings
 mod Hearings
+mod Discoveries
+mod Storable
+mod HeardFurther

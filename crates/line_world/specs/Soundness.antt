@@ -1,5 +1,5 @@
 -- What holds of each node between the events of a line.
-use Rattle.std.specs.Prelude.{List, All, IsSome, IfSome}
+use Rattle.std.specs.Prelude.{◌≤◌, List, All, IsSome, IfSome}
 use Rattle.plc_base.specs.Keeper.{Records}
 use Rattle.group_keys.specs.KeyBook as book
 use Rattle.node_rules.specs.Memory.{Memory, Node, Role, Meter}
@@ -30,6 +30,13 @@ IsSoundMeter m = IsSound (Meter m.psk) (meters.node_of m)
 -- no table of a node has more entries than slots
 abbrev pub IsShort : Node → Type 0
 IsShort x = IfSome x.memory (λ m. HasShortTables m.station)
+
+-- a node's next counter is not past the limit that is stored
+abbrev pub IsBelow : Node → Type 0
+IsBelow x = IfSome x.memory (λ m. m.station.counter.next ≤ m.station.counter.limit)
+
+abbrev pub AreBelow : List Node → Type 0
+AreBelow nodes = All IsBelow nodes
 
 abbrev pub AreShort : List Node → Type 0
 AreShort nodes = All IsShort nodes

@@ -53,6 +53,27 @@ fn choice_word(asked: Result<(), JoinRefusal>) -> Answer
     }
 }
 
+// The agent by which a meter began to join, for the report.
+fn agent_of(
+    node: usize,
+    address: Short,
+    total: u32,
+    asked: &Result<(), JoinRefusal>,
+) -> Option<AgentLine>
+    requires node { node < 1000 }
+    ensures { result ≡ further.agent_line node (beacons.chosen (record { address = address; total = total }) asked.now) }
+{
+    match asked {
+        Ok(()) => Some(AgentLine {
+            node: node as u16,
+            address,
+            total,
+        }),
+        Err(JoinRefusal::Halted) => None,
+        Err(JoinRefusal::AlreadyJoined) => None,
+    }
+}
+
 impl Line {
     // A frame of discovery of this node flies.
     fn discovery_flies(
@@ -205,17 +226,14 @@ impl Line {
             (world_of self.new) (Ok (joins_in (world_of self.old) node x psk address total)))) }
     {
         let asked = self.nodes.join(node, address, self.clock, &mut self.out);
+        let agent = agent_of(node, address, total, &asked);
         let happened = self.acted(node, choice_word(asked));
         Happenings {
             answer: happened.answer,
             forged: false,
             up: None,
             bup: None,
-            agent: Some(AgentLine {
-                node: node as u16,
-                address,
-                total,
-            }),
+            agent,
             path: None,
             grant: None,
             took: None,
@@ -239,6 +257,7 @@ impl Line {
         self.reserve()?;
         // Only a meter has a pair key, and can choose.
         let _psk = self.nodes.psk(number);
+        self.nodes.short_tables();
         if self.nodes.halted(number) {
             return Ok(self.answered(Answer::Halted));
         }

@@ -1,0 +1,15 @@
+-- The world's invariant after an event.
+use Rattle.line_rules.specs.Further.{line_step}
+use Rattle.node_rules.specs.Ciphers.{network}
+use Rattle.line_world.specs.Lines.{world_of}
+use Rattle.line_world.proofs.Besides.{beside_long}
+use Rattle.line_world.proofs.Comings.{still_kept}
+use Rattle.line_world.proofs.world.World.step.Goals as goal
+
+pub step-requires-clause-beside : goal.step-requires-clause-beside
+step-requires-clause-beside c = beside_long (world_of c.self.inside.line).beside (world_of c.self.inside.line).nodes c.self.invariant.1
+
+pub invariant_of-self : goal.invariant_of-self
+invariant_of-self c =
+    (c.step.ensures.steps.bounds,
+    still_kept (world_of c.self.inside.line) (world_of c.step.new.self) c.args.event.now c.step.result c.short_tables.ensures.tables c.self.invariant.1 c.step.ensures.octets c.step.ensures.steps.gives)
