@@ -26,3 +26,4 @@ mod Hearings
 mod Discoveries
 mod Storable
 mod HeardFurther
+mod Calling
