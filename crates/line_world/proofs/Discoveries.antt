@@ -43,15 +43,17 @@ use Rattle.line_rules.specs.declared.event.Answer.TheVariants as said
 use Rattle.line_rules.specs.declared.event.TheConstants.{MAX_EVENTS}
 use Rattle.line_rules.specs.declared.happenings.Happenings.{Happenings}
 use Rattle.line_rules.specs.Answers.{discovery_word, join_word, scan_word}
-use Rattle.line_rules.specs.Further.{agent_line, beacon_taken, beside_after, beside_at, choice_word, chooses_by, discovery_flight, discovery_flights, has_discovered, has_reached, reaches, scanning, scans_by, set_beside, with_beside, without_log}
+use Rattle.line_rules.specs.Further.{agent_line, beacon_taken, beside_after, beside_at, choice_word, choose, chooses_by, discovery_flight, discovery_flights, has_discovered, has_reached, reaches, scan, scanning, scans_by, set_beside, with_beside, without_log}
 use Rattle.line_rules.specs.Steps.{acted, flight_by, happened, identity, psk_of, ran, spoken, told, trace_of}
 use Rattle.line_rules.specs.Worlds.{Flight, Noticed, Trace, World}
 use Rattle.line_world.specs.Bounds.{IsBounded}
 use Rattle.line_world.specs.Discovering.{HearsBeacon, TakesBeacon, discovers_in, flies_in, joins_in, taken_by}
 use Rattle.line_world.specs.Steps.{Steps}
 use Rattle.line_world.proofs.Hearings.{beside_same, set_same}
+use Rattle.line_world.proofs.Orders.{IsMeter, Runs, at_meter}
 use Rattle.line_world.proofs.Settings.{bounded_beside}
 use Rattle.line_world.proofs.Taking.{bounded_by, is_taken_so}
+use Rattle.line_world.proofs.Taking.{begun as begun_so}
 
 -- # What flies
 
@@ -204,6 +206,25 @@ joined_in m o is = by m.station.ring ∙ ap is_some (sym is)
     by : (r : Option Granted) → is_some r ≡ is_some (option_map (λ (g : Granted). g.address) r)
     by None = refl
     by (Some g) = refl
+
+-- what a node holds, by whether it is halted
+pub none_in : (o : Option Memory) → true ≡ not (is_some o) → o ≡ None
+none_in None e = refl
+none_in (Some m) e = absurd (cc (e))
+
+pub memory_in : (o : Option Memory) → false ≡ not (is_some o) → (m : Memory) × (o ≡ Some m)
+memory_in None e = absurd (cc (e))
+memory_in (Some m) e = (m, refl)
+
+-- the rule, of a meter that was found
+pub scan_at : {w : World} {number found : ℕ} (r : Runs w) (m : IsMeter w number found) → scan w number ≡ Ok (scans_by w number m.there.node.memory)
+unfolding scan
+scan_at {w} {number} r m = begun_so w _ r.begun ∙ at_meter m (λ x. Ok (scans_by w number x.memory))
+
+pub choose_at : {w : World} {number found : ℕ} (r : Runs w) (m : IsMeter w number found) (k : ℕ)
+    → choose network w number k ≡ Ok (chooses_by network w number m.there.node k (psk_of m.there.node))
+unfolding choose
+choose_at {w} {number} r m k = begun_so w _ r.begun ∙ at_meter m (λ x. Ok (chooses_by network w number x k (psk_of x)))
 
 -- # Choosing an agent
 

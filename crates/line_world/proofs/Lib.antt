@@ -27,3 +27,4 @@ mod Discoveries
 mod Storable
 mod HeardFurther
 mod Calling
+mod Acknowledging

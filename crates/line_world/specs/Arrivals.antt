@@ -1,5 +1,5 @@
 -- What becomes of octets that came to a node.
-use Rattle.std.specs.Prelude.{◌≡◌, ⊤, ℕ, Bool, slice_set, IfNone, IfSome, true, ◌||◌, List, ◌++◌, length, map, Option, Some, None, is_some, Result, Ok, Err, if◌then◌else◌}
+use Rattle.std.specs.Prelude.{◌≡◌, ⊤, ℕ, Bool, slice_set, IfNone, IfSome, false, true, ◌||◌, List, ◌++◌, length, map, Option, Some, None, is_some, Result, Ok, Err, if◌then◌else◌}
 use Rattle.std.specs.List.{list_any}
 use Rattle.std.specs.Option.{option_map, option_map_or}
 use Rattle.plc_base.specs.declared.address.Eui.{Eui}
@@ -8,6 +8,7 @@ use Rattle.node_rules.specs.declared.heard.Accepted.{Accepted}
 use Rattle.node_rules.specs.declared.heard.Path.{Path}
 use Rattle.node_rules.specs.declared.heard.Reply.{Reply}
 use Rattle.node_rules.specs.declared.refusal.LocalRefusal.{LocalRefusal}
+use Rattle.node_rules.specs.declared.refusal.LocalRefusal.TheVariants as locals
 use Rattle.node_rules.specs.declared.refusal.FrameRefusal.{FrameRefusal}
 use Rattle.node_rules.specs.Ciphers.{Ciphers, network}
 use Rattle.node_rules.specs.Memory.{Node}
@@ -65,6 +66,12 @@ checked_so ciphers w number x got origin cost =
 abbrev pub acknowledging_if : Node → Option Reply → NodeStep (Result (Unit {0}) LocalRefusal)
 acknowledging_if x None = stays x (Ok tt)
 acknowledging_if x (Some reply) = acknowledging x reply
+
+-- whether no write failed by it
+abbrev pub is_stored : Result (Unit {0}) LocalRefusal → Bool
+is_stored (Ok u) = true
+is_stored (Err locals.CounterSpent) = true
+is_stored (Err locals.Store) = false
 
 -- An acknowledgement went out after what was given out before, if one was due. Where its put failed nothing is left of either.
 pub record Acknowledges (w : World) (number : ℕ) (x : Node) (due : Option Reply) (before : Out) (done : Bool) (out : Out) (new : World)

@@ -14,7 +14,7 @@ ghost use Rattle.line_rules.specs.Answers as words;
 ghost use Rattle.line_rules.specs.Further as further;
 ghost use Rattle.line_rules.specs.Logs.{LogsKept};
 ghost use Rattle.line_rules.specs.Steps as rules;
-ghost use Rattle.line_world.specs.Arrivals.{Acknowledges, checked_so, heard_further_so, heard_so, in_run, unbelieved_so, with_check_of};
+ghost use Rattle.line_world.specs.Arrivals.{Acknowledges, checked_so, heard_further_so, heard_so, in_run, is_stored, unbelieved_so, with_check_of};
 ghost use Rattle.line_world.specs.Bounds.{IsBounded};
 ghost use Rattle.line_world.specs.Lines.{HasRoom, world_of};
 ghost use Rattle.line_world.specs.Reaching as reaching;
@@ -180,6 +180,17 @@ fn reply_of(message: &Option<Message>, replied: Option<Reply>) -> Option<Reply>
         return None;
     }
     replied
+}
+
+// Whether no write failed.
+fn is_stored(sent: &Result<(), LocalRefusal>) -> bool
+    ensures { result ≡ is_stored sent.now }
+{
+    match sent {
+        Ok(()) => true,
+        Err(LocalRefusal::CounterSpent) => true,
+        Err(LocalRefusal::Store) => false,
+    }
 }
 
 // Nothing came up, and a write failed.
@@ -372,7 +383,7 @@ impl Line {
         let sent = self
             .nodes
             .acknowledge(node, reply, &mut self.body, &mut self.out);
-        !matches!(sent, Err(LocalRefusal::Store))
+        is_stored(&sent)
     }
 
     // A node hears a frame where neighbours are checked.

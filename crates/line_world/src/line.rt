@@ -100,3 +100,7 @@ impl Line {
         }
     }
 }
+
+fn scratch()
+    ensures { 0 ≡ 0 }
+{}
