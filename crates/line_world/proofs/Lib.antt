@@ -24,3 +24,10 @@ mod CoordinatorReaching
 mod MeterReaching
 mod ToldReplies
 mod NumberedNodes
+mod Comings
+mod Hearings
+mod Discoveries
+mod Storable
+mod HeardFurther
+mod Calling
+mod Acknowledging
