@@ -107,7 +107,7 @@ module _ (s : Neighbours) (c : NeighbourCommand) (number origin : ℕ) (one : c.
   ends_awaited some =
       let answer : (ended_at s c.from number origin (is_awaited s c.from number origin)).answer ≡ Ok Acked = λ i. (ended_at s c.from number origin (some i)).answer in
       let checks : (ended_at s c.from number origin (is_awaited s c.from number origin)).memory.beside.checks ≡ acked_after s c.from number origin =
-          λ i. (ended_at s c.from number origin (some i)).memory.beside.checks in
+      λ i. (ended_at s c.from number origin (some i)).memory.beside.checks in
       record {
         answer = sym (ap (λ (p : Plan (Reaching (Unit {0})) (Result CommandHeard ReachDropped)). p.answer) ended_read ∙ answer);
         checks = sym (ap (λ (p : Plan (Reaching (Unit {0})) (Result CommandHeard ReachDropped)). p.memory.beside.checks) ended_read ∙ checks);

@@ -154,8 +154,10 @@ carries_first {A} s t p answer before out empty none c = record {
     is_done : (d : Bool) → is_some (if d then Some p.memory else None) ≡ d
     is_done true = refl
     is_done false = refl
+
     known : is_some t.memory ≡ c.carries.done
     known = ap (λ (k : State StationMemory). is_some k.memory) c.carries.new_is ∙ is_done c.carries.done
+
     by : (d : Bool) → (if d then followed nothing (given p d) else nothing) ≡ given p d
     by true = refl
     by false = λ i. record { frames = []; tags = record { made = []; opened = sym none i } }
@@ -175,8 +177,8 @@ pub asked : (s t : State StationMemory) (b : Beside) (target own hop : ℕ) (l :
     → result ≡ told_after asks.CounterSpent asks.Store sent → ReachesFirst s b (Err asks.Halted) (λ y. ask_path alone y target) result out t (record b { log = log })
 asked s t b target own hop l message sent result before out log running is apart some empty begins carried left told =
     let goes : Carries s (send_local l 5 (Some hop) (path_spelling message)) sent out t =
-        carries_first s t (send_local l 5 (Some hop) (path_spelling message)) sent before out empty (nothing_opened l 5 (Some hop) (path_spelling message))
-        (at_some s.memory (λ k. CarriesAfter s (send_local k 5 (Some hop) (path_spelling message)) sent before out t) l running carried) in
+    carries_first s t (send_local l 5 (Some hop) (path_spelling message)) sent before out empty (nothing_opened l 5 (Some hop) (path_spelling message))
+    (at_some s.memory (λ k. CarriesAfter s (send_local k 5 (Some hop) (path_spelling message)) sent before out t) l running carried) in
     subst (λ (a : Result (Unit {0}) AskRefusal). ReachesFirst s b (Err asks.Halted) (λ y. ask_path alone y target) a out t (record b { log = log })) (ask_told sent ∙ sym told)
     (sent_first s b (Err asks.Halted) (λ y. ask_path alone y target) l running (told_as ask_ends tt) (send_local l 5 (Some hop) (path_spelling (Ask target (own ∷ [])))) sent out t (record b { log = log })
     (asks_hop l b target own hop is apart some)

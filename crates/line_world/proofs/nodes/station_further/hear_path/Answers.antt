@@ -38,6 +38,6 @@ returns-clause-reaches c =
     let d = c.args.command.now in
     reaches_as (λ y. follows_path alone y c.take_path-step.result) (λ y. hear_path alone y c.args.own d.from d.to_all d.body)
     (λ l e. ap (λ (p : Result PathStep PathRefusal). follows_path alone (record { memory = l; beside = b }) p)
-        (c.take_path-step.ensures.step ∙ ap (λ (n : Option ℕ). taken c.args.own d.from n c.in-Some.message) (at_some s.memory (λ k. c.next_toward-next.result ≡ next_toward k c.in-Some.message) l e c.next_toward-next.ensures))
-        ∙ sym (hears_read (record { memory = l; beside = b }) c.args.own d.from d.to_all d.body c.in-Some.message c.if-command.false (ap path_in (sym c.octets.ensures) ∙ c.read_path.ensures.value ∙ c.in-Some.is)))
+    (c.take_path-step.ensures.step ∙ ap (λ (n : Option ℕ). taken c.args.own d.from n c.in-Some.message) (at_some s.memory (λ k. c.next_toward-next.result ≡ next_toward k c.in-Some.message) l e c.next_toward-next.ensures))
+    ∙ sym (hears_read (record { memory = l; beside = b }) c.args.own d.from d.to_all d.body c.in-Some.message c.if-command.false (ap path_in (sym c.octets.ensures) ∙ c.read_path.ensures.value ∙ c.in-Some.is)))
     c.follow_path.ensures.reaches
