@@ -104,10 +104,10 @@ record IsOfFlight (w : World) (flight node number : ℕ) (octets : List ℕ) : T
   octets_are : octets ≡ flew.octets
 
 of_flight : (w : World) (flight node cost number : ℕ) (octets : List ℕ) → Comes w (events.Deliver flight node cost) number octets → IsOfFlight w flight node number octets
-of_flight w flight node cost number octets (OfFlight flight node cost f is) = record { same = refl; flew = f; at = is; octets_are = refl }
+of_flight w flight node cost number octets (OfFlight a n b f is) = record { same = refl; flew = f; at = is; octets_are = refl }
 
 of_script : (w : World) (node cost : ℕ) (given : List ℕ) (number : ℕ) (octets : List ℕ) → Comes w (events.Inject node cost given) number octets → (number ≡ node) × (octets ≡ given)
-of_script w node cost given number octets (OfScript node cost given) = (refl, refl)
+of_script w node cost given number octets (OfScript n a own) = (refl, refl)
 
 same_flight : (o : Option Flight) (f g : Flight) → o ≡ Some f → not_lost o ≡ Some g → f ≡ g
 same_flight None f g is flies = absurd (cc (is))
@@ -140,7 +140,7 @@ discovery_gets w node octets e z there got c is has = absurd (none_accepts z oct
 
 -- # Every event
 
-brings : Event → Bool
+abbrev brings : Event → Bool
 brings (events.Deliver flight node cost) = true
 brings (events.Inject node cost octets) = true
 brings _ = false

@@ -3,6 +3,7 @@ use Rattle.std.proofs.Common.{◌≡◌, ℕ, ◌+◌, ◌<◌, ◌≤◌, Bool,
 use Rattle.std.specs.Prelude.{◌==◌, IfSome, is_some, slice_get, slice_set}
 use Rattle.std.specs.Option.{option_and_then, option_map, option_map_or}
 use Rattle.std.proofs.lemmas.List.{append-nil, length-append}
+use Rattle.std.proofs.lemmas.Option.{get_or_from_slice_get, slice_get_within}
 use Rattle.plc_base.specs.declared.address.TheConstants.{PAN}
 use Rattle.plc_base.specs.declared.key.Key.{Key}
 use Rattle.plc_base.specs.declared.out_frame.Out.{Out}
@@ -48,6 +49,7 @@ use Rattle.line_rules.specs.Steps.{acted, flight_by, happened, identity, psk_of,
 use Rattle.line_rules.specs.Worlds.{Flight, Noticed, Trace, World}
 use Rattle.line_world.specs.Bounds.{IsBounded}
 use Rattle.line_world.specs.Discovering.{HearsBeacon, TakesBeacon, discovers_in, flies_in, joins_in, taken_by}
+use Rattle.line_world.specs.Soundness.{AreBelow, IsBelow}
 use Rattle.line_world.specs.Steps.{Steps}
 use Rattle.line_world.proofs.Hearings.{beside_same, set_same}
 use Rattle.line_world.proofs.Orders.{IsMeter, Runs, at_meter}
@@ -278,6 +280,9 @@ joining_stores_nothing own m agent now apart below =
     (with_memory_by (meters.with_session (Some (record { course = ByAgent agent; peer = None; since = now }))) (empty_draft m))) tt).puts) apart
     ∙ ap puts_of (reserve_none m.station.counter below)
 
+abbrev refusal : ChooseRefusal → Result ChosenAgent ChooseRefusal
+refusal reason = Err reason
+
 -- A meter chooses.
 module _ (w : World) (number : ℕ) (x : Node) (k : ℕ) (psk : Key) (m : Memory) (at : slice_get w.nodes number ≡ Some x) (there : x.memory ≡ Some m) where
   abbrev plan : Reaching Memory → Plan (Reaching Memory) (Result ChosenAgent ChooseRefusal)
@@ -312,7 +317,7 @@ module _ (w : World) (number : ℕ) (x : Node) (k : ℕ) (psk : Key) (m : Memory
       let keeps : (plan held).memory.beside ≡ b = ap (λ (p : Plan (Reaching Memory) (Result ChosenAgent ChooseRefusal)). p.memory.beside) is in
       let world : chosen_so.0 ≡ ran w =
       ap (λ (d : NodeStep (Result ChosenAgent ChooseRefusal)). has_reached network (ran w) number x (Err choices.Halted) plan d) same
-      ∙ ap (λ (c : Beside). set_beside number c (told network (ran w) number (stays x (Err {A = ChosenAgent} reason)))) (chooses_beside x keeps (ap is_some there))
+      ∙ ap (λ (c : Beside). set_beside number c (told network (ran w) number (stays x (refusal reason)))) (chooses_beside x keeps (ap is_some there))
       ∙ (λ i. record (ran w) { nodes = set_same w.nodes number x at i; flights = append-nil w.flights i; made = append-nil w.made i; beside = beside_same w.beside number i }) in
       is_taken_so true w new (Ok chosen_so) chosen_so.1 h (λ i. Ok ((world ∙ sym left) i, chosen_so.1))
       (said ∙ (λ i. record (happened w (choice_word (sym same i).answer)) { flights = length (sym same i).frames; agent = agent_line number (sym same i).answer }))
@@ -358,3 +363,9 @@ module _ (w : World) (number : ℕ) (x : Node) (k : ℕ) (psk : Key) (m : Memory
         },
       )) ∙ ap (λ (e : NodeStep (Result ChosenAgent ChooseRefusal)).
       let trace = spoken w (answering choice_word e) in (chosen_so.0, record trace { happened = record trace.happened { agent = agent_line number e.answer } })) (sym same)
+
+-- the counter of the node of a number is below its limit
+pub below_in : (nodes : List Node) (number : ℕ) (x : Node) (m : Memory) → AreBelow nodes → slice_get nodes number ≡ Some x → x.memory ≡ Some m → m.station.counter.next ≤ m.station.counter.limit
+below_in nodes number x m below at here =
+    subst (λ (o : Option Memory). IfSome o (λ k. k.station.counter.next ≤ k.station.counter.limit)) here
+    (subst IsBelow (get_or_from_slice_get nodes number x x at) (below number x (slice_get_within nodes number x at)))

@@ -13,6 +13,7 @@ use Rattle.plc_base.specs.declared.address.Eui.{Eui}
 use Rattle.plc_base.specs.declared.key.Key.{Key}
 use Rattle.plc_base.specs.declared.out_frame.Out.{Out}
 use Rattle.plc_base.specs.Grant.{Granted}
+use Rattle.plc_base.specs.Keeper.{Write}
 use Rattle.mesh_header.specs.declared.unit.Unit.{Unit as MeshUnit}
 use Rattle.mesh_header.specs.declared.unit.Unit.TheVariants as units
 use Rattle.mesh_header.specs.Reading.{unit_in}
@@ -59,7 +60,7 @@ use Rattle.reach_rules.specs.ReachingNodes.{Beside, Reaching, nothing_beside}
 use Rattle.reach_rules.specs.Receiving.{NeighbourCommand, command_of, command_on, command_with, hear_command}
 use Rattle.line_flights.specs.declared.flights.Origin.{Origin}
 use Rattle.line_rules.specs.declared.event.Answer.{Answer}
-use Rattle.line_rules.specs.declared.event.Answer.TheVariants as said
+use Rattle.line_rules.specs.declared.event.Answer.TheVariants as answers
 use Rattle.line_rules.specs.declared.event.TheConstants.{MAX_EVENTS}
 use Rattle.line_rules.specs.declared.happenings.Happenings.{Happenings}
 use Rattle.line_rules.specs.Answers.{CompletedJoining, Reception, command_word, coordinator_reception, meter_reception, only, station_reception}
@@ -98,13 +99,13 @@ beside_same (b ∷ bs) (suc number) = ap (λ (cs : List Beside). b ∷ cs) (besi
 
 -- what is told of it
 abbrev pub blacklisted : telling.Reception
-blacklisted = record { answer = said.Blacklisted; up = None; took = false; done = None; replied = None }
+blacklisted = record { answer = answers.Blacklisted; up = None; took = false; done = None; replied = None }
 
 pub was_unbelieved : (w new : World) (number : ℕ) (x : Node) (origin : Origin) (out : Out) (forged : Bool) (h : Happenings) → IsBounded (in_run w) → w.events < MAX_EVENTS
     → length out.frames ≤ 24 → length out.tags.made ≤ 2 → slice_get w.nodes number ≡ Some x → out ≡ nothing → forged ≡ (origin.is_forged || list_any (is_forged_tag w.made) out.tags.opened)
     → h ≡ said_of w number out forged blacklisted → new ≡ left_of w number out forged blacklisted → Steps true w (Ok h) new (Ok (unbelieved_so network w number x origin))
 was_unbelieved w new number x origin out forged h b room frames tags at none is_forged said is =
-    was_received w new number x origin (stays x (only said.Blacklisted)) blacklisted out w.nodes forged h b room frames tags at refl
+    was_received w new number x origin (stays x (only answers.Blacklisted)) blacklisted out w.nodes forged h b room frames tags at refl
     (record {
       tells = record { answer = refl; up = refl; took = refl; done = refl };
       did = record { answer_is = refl; out_is = none; nodes_are = sym (set_same w.nodes number x at) };
@@ -188,7 +189,7 @@ module _ (x : Node) (got : Accepted) (cost note now : ℕ) (c : NeighbourCommand
       subst (λ o. Silent (meters.heard_by (identity network x psk) m now (hear m.station got cost note now) o)) (sym s.1) s.0
 
   leaves : {A : Type 0} (p : Plan Memory A) → Silent p → LeavesLog p
-  leaves p s = subst (λ ps. All IsBesideLog ps) (sym s.0) (All-nil IsBesideLog)
+  leaves p s = subst (λ (ps : List Write). All IsBesideLog ps) (sym s.0) (All-nil IsBesideLog)
 
   by_role : (role : Role) → HearsNothing x (hears_as x got cost note now role)
   by_role Coordinator =
@@ -196,14 +197,16 @@ module _ (x : Node) (got : Accepted) (cost note now : ℕ) (c : NeighbourCommand
       record {
         frames = s.0;
         made = s.1;
-        quiet = acts_quiet x (Err drops.Store) (λ m. coordinator_rules.hear_coordinator own m got cost note now) (λ m here. leaves _ (coordinator_silent m));
+        quiet = acts_quiet x (Err drops.Store) (λ m. coordinator_rules.hear_coordinator own m got cost note now)
+            (λ m here. leaves (coordinator_rules.hear_coordinator own m got cost note now) (coordinator_silent m));
       }
   by_role (Meter psk) =
       let s = acts_silent x (Err drops.Store) (λ m. meters.hear_meter (identity network x psk) m got cost note now) (meter_silent psk) in
       record {
         frames = s.0;
         made = s.1;
-        quiet = acts_quiet x (Err drops.Store) (λ m. meters.hear_meter (identity network x psk) m got cost note now) (λ m here. leaves _ (meter_silent psk m));
+        quiet = acts_quiet x (Err drops.Store) (λ m. meters.hear_meter (identity network x psk) m got cost note now)
+            (λ m here. leaves (meters.hear_meter (identity network x psk) m got cost note now) (meter_silent psk m));
       }
 
   pub command_silent : HearsNothing x (hears network x got cost note now)
@@ -590,7 +593,7 @@ module _ (x : Node) (got : Accepted) (cost note now : ℕ) (n : Memory) where
 
 -- what is told where an acknowledgement failed
 abbrev pub unacknowledged : telling.Reception
-unacknowledged = record { answer = said.Store; up = None; took = false; done = None; replied = None }
+unacknowledged = record { answer = answers.Store; up = None; took = false; done = None; replied = None }
 
 module _ (w v2 new : World) (number : ℕ) (x : Node) (got : Accepted) (origin : Origin) (cost : ℕ) (r : telling.Reception) (before out : Out) (nodes : List Node) (forged : Bool)
     (due_now : Option Reply) (h : Happenings) (bounded : IsBounded (in_run w)) (room : w.events < MAX_EVENTS) (frames : length out.frames ≤ 24) (tags : length out.tags.made ≤ 2)
@@ -746,7 +749,7 @@ module _ (w v2 new : World) (number : ℕ) (x : Node) (got : Accepted) (origin :
       ∙ ap (λ (u : World). left_of u number out forged unacknowledged) (sym ack.world_is) ∙ sym is in
       let told_is : h ≡ step.1.happened =
       said ∙ ap (λ (u : World). said_of u number out forged unacknowledged) ack.world_is ∙ ap (λ (o : Out). said_of (record w { nodes = ns }) number o forged unacknowledged) none
-      ∙ (λ i. record (happened w said.Store) {
+      ∙ (λ i. record (happened w answers.Store) {
         forged = forgery i;
         up = handed_by number (sym only_it.0 i);
         took = option_map (λ _. number) (sym only_it.1 i);

@@ -100,7 +100,3 @@ impl Line {
         }
     }
 }
-
-fn scratch()
-    ensures { 0 ≡ 0 }
-{}

@@ -76,7 +76,7 @@ returns-then-is_some c =
     reserved kept w (λ it. scan it c.args.node) same
     (steps_as _ _ (scan_at r m ∙ ap (λ (o : Option Memory). Ok (scans_by kept c.args.node o)) k.1)
     (discovery_stays kept _ c.args.node scan_word (scanning c.args.node) (begin_scan k.0 (beside_at kept c.args.node).scan) _ r.bounds r.room (Err scan_faults.AlreadyJoined)
-    (scan_joined k.0 (beside_at kept c.args.node).scan joined) c.answered.ensures.told (ap world_of c.answered.ensures.line ∙ (λ i. record (ran kept) { nodes = c.if-halted.ensures.same i }))))
+    (scan_joined k.0 (beside_at kept c.args.node).scan joined) c.answered-then-is_some.ensures.told (ap world_of c.answered-then-is_some.ensures.line ∙ (λ i. record (ran kept) { nodes = c.if-halted.ensures.same i }))))
 
 pub discovery_flies-requires-clause-there : goal.discovery_flies-requires-clause-there
 discovery_flies-requires-clause-there c =
@@ -98,7 +98,9 @@ returns c =
     let apart = joined_in k.0 c.address.result at ∙ sym c.if-is_some.ensures in
     let within : number < length kept.beside =
     subst (λ (it : World). number < length it.beside) (sym same) (subst (λ (n : ℕ). number < n) (sym c.requires.beside) (is_meter w node number c.in_ok-number.ensures).there.within) in
-    let held : c.index_mut.result.now ≡ beside_at kept number = beside_found kept.beside number c.index_mut.result.now within c.index_mut.ensures.value in
+    let b = c.behind-self.inside in
+    let held : record { checks = b.checks; log = b.log; scan = b.scan } ≡ beside_at kept number =
+    c.behind-self.view_is ∙ beside_found kept.beside number c.index_mut.result.now within c.index_mut.ensures.value in
     let request = discoveries.Request 0 in
     reserved kept w (λ it. scan it node) same
     (steps_as _ _ (scan_at r m ∙ ap (λ (o : Option Memory). Ok (scans_by kept node o)) k.1)
