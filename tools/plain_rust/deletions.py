@@ -230,18 +230,20 @@ def formatters(ts, tally):
         j = step(ts, i)
         if j >= len(ts) or ts[j].text != "<":
             continue
-        long = ["<", "W", ":", "fmt", ":", ":", "Write", ">"]
-        for form, count in ((long, "writer of a formatter"), (["<", "W", ">"], None)):
-            places, k = [j], j
-            while len(places) < len(form):
-                k = step(ts, k)
-                places.append(k)
-            if [ts[k].text for k in places] == form:
-                drop(ts, places[0], places[-1] + 1)
-                tally[count] += bool(count)
-                break
-        else:
+        end = closing_angle(ts, j)
+        words = solid(ts[j:end])
+        if words == ["<", "W", ":", "fmt", ":", ":", "Write", ">"]:
+            tally["writer of a formatter"] += 1
+        elif words != ["<", "W", ">"]:
             raise Stop("a formatter of no known form")
+        drop(ts, j, end)
+
+
+def closing_angle(ts, i):
+    """The place after the next `>`."""
+    while i < len(ts) and (ts[i].gone or ts[i].text != ">"):
+        i += 1
+    return i + 1
 
 
 def handles(ts, tally):
@@ -264,4 +266,3 @@ def all_of_them(ts, tally):
     clauses(ts, tally)
     for each in (ghosts, attributes, bounds, models, formatters, handles):
         each(ts, tally)
-    tally.pop(None, None)

@@ -13,6 +13,8 @@ LIBRARIES = {
     "hex": 'hex = { package = "rattle_hex", path = "../../shims/hex" }',
     "circular_buffer": 'circular_buffer = { package = "rattle_ring", path = "../../shims/circular_buffer" }',
 }
+# What the example of a firmware is made from.
+FIRMWARE = {"meter_node", "coordinator"}
 # Names of lines of crates.txt that need no dependency in Rust.
 OF_THE_LANGUAGE = {"core"}
 PROFILES = """
@@ -66,6 +68,10 @@ def lay_out(target, names, extra):
     for sub in ("crates", "shims"):
         shutil.rmtree(os.path.join(target, sub), ignore_errors=True)
     shutil.copytree(os.path.join(HERE, "shims"), os.path.join(target, "shims"), ignore=shutil.ignore_patterns("target", "Cargo.lock"))
+    if FIRMWARE <= set(names):
+        shutil.rmtree(os.path.join(target, "firmware"), ignore_errors=True)
+        shutil.copytree(os.path.join(HERE, "firmware"), os.path.join(target, "firmware"))
+        extra = ["firmware", *extra]
     members = ", ".join(f'"{it}"' for it in [f"crates/{it}" for it in names] + extra)
     with open(os.path.join(target, "Cargo.toml"), "w", encoding="utf-8") as file:
         file.write(f'[workspace]\nresolver = "2"\nmembers = [{members}]\n{PROFILES}')
