@@ -31,9 +31,16 @@ fn stop(why: &core::panic::PanicInfo) -> ! {
 }
 
 /// Memory that is given out and never taken back: a node takes its own when it is opened, and no more.
-struct Heap<const N: usize> {
+pub struct Heap<const N: usize> {
     octets: UnsafeCell<[u64; N]>,
     used: AtomicUsize,
+}
+
+impl<const N: usize> Heap<N> {
+    /// With N times 8 octets.
+    pub const fn new() -> Heap<N> {
+        Heap { octets: UnsafeCell::new([0; N]), used: AtomicUsize::new(0) }
+    }
 }
 
 // Only the atomic says what is given out.
@@ -51,6 +58,3 @@ unsafe impl<const N: usize> GlobalAlloc for Heap<N> {
 
     unsafe fn dealloc(&self, _: *mut u8, _: Layout) {}
 }
-
-#[global_allocator]
-static HEAP: Heap<8192> = Heap { octets: UnsafeCell::new([0; 8192]), used: AtomicUsize::new(0) };

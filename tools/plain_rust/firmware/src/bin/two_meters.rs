@@ -13,6 +13,11 @@ use firmware::{Driver, Flash, Modem};
 use plc_base::{Eui, FrameBuf, Key, LinkCost, Short};
 use rattle_std::alloc::Global;
 
+// Three nodes take about 12 KB each.
+#[cfg(target_os = "none")]
+#[global_allocator]
+static HEAP: bare::Heap<6144> = bare::Heap::new();
+
 #[cfg(not(target_os = "none"))]
 fn print(text: &str) {
     std::print!("{text}");
