@@ -137,6 +137,16 @@ class Rewrites(unittest.TestCase):
             export.check(source, ts, "fn g() { a() }")
 
 
+class Workspace(unittest.TestCase):
+    def test_a_library_without_a_form_is_named(self):
+        stands_on = {"a": ["b", "hex", "core", "anyhow"], "b": []}
+        self.assertEqual(export.workspace.without_form("a", stands_on), ["anyhow"])
+
+    def test_crates_come_with_what_they_stand_on(self):
+        stands_on = {"low": [], "other": ["low"], "high": ["low", "hex"]}
+        self.assertEqual(export.workspace.closure(["high"], stands_on), ["low", "high"])
+
+
 class Border(unittest.TestCase):
     def test_a_bound_is_checked(self):
         source = "impl S {\n    pub fn f(&self, index: u8)\n        requires index { index ≤ 1 }\n    {\n        g();\n    }\n}\n"

@@ -44,6 +44,11 @@ def read_crates(repository):
     return stands_on
 
 
+def without_form(name, stands_on):
+    """The libraries of a crate that have no form in Rust here."""
+    return [it for it in stands_on[name] if it not in stands_on and it not in LIBRARIES and it not in OF_THE_LANGUAGE]
+
+
 def closure(names, stands_on):
     """The crates of the repository that these are made from."""
     return [it for it in stands_on if it in names or any(it in stands_on[name] for name in names)]

@@ -2,7 +2,7 @@
 use coordinator::Coordinator;
 use firmware::Flash;
 use meter_node::Meter;
-use node_rules::{Accepted, Path};
+use node_rules::{Accepted, FrameRef, Path};
 use plc_base::{DatagramBuf, Eui, FrameBuf, Key, LinkCost, Out, Short};
 use rattle_std::alloc::Global;
 
@@ -78,6 +78,6 @@ fn a_halted_station_stops() {
 fn a_frame_up_that_was_not_accepted_stops() {
     let (mut payload, mut datagram) = (FrameBuf::new(), DatagramBuf::new());
     payload.push(1);
-    let got = Accepted { path: Path::Up { from: Eui([3; 8]) }, payload: plc_base::FrameRef::new(payload.octets()) };
+    let got = Accepted { path: Path::Up { from: Eui([3; 8]) }, payload: FrameRef::new(&payload) };
     let _ = meter().hear(&got, LinkCost::new(1).unwrap(), 0, 0, &mut datagram, &mut Out::new());
 }
