@@ -110,7 +110,6 @@ fn bit_of(word: u32, bit: u32) -> u32 {
 }
 
 /// Four places at a time: of the 16 octets of the table the lowest bit of a place leaves 8, the next 4, 2 and 1. All octets are read each time.
-// One copy of it: it would be put in place some hundred times.
 #[inline(never)]
 #[cfg_attr(target_feature = "ssse3", allow(dead_code))]
 fn by_bits(table: Simd<u8, 16>, at: Simd<u8, 16>) -> Simd<u8, 16> {
