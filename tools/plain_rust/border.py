@@ -60,15 +60,23 @@ def checks(ts, crate, tally):
             continue
         clauses, body = required(ts, i)
         name = ts[step(ts, i)].text
-        lines = []
-        for clause, text in clauses:
-            test = check_of(crate, name, text)
-            tally["clause at the border"] += 1
-            if test:
-                tally["check at the border"] += 1
-                lines.append(f'\n        std::required!({test}, "{crate}: {name}: {clause}");')
+        tests = [(clause, check_of(crate, name, text)) for clause, text in clauses]
+        lines = [f'\n        std::required!({test}, "{crate}: {name}: {clause}");' for clause, test in tests if test]
+        tally["clause at the border"] += len(tests)
+        tally["check at the border"] += len(lines)
         if lines:
             ts[body + 1 : body + 1] = rust_tokens("".join(lines), True)
+
+
+def names(ts, crate):
+    """The names of the clauses of a file that are checked, as `call: clause`, and of those that are not."""
+    checked, unchecked = [], []
+    for i, t in enumerate(ts):
+        if t.kind == "ident" and t.text == "fn" and is_public(ts, i):
+            name = ts[step(ts, i)].text
+            for clause, text in required(ts, i)[0]:
+                (checked if check_of(crate, name, text) else unchecked).append(f"{name}: {clause}")
+    return checked, unchecked
 
 
 __all__ = ["BORDER", "CLAUSES", "checks", "closing"]

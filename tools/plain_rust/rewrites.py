@@ -11,13 +11,13 @@ REASONS = {
     "test entry": "Rust passes a test no handle of the runtime: std::test::check makes one",
     "program entry": "Rust passes main no handle of the runtime: it is made there",
     "to_vec with an allocator": "Rust's own to_vec of a slice is found before that of a trait, so the trait's has another name",
-    "root lines": "no_std, and the name std for the shim over core and alloc",
+    "root lines": "no_std, the name std for the shim over core and alloc, and no warning of what only a contract used",
     "prelude line": "names that Rattle has everywhere: Vec, String, HostRuntime, AllocGlobal",
     "patch": "a text of patches.json, with its reason there",
     "check at the border": "a clause of a public call, which nobody proves of a caller in Rust (border.json)",
 }
 PRELUDE = {"Vec", "String", "Box", "HostRuntime", "AllocGlobal"}
-ROOT = "#![no_std]\n#[allow(unused_imports)]\n#[macro_use]\nextern crate rattle_std as std;\n\n"
+ROOT = "#![no_std]\n#![allow(unused)]\n#[macro_use]\nextern crate rattle_std as std;\n\n"
 
 
 def insert(ts, i, text):
@@ -95,7 +95,7 @@ def head(ts, is_root, tally):
         lines += ROOT
         tally["root lines"] += 1
     if PRELUDE & {t.text for t in ts if t.kind == "ident" and not t.gone}:
-        lines += "#[allow(unused_imports)]\nuse std::dialect::*;\n\n"
+        lines += "use std::dialect::*;\n\n"
         tally["prelude line"] += 1
     if not lines:
         return

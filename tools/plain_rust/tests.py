@@ -3,7 +3,9 @@ import collections
 import importlib.machinery
 import importlib.util
 import os
+import re
 import sys
+import tempfile
 import unittest
 
 HERE = os.path.dirname(os.path.abspath(__file__))
@@ -31,6 +33,11 @@ def code(source, **more):
 def words(text):
     """The solid tokens of a text in Rust."""
     return lexer.solid(lexer.rust_tokens(text))
+
+
+def read(path):
+    with open(path, encoding="utf-8") as file:
+        return file.read()
 
 
 class Tokens(unittest.TestCase):
@@ -111,12 +118,12 @@ class Deletions(unittest.TestCase):
 
 class Rewrites(unittest.TestCase):
     def test_a_test_gets_its_handle(self):
-        text = words("#[allow(unused_imports)] use std::dialect::*; #[test] fn a() { std::test::check(|rt: HostRuntime| -> R { b(rt) }) }")
+        text = words("use std::dialect::*; #[test] fn a() { std::test::check(|rt: HostRuntime| -> R { b(rt) }) }")
         self.assertEqual(code("#[test]\nfn a(rt: HostRuntime) -> R { b(rt) }"), text)
 
     def test_a_root_names_its_std_after_its_own_attributes(self):
         text, _ = plain("//! What it is.\n#![allow(dead_code)]\n\n/// A thing.\npub struct A;\n", is_root=True)
-        self.assertTrue(text.startswith("//! What it is.\n#![allow(dead_code)]\n\n#![no_std]\n"), text)
+        self.assertTrue(text.startswith("//! What it is.\n#![allow(dead_code)]\n\n#![no_std]\n#![allow(unused)]\n"), text)
         self.assertTrue(text.endswith("extern crate rattle_std as std;\n\n/// A thing.\npub struct A;\n"), text)
 
     def test_to_vec_is_the_one_with_an_allocator(self):
@@ -147,6 +154,44 @@ class Workspace(unittest.TestCase):
         self.assertEqual(export.workspace.closure(["high"], stands_on), ["low", "high"])
 
 
+class Folders(unittest.TestCase):
+    def setUp(self):
+        folder = tempfile.TemporaryDirectory()
+        self.addCleanup(folder.cleanup)
+        self.new, self.old = f"{folder.name}/new", f"{folder.name}/old"
+
+    def write(self, path, text="", when=None):
+        os.makedirs(os.path.dirname(path), exist_ok=True)
+        with open(path, "w", encoding="utf-8") as file:
+            file.write(text)
+        if when is not None:
+            os.utime(path, (when, when))
+
+    def test_only_an_earlier_export_is_written_over(self):
+        self.assertTrue(export.workspace.is_free(self.old))
+        self.write(f"{self.old}/crates/mine.rt")
+        self.assertFalse(export.workspace.is_free(self.old))
+        self.write(f"{self.old}/{export.workspace.COUNTS}")
+        self.assertTrue(export.workspace.is_free(self.old))
+
+    def test_what_is_the_same_stays_and_what_is_no_more_goes(self):
+        for name, text in (("same", "a"), ("changed", "b"), ("added", "c")):
+            self.write(f"{self.new}/crates/c/{name}.rs", text)
+        for name, text in (("same", "a"), ("changed", "a"), ("gone", "d")):
+            self.write(f"{self.old}/crates/c/{name}.rs", text, 7)
+        export.workspace.move_in(self.new, self.old)
+        found = {it: os.stat(f"{self.old}/crates/c/{it}").st_mtime == 7 for it in os.listdir(f"{self.old}/crates/c")}
+        self.assertEqual(found, {"same.rs": True, "changed.rs": False, "added.rs": False})
+
+    def test_a_firmware_that_is_there_is_its_makers(self):
+        self.write(f"{self.new}/firmware/src/flash.rs", "stand-in")
+        self.assertFalse(export.workspace.move_in(self.new, self.old))
+        self.write(f"{self.old}/firmware/src/flash.rs", "mine")
+        self.assertTrue(export.workspace.move_in(self.new, self.old))
+        with open(f"{self.old}/firmware/src/flash.rs", encoding="utf-8") as file:
+            self.assertEqual(file.read(), "mine")
+
+
 class Border(unittest.TestCase):
     def test_a_bound_is_checked(self):
         source = "impl S {\n    pub fn f(&self, index: u8)\n        requires index { index ≤ 1 }\n    {\n        g();\n    }\n}\n"
@@ -166,6 +211,33 @@ class Border(unittest.TestCase):
         inner = "impl S { pub(crate) fn f(&self) requires { Odd self.old } { g() } }"
         self.assertEqual(plain(inner, crate="meter_node")[1]["check at the border"], 0)
         self.assertEqual(plain(inner.replace("(crate)", ""), crate="routing_set")[1]["check at the border"], 0)
+
+
+class BorderOfTheNodes(unittest.TestCase):
+    """The checks that the crates of this repository get."""
+
+    @classmethod
+    def setUpClass(cls):
+        cls.checked, cls.unchecked = [], []
+        for crate in border.BORDER["crates"]:
+            for path in export.sources(os.path.join(export.TOP, "crates", crate, "src")):
+                checked, unchecked = border.names(lexer.tokens(read(path)), crate)
+                cls.checked += [f"{crate}: {it}" for it in checked]
+                cls.unchecked += [f"{crate}: {it}" for it in unchecked]
+
+    def test_each_is_broken_by_a_test(self):
+        tested = re.findall(r'stops\("(\w+: \w+: \w+)"', read(os.path.join(HERE, "firmware/tests/border.rs")))
+        self.assertEqual(sorted(tested), sorted(self.checked))
+
+    def test_each_stands_in_the_page(self):
+        rows = re.findall(r"^\| (`\w+::.*`) \| (.*) \|$", read(os.path.join(export.TOP, "docs/IN-YOUR-FIRMWARE.md")), re.MULTILINE)
+        of = {"Station": "plc_station", "Meter": "meter_node", "Coordinator": "coordinator"}
+        said = [f"{of[kind]}: {call}: {clause}" for calls, words in rows for kind, call in re.findall(r"`(\w+)::(\w+)`", calls)
+                for clause in re.findall(r"`(\w+)`", words)]
+        self.assertEqual(sorted(said), sorted(self.checked))
+
+    def test_what_is_not_checked_is_that_memory_and_store_agree(self):
+        self.assertEqual({it.split(": ")[2] for it in self.unchecked}, {"agrees"})
 
 
 if __name__ == "__main__":

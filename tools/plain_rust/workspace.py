@@ -1,4 +1,5 @@
 """The Cargo workspace around the exported files."""
+import filecmp
 import os
 import shutil
 
@@ -15,6 +16,8 @@ LIBRARIES = {
 }
 # What the example of a firmware is made from.
 FIRMWARE = {"meter_node", "coordinator"}
+# The file that says what an export took out, and so that a folder is one.
+COUNTS = "counts.tsv"
 # Names of lines of crates.txt that need no dependency in Rust.
 OF_THE_LANGUAGE = {"core"}
 PROFILES = """
@@ -67,16 +70,38 @@ def manifest(name, used, stands_on, is_program):
     return "\n".join(lines) + "\n"
 
 
+def is_free(target):
+    """Whether nothing lies in a folder but an earlier export, which has its counts."""
+    return not os.path.exists(target) or not os.listdir(target) or os.path.exists(os.path.join(target, COUNTS))
+
+
 def lay_out(target, names, extra):
-    """Makes the folders of a workspace, without what an earlier export left."""
-    os.makedirs(target, exist_ok=True)
-    for sub in ("crates", "shims"):
-        shutil.rmtree(os.path.join(target, sub), ignore_errors=True)
+    """Writes what stands around the exported crates."""
     shutil.copytree(os.path.join(HERE, "shims"), os.path.join(target, "shims"), ignore=shutil.ignore_patterns("target", "Cargo.lock"))
     if FIRMWARE <= set(names):
-        shutil.rmtree(os.path.join(target, "firmware"), ignore_errors=True)
         shutil.copytree(os.path.join(HERE, "firmware"), os.path.join(target, "firmware"))
         extra = ["firmware", *extra]
     members = ", ".join(f'"{it}"' for it in [f"crates/{it}" for it in names] + extra)
     with open(os.path.join(target, "Cargo.toml"), "w", encoding="utf-8") as file:
         file.write(f'[workspace]\nresolver = "2"\nmembers = [{members}]\n{PROFILES}')
+
+
+def files_of(folder):
+    """The files of a folder, as paths from there."""
+    return {os.path.relpath(os.path.join(at, it), folder) for at, _, files in os.walk(folder) for it in files}
+
+
+def move_in(new, target):
+    """Puts an export in the place of an earlier one. A file that is the same stays as it is, so that cargo builds only what changed; a firmware that is
+    there stays too, since its maker has changed it."""
+    mine = os.path.isdir(os.path.join(target, "firmware"))
+    for sub in ("crates", "shims"):
+        for path in files_of(os.path.join(target, sub)) - files_of(os.path.join(new, sub)):
+            os.remove(os.path.join(target, sub, path))
+    for path in files_of(new):
+        old = os.path.join(target, path)
+        if mine and path.split(os.sep)[0] == "firmware" or os.path.exists(old) and filecmp.cmp(os.path.join(new, path), old, shallow=False):
+            continue
+        os.makedirs(os.path.dirname(old), exist_ok=True)
+        shutil.copyfile(os.path.join(new, path), old)
+    return mine

@@ -87,6 +87,21 @@ impl Driver {
         Ok(())
     }
 
+    /// Ends the routes by way of a neighbour that the modem gave up on.
+    pub fn broke(&mut self, next: Short) -> Result<(), Trouble> {
+        self.meter.station().broke(next).map_err(|_| self.trouble())
+    }
+
+    /// Gives up the address and the keys.
+    pub fn leave(&mut self) -> Result<(), Trouble> {
+        self.meter.leave().map_err(|_| self.trouble())
+    }
+
+    /// The address, where it is joined and not halted.
+    pub fn address(&self) -> Option<Short> {
+        self.meter.address()
+    }
+
     /// Ends what is old. Call it once a second, with the seconds since the meter began, which never go back.
     pub fn tick(&mut self, now: u64) {
         self.meter.tick(now);

@@ -1,10 +1,21 @@
-//! Calls that a contract does not allow stop, with the name of the call and of the clause.
+//! Each check at the border stops, with the name of the call and of the clause; and what a clause just allows does not stop. `tests.py` holds the names here
+//! against the checks that the export writes.
 use coordinator::Coordinator;
 use firmware::Flash;
 use meter_node::Meter;
 use node_rules::{Accepted, FrameRef, Path};
-use plc_base::{DatagramBuf, Eui, FrameBuf, Key, LinkCost, Out, Short};
+use plc_base::{DatagramBuf, Eui, FrameBuf, Grant, Key, LinkCost, Out, Rand, Short};
+use plc_station::Station;
 use rattle_std::alloc::Global;
+use std::panic::{AssertUnwindSafe, catch_unwind};
+
+/// Makes a call, which has to stop at this clause.
+fn stops<T>(clause: &str, call: impl FnOnce() -> T) {
+    let Err(why) = catch_unwind(AssertUnwindSafe(call)) else {
+        panic!("{clause}: the call went on");
+    };
+    assert_eq!(*why.downcast_ref::<&str>().unwrap(), format!("its contract does not allow this call: {clause}"));
+}
 
 fn key() -> Key {
     Key([7; 16])
@@ -18,66 +29,166 @@ fn meter() -> Meter<Flash> {
     Meter::open(Global, Flash::new(), Eui([2; 8]), key()).map_err(|it| it.0).unwrap()
 }
 
+fn grant() -> Grant {
+    coordinator().depot(Eui([2; 8]), &key()).unwrap()
+}
+
+fn joined() -> Meter<Flash> {
+    let mut node = meter();
+    node.provision(&grant()).unwrap();
+    node
+}
+
+fn halted() -> Meter<Flash> {
+    let mut node = joined();
+    node.station().halt();
+    node
+}
+
+/// A coordinator whose station gave its address away.
+fn homeless() -> Coordinator<Flash> {
+    let mut node = coordinator();
+    node.station().leave().unwrap();
+    node
+}
+
 fn address(number: u16) -> Short {
     Short::new(number).unwrap()
 }
 
-#[test]
-fn each_index_that_a_ring_has_is_taken() {
-    assert!(coordinator().rekey(1, &key()).is_ok());
+fn cost() -> LinkCost {
+    LinkCost::new(1).unwrap()
+}
+
+fn full() -> Out {
+    let mut out = Out::new();
+    while out.frames.push_blank().is_some() {}
+    out
+}
+
+/// The buffers of a frame that is heard.
+struct Lent {
+    payload: FrameBuf,
+    datagram: DatagramBuf,
+    out: Out,
+}
+
+impl Lent {
+    fn new(count: usize) -> Lent {
+        Lent { payload: FrameBuf::from_octets(&vec![1; count]), datagram: DatagramBuf::new(), out: Out::new() }
+    }
+}
+
+fn sealed() -> Path {
+    Path::Sealed { from: address(1), to_all: false, key: key() }
+}
+
+fn station_hears(node: &mut Station<Flash>, count: usize) {
+    let mut lent = Lent::new(count);
+    let got = Accepted { path: sealed(), payload: FrameRef::new(&lent.payload) };
+    let _ = node.hear(&got, cost(), 0, 0, &mut lent.datagram, &mut lent.out);
+}
+
+fn meter_hears(mut node: Meter<Flash>, path: Path, count: usize) {
+    let mut lent = Lent::new(count);
+    let got = Accepted { path, payload: FrameRef::new(&lent.payload) };
+    let _ = node.hear(&got, cost(), 0, 0, &mut lent.datagram, &mut lent.out);
+}
+
+fn coordinator_hears(mut node: Coordinator<Flash>, count: usize) {
+    let mut lent = Lent::new(count);
+    let got = Accepted { path: sealed(), payload: FrameRef::new(&lent.payload) };
+    let _ = node.hear(&got, cost(), 0, 0, &mut lent.datagram, &mut lent.out);
 }
 
 #[test]
-#[should_panic(expected = "coordinator: rekey: index")]
-fn a_key_at_index_7_stops() {
-    let _ = coordinator().rekey(7, &key());
+fn a_halted_node_stops() {
+    stops("plc_station: hear: running", || station_hears(halted().station(), 1));
+    stops("plc_station: send_local: running", || halted().station().send_local(3, None, &[1], &mut Out::new()));
+    stops("plc_station: preset_counter: running", || halted().station().preset_counter(1));
+    stops("plc_station: preset_number: running", || halted().station().preset_number(1));
+    stops("plc_station: preset_near: running", || halted().station().preset_near(address(1), cost(), 0));
+    stops("plc_station: install: running", || halted().station().install(&grant()));
+    stops("plc_station: put_key: running", || halted().station().put_key(0, &key()));
+    stops("plc_station: activate: running", || halted().station().activate(0));
+    stops("plc_station: leave: running", || halted().station().leave());
+    stops("meter_node: hear: running", || meter_hears(halted(), sealed(), 1));
+    stops("meter_node: provision: running", || halted().provision(&grant()));
+    stops("coordinator: hear: running", || {
+        let mut node = coordinator();
+        node.station().halt();
+        coordinator_hears(node, 1);
+    });
 }
 
 #[test]
-#[should_panic(expected = "coordinator: activate_self: index")]
-fn activating_index_2_stops() {
-    let _ = coordinator().activate_self(2);
+fn a_node_without_an_address_stops() {
+    stops("plc_station: send_local: joined", || meter().station().send_local(3, None, &[1], &mut Out::new()));
+    stops("plc_station: put_key: joined", || meter().station().put_key(0, &key()));
+    stops("meter_node: hear: came", || meter_hears(meter(), Path::Up { from: Eui([3; 8]) }, 1));
 }
 
 #[test]
-#[should_panic(expected = "coordinator: kick: holds")]
-fn a_coordinator_whose_station_left_stops() {
-    let mut node = coordinator();
-    node.station().leave().unwrap();
-    let _ = node.kick(Eui([2; 8]), &mut Out::new());
+fn a_coordinator_that_has_not_address_0000_stops() {
+    stops("coordinator: hear: holds", || coordinator_hears(homeless(), 1));
+    stops("coordinator: challenge: holds", || homeless().challenge(Eui([2; 8]), 0, &mut Out::new()));
+    stops("coordinator: tick: holds", || homeless().tick(0));
+    stops("coordinator: allow: holds", || homeless().allow(Eui([2; 8]), &key()));
+    stops("coordinator: depot: holds", || homeless().depot(Eui([2; 8]), &key()));
+    stops("coordinator: rekey: holds", || homeless().rekey(0, &key()));
+    stops("coordinator: activate_self: holds", || homeless().activate_self(0));
+    stops("coordinator: kick: holds", || homeless().kick(Eui([2; 8]), &mut Out::new()));
+    stops("coordinator: give_random: holds", || homeless().give_random(Rand([1; 16])));
+    stops("coordinator: activate: holds", || homeless().activate(Eui([2; 8]), 0, 0, &mut Out::new()));
 }
 
 #[test]
-#[should_panic(expected = "plc_station: send_command: some")]
-fn a_command_of_no_octets_stops() {
-    let _ = coordinator().station().send_command(address(1), &[], 0, &mut Out::new());
+fn an_index_above_1_stops() {
+    stops("plc_station: put_key: index", || joined().station().put_key(2, &key()));
+    stops("plc_station: activate: index", || joined().station().activate(2));
+    stops("coordinator: rekey: index", || coordinator().rekey(7, &key()));
+    stops("coordinator: activate_self: index", || coordinator().activate_self(2));
+    stops("coordinator: activate: index", || coordinator().activate(Eui([2; 8]), 2, 0, &mut Out::new()));
 }
 
 #[test]
-#[should_panic(expected = "plc_station: send_command: fits")]
-fn a_command_of_375_octets_stops() {
-    let _ = coordinator().station().send_command(address(1), &[0; 375], 0, &mut Out::new());
+fn a_size_or_a_number_out_of_bounds_stops() {
+    stops("plc_station: hear: fits", || station_hears(joined().station(), 382));
+    stops("meter_node: hear: fits", || meter_hears(joined(), sealed(), 382));
+    stops("coordinator: hear: fits", || coordinator_hears(coordinator(), 382));
+    stops("plc_station: send_command: some", || joined().station().send_command(address(0), &[], 0, &mut Out::new()));
+    stops("plc_station: send_command: fits", || joined().station().send_command(address(0), &[1; 375], 0, &mut Out::new()));
+    stops("plc_station: room: fits", || joined().station().room(address(0), 375));
+    stops("plc_station: send_local: code", || joined().station().send_local(2, None, &[1], &mut Out::new()));
+    stops("plc_station: send_local: last_code", || joined().station().send_local(6, None, &[1], &mut Out::new()));
+    stops("plc_station: send_local: some", || joined().station().send_local(3, None, &[], &mut Out::new()));
+    stops("plc_station: send_local: fits", || joined().station().send_local(3, None, &[1; 380], &mut Out::new()));
+    stops("plc_station: send_local: room", || joined().station().send_local(3, None, &[1], &mut full()));
+    stops("plc_station: preset_number: value", || joined().station().preset_number(0));
 }
 
 #[test]
-#[should_panic(expected = "plc_station: put_key: joined")]
-fn a_key_for_a_meter_that_is_not_joined_stops() {
-    let _ = meter().station().put_key(0, &key());
-}
-
-#[test]
-#[should_panic(expected = "plc_station: leave: running")]
-fn a_halted_station_stops() {
-    let mut node = meter();
-    node.station().halt();
-    let _ = node.station().leave();
-}
-
-#[test]
-#[should_panic(expected = "meter_node: hear: came")]
-fn a_frame_up_that_was_not_accepted_stops() {
-    let (mut payload, mut datagram) = (FrameBuf::new(), DatagramBuf::new());
-    payload.push(1);
-    let got = Accepted { path: Path::Up { from: Eui([3; 8]) }, payload: FrameRef::new(&payload) };
-    let _ = meter().hear(&got, LinkCost::new(1).unwrap(), 0, 0, &mut datagram, &mut Out::new());
+fn what_a_clause_just_allows_does_not_stop() {
+    station_hears(joined().station(), 381);
+    meter_hears(joined(), sealed(), 381);
+    meter_hears(meter(), Path::Down { from: address(1) }, 400);
+    meter_hears(joined(), Path::Up { from: Eui([3; 8]) }, 400);
+    coordinator_hears(coordinator(), 381);
+    let mut node = joined();
+    let station = node.station();
+    let mut out = Out::new();
+    assert!(station.send_local(3, None, &[1], &mut out).is_ok());
+    assert!(station.send_local(5, None, &[1; 379], &mut out).is_ok());
+    station.preset_number(1).unwrap();
+    for count in [1, 374] {
+        let _ = station.room(address(0), count as u16);
+        let _ = station.send_command(address(0), &vec![1; count], 0, &mut out);
+    }
+    for index in 0..2 {
+        assert!(joined().station().put_key(index, &key()).is_ok());
+        let _ = joined().station().activate(index);
+        assert!(coordinator().rekey(index, &key()).is_ok());
+        let _ = coordinator().activate_self(index);
+        let _ = coordinator().activate(Eui([2; 8]), index, 0, &mut Out::new());
+    }
 }

@@ -16,13 +16,6 @@ pub mod string;
 pub mod test;
 pub mod vec;
 
-/// A caller broke what a public call requires: the text has the crate, the call and the clause.
-#[cold]
-#[inline(never)]
-pub fn unmet(clause: &'static str) -> ! {
-    core::panic!("a call was made that its contract does not allow: {clause}")
-}
-
 /// The names that Rattle has everywhere and `core` has not.
 pub mod dialect {
     pub use crate::process::{AllocGlobal, HostRuntime};

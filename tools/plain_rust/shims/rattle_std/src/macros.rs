@@ -25,12 +25,13 @@ macro_rules! panic {
     ($rt:expr; $($rest:tt)*) => {{ let _ = &$rt; ::core::panic!($($rest)*) }};
 }
 
-/// Stops with the name of a public call and of the clause that its caller broke.
+/// Stops with the name of a public call and of the clause that its caller broke. The text is one literal, so that a panic handler can print it without the
+/// formatter.
 #[macro_export]
 macro_rules! required {
     ($holds:expr, $clause:literal) => {
         if !($holds) {
-            $crate::unmet($clause)
+            ::core::panic!(::core::concat!("its contract does not allow this call: ", $clause))
         }
     };
 }

@@ -1,7 +1,7 @@
 //! The part of `std::simd` that exported code uses: 16 octets at once.
 //!
-//! `swizzle_dyn` is the byte shuffle of the processor where the target has one that stable Rust can call (SSSE3), and else a software form with the same
-//! results, in which no address and no branch depends on an octet of either side as it is written here. What a compiler makes of it is not proved.
+//! `swizzle_dyn` is the byte shuffle of the processor where the target has SSSE3 (x86-64 and i686), and else a software form with the same results, in which
+//! no address and no branch depends on an octet of either side as it is written here. What a compiler makes of it is not proved.
 
 /// Octets side by side.
 #[derive(Clone, Copy, Debug, PartialEq, Eq)]
@@ -87,6 +87,9 @@ impl Simd<u8, 16> {
 #[cfg(target_feature = "ssse3")]
 #[inline(always)]
 fn shuffled(table: Simd<u8, 16>, at: Simd<u8, 16>) -> Simd<u8, 16> {
+    #[cfg(target_arch = "x86")]
+    use core::arch::x86 as arch;
+    #[cfg(target_arch = "x86_64")]
     use core::arch::x86_64 as arch;
     // SSSE3 is there by the target, and both sides have 16 octets.
     unsafe {
