@@ -1,6 +1,6 @@
 -- How what the coordinator hears is carried out.
 use Rattle.std.proofs.Common.{◌≡◌, ℕ, Bool, true, false, List, [], ◌∷◌, length, Option, Some, None, Result, Ok, Err, refl, sym, ap, subst, ◌∙◌}
-use Rattle.std.specs.Prelude.{if◌then◌else◌, IfSome, IsSome}
+use Rattle.std.specs.Prelude.{if◌then◌else◌, IfSome, IsSome, is_some}
 use Rattle.std.specs.Option.{option_map}
 use Rattle.plc_base.specs.Keeper.{Store}
 use Rattle.store_tables.specs.Writes.{Wrote}
@@ -21,6 +21,7 @@ use Rattle.node_rules.specs.declared.refusal.Dropped.TheVariants as drops
 use Rattle.node_rules.specs.Ciphers.{network}
 use Rattle.node_rules.specs.Memory.{StationMemory, Memory}
 use Rattle.node_rules.specs.Plans.{Plan, resting}
+use Rattle.node_rules.specs.Replies.{reply_among, reply_sent}
 use Rattle.node_rules.specs.Drafts.{refused, choose}
 use Rattle.node_rules.specs.Hearing.{dropped, hear}
 use Rattle.node_rules.specs.MemoryDrafts.{Unread, unread}
@@ -162,6 +163,22 @@ module _ (x y : CoordinatorState) (got : Accepted) (cost note now : ℕ) (h : Re
       (subst (λ (p : rules.Hearing). Carries (node_of x) p (rules.heard_by_station h) between (node_of (record x { station = y.station })))
       (ap (λ o. rules.heard_by (identity_of x) (memory_in x.randoms x.sessions x.book l) now (hear l got cost note now) o) (sym (kept l got cost note now x.station y.station h between c none)))
       (within_carried (memory_in x.randoms x.sessions x.book) rules.heard_by_station x.station y.station (hear l got cost note now) h between c))
+
+  -- a joining command is handed on
+  pub never_itself : (way : Way) (octets : List ℕ) → unread h ≡ Some (record { way = way; body = octets }) → unread (hear l got cost note now).answer ≡ None → ⊥
+  never_itself way octets is none = none_some (record { way = way; body = octets }) (sym none ∙ ap unread (handed_on l got cost note now x.station y.station h between c way octets is))
+
+  is_left : (o : Option StationMemory) → is_some o ≡ is_some (option_map (memory_in y.randoms y.sessions y.book) o)
+  is_left None = refl
+  is_left (Some k) = refl
+
+  -- the reply that the station sent is the one that the rule of the coordinator sends
+  pub replied_other : unread h ≡ None → y.station.replied ≡ reply_sent (hear l got cost note now) y.station.memory
+      → y.station.replied ≡ reply_sent (rules.hear_coordinator (identity_of x) (memory_in x.randoms x.sessions x.book l) got cost note now) (node_of y).memory
+  replied_other none is =
+      is ∙ ap (λ (b : Bool). if b then reply_among (hear l got cost note now).frames else None) (is_left y.station.memory)
+      ∙ ap (λ o. reply_sent (rules.heard_by (identity_of x) (memory_in x.randoms x.sessions x.book l) now (hear l got cost note now) o) (node_of y).memory)
+      (sym (kept l got cost note now x.station y.station h between c none))
 
 -- # A joining message, by what is tested
 

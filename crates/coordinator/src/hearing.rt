@@ -7,6 +7,8 @@ ghost use Rattle.plc_station.specs.Heard.{Fits};
 ghost use Rattle.node_rules.specs.Hearing as hearing;
 ghost use Rattle.node_rules.specs.Coordinators as rules;
 ghost use Rattle.node_rules.specs.Carrying.{Carries, nothing};
+ghost use Rattle.node_rules.specs.MemoryDrafts.{unread};
+ghost use Rattle.node_rules.specs.Replies.{reply_sent};
 ghost use Rattle.coordinator.specs.CoordinatorStates.{node_of, identity_of};
 ghost use Rattle.coordinator.specs.CoordinatorAgreement.{Holds};
 
@@ -128,6 +130,8 @@ impl<K: Keeper + Drop> Coordinator<K> {
         ensures carries { IfSome self.old.station.memory (λ l. Carries self.old.station
             (hearing.hear l got.now cost note now) result out.new self.new.station) }
         ensures beside { self.new ≡ record self.old { station = self.new.station } }
+        ensures replied { IfSome self.old.station.memory (λ l. self.new.station.replied
+            ≡ reply_sent (hearing.hear l got.now cost note now) self.new.station.memory) }
         ensures holds { Holds (node_of self.new) }
     {
         self.station.hear(got, cost, note, now, datagram, out)
@@ -139,6 +143,8 @@ impl<K: Keeper + Drop> Coordinator<K> {
     /// A meter that asks is challenged where it is allowed, and declined else. The second packet (RFC 4764) of its session is answered
     /// with its grant, whose keys are noted as issued; the fourth ends the session. Dropped for the first reason that its rule names;
     /// after Store it is halted, after the others nothing has changed.
+    ///
+    /// The last reply of its station is then the route reply that it sent. Of a frame with a joining command nothing is said of it.
     pub fn hear<'a>(
         &mut self,
         got: &Accepted<'a>,
@@ -154,6 +160,9 @@ impl<K: Keeper + Drop> Coordinator<K> {
         ensures carries { IfSome (node_of self.old).memory (λ m. Carries (node_of self.old)
             (rules.hear_coordinator (identity_of self.old) m got.now cost note now)
             result out.new (node_of self.new)) }
+        ensures replied { IfSome (node_of self.old).memory (λ m. unread (hearing.hear m.station got.now cost note now).answer ≡ None
+            → self.new.station.replied ≡ reply_sent (rules.hear_coordinator (identity_of self.old) m got.now cost note now)
+            (node_of self.new).memory) }
         ensures holds { Holds (node_of self.new) }
     {
         let heard = self.hear_frame(got, cost, note, now, datagram, out);

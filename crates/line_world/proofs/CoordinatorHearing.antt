@@ -1,10 +1,11 @@
 -- The coordinator accepts a frame and hears it.
-use Rattle.std.proofs.Common.{◌≡◌, ℕ, [], Option, Some, None, Result, Ok, Err, refl, subst}
+use Rattle.std.proofs.Common.{◌≡◌, ℕ, [], Option, Some, None, Result, Ok, Err, refl, ap, subst}
 use Rattle.std.specs.Prelude.{IfSome, IfNone, IfOk, IsSome}
 use Rattle.std.specs.Option.{option_map}
 use Rattle.plc_base.specs.declared.out_frame.Out.{Out}
 use Rattle.node_rules.specs.declared.heard.Accepted.{Accepted}
 use Rattle.node_rules.specs.declared.heard.CoordinatorHeard.{CoordinatorHeard}
+use Rattle.node_rules.specs.declared.heard.Reply.{Reply}
 use Rattle.node_rules.specs.declared.refusal.Dropped.{Dropped}
 use Rattle.node_rules.specs.declared.refusal.Dropped.TheVariants as drops
 use Rattle.node_rules.specs.declared.refusal.FrameRefusal.{FrameRefusal}
@@ -14,13 +15,17 @@ use Rattle.node_rules.specs.Carrying.{Carries}
 use Rattle.node_rules.specs.Ciphers.{network}
 use Rattle.node_rules.specs.Coordinators as coordinator_rules
 use Rattle.node_rules.specs.Frames.{Arrived}
+use Rattle.node_rules.specs.Hearing.{hear}
 use Rattle.node_rules.specs.Laws.{WaitingFits}
-use Rattle.node_rules.specs.Memory.{StationMemory, Memory, Coordinator}
+use Rattle.node_rules.specs.Memory.{StationMemory, Memory, Coordinator, Node}
+use Rattle.node_rules.specs.MemoryDrafts.{unread}
 use Rattle.node_rules.specs.NodeSteps.{acts}
 use Rattle.node_rules.specs.Plans.{Plan}
+use Rattle.node_rules.specs.Replies.{reply_among, reply_sent}
 use Rattle.node_rules.specs.States.{State}
 use Rattle.node_rules.proofs.RingPuts.{coordinators_write_no_ring}
 use Rattle.node_rules.proofs.TablePlans.{coordinators_in_place}
+use Rattle.reach_rules.specs.CheckedReplies.{message_of}
 use Rattle.line_rules.specs.Answers as rules
 use Rattle.line_rules.specs.Steps.{hears}
 use Rattle.plc_station.specs.Heard.{Fits}
@@ -32,8 +37,9 @@ use Rattle.line_world.specs.Doings.{Took}
 use Rattle.line_world.specs.Nodes.{of_coordinator, of_meter}
 use Rattle.line_world.specs.Receiving.{MayHear, CameTo, Tells}
 use Rattle.line_world.proofs.AcceptingSteps.{meter_may_hear}
-use Rattle.line_world.proofs.Acting.{not_none}
+use Rattle.line_world.proofs.Acting.{at, not_none}
 use Rattle.line_world.proofs.CoordinatorActing.{IsSoundCoordinator, with_its, own_took, ringless_sound}
+use Rattle.line_world.proofs.ToldReplies.{messages_unread, parts_of, there_is, told_reply}
 
 -- a meter with the station of the coordinator
 abbrev meter_with : State StationMemory → MeterState
@@ -83,6 +89,16 @@ module _ (x y : CoordinatorState) (got : Accepted) (cost note now : ℕ) (r : Re
   heard_sound carries h =
       ringless_sound x y (Err drops.Store) plan r out (λ m short. (coordinators_in_place (identity_of x) m short).hears got cost note now)
       (λ m. (coordinators_write_no_ring (identity_of x) m).hears got cost note now) sound (not_none (node_of x).memory _ may.running) carries h
+
+  -- the reply that it tells of a route message is among the frames of its step
+  pub told_replied : IfSome (node_of x).memory (λ m. Carries (node_of x) (plan m) r out (node_of y)) → (last told : Option Reply) → parts_of told ≡ parts_of last
+      → IfSome (node_of x).memory (λ m. unread (hear m.station got cost note now).answer ≡ None → last ≡ reply_sent (plan m) (node_of y).memory) → IsSome (message_of got)
+      → told ≡ reply_among (hears network (of_coordinator x) got cost note now).frames
+  told_replied carries last told same replied is =
+      let m = there_is (node_of x).memory may.running in
+      told_reply (of_coordinator x) (Err drops.Store) plan m.0 (node_of y).memory last told m.1 (ap (λ (n : Node). n.memory) (acted carries).node_is)
+      (at (node_of x).memory (λ m. unread (hear m.station got cost note now).answer ≡ None → last ≡ reply_sent (plan m) (node_of y).memory) m.0 m.1 replied
+      (messages_unread m.0.station cost note now got is)) same
 
 -- a grant that went out is told of nowhere
 pub told_beside : (word : Reception) (r : rules.Reception) (keyed : Option rules.SentGrant) → Tells word r → Tells word (record r { keyed = keyed })

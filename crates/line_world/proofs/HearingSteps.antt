@@ -1,19 +1,24 @@
 -- A meter hears a frame that it accepted.
-use Rattle.std.proofs.Common.{◌≡◌, ℕ, Option, Some, None, Result, Err, refl, subst}
+use Rattle.std.proofs.Common.{◌≡◌, ℕ, Option, Some, None, Result, Err, refl, ap, subst}
 use Rattle.std.specs.Prelude.{IfSome, IsSome}
 use Rattle.std.specs.Option.{option_map}
 use Rattle.plc_base.specs.declared.out_frame.Out.{Out}
 use Rattle.node_rules.specs.declared.heard.Accepted.{Accepted}
 use Rattle.node_rules.specs.declared.heard.MeterHeard.{MeterHeard}
+use Rattle.node_rules.specs.declared.heard.Reply.{Reply}
 use Rattle.node_rules.specs.declared.refusal.Dropped.{Dropped}
 use Rattle.node_rules.specs.declared.refusal.Dropped.TheVariants as drops
 use Rattle.node_rules.specs.Carrying.{Carries}
 use Rattle.node_rules.specs.Ciphers.{network}
-use Rattle.node_rules.specs.Memory.{StationMemory, Memory, Meter}
+use Rattle.node_rules.specs.Hearing.{hear}
+use Rattle.node_rules.specs.Memory.{StationMemory, Memory, Meter, Node}
+use Rattle.node_rules.specs.MemoryDrafts.{unread}
 use Rattle.node_rules.specs.Meters as meters
 use Rattle.node_rules.specs.NodeSteps.{acts}
 use Rattle.node_rules.specs.Agreement.{Agrees}
+use Rattle.node_rules.specs.Replies.{reply_among, reply_sent}
 use Rattle.node_rules.proofs.TablePlans.{meters_in_place}
+use Rattle.reach_rules.specs.CheckedReplies.{message_of}
 use Rattle.line_rules.specs.Answers as rules
 use Rattle.line_rules.specs.Steps.{hears}
 use Rattle.meter_node.specs.Hearing.{CameUp}
@@ -23,8 +28,9 @@ use Rattle.line_world.specs.Doings.{Took}
 use Rattle.line_world.specs.Nodes.{of_meter}
 use Rattle.line_world.specs.Receiving.{MayHear, CameTo, Tells}
 use Rattle.line_world.specs.Soundness.{IsSoundMeter}
-use Rattle.line_world.proofs.Acting.{not_none}
+use Rattle.line_world.proofs.Acting.{at, not_none}
 use Rattle.line_world.proofs.MeterActing.{meter_took, meter_sound}
+use Rattle.line_world.proofs.ToldReplies.{messages_unread, parts_of, there_is, told_reply}
 
 pub running : (x : MeterState) (got : Accepted) → MayHear (of_meter x) got → IsSome x.station.memory
 running x got h = by x.station.memory h.running
@@ -60,3 +66,13 @@ module _ (x y : MeterState) (got : Accepted) (cost note now : ℕ) (r : Result M
   heard_sound carries agrees =
       meter_sound x y (Err drops.Store) plan r out (λ m short. (meters_in_place (identity_of x) m short).hears got cost note now) sound
       (not_none (node_of x).memory _ may.running) carries agrees
+
+  -- the reply that it tells of a route message is among the frames of its step
+  pub told_replied : y.psk ≡ x.psk → IfSome (node_of x).memory (λ m. Carries (node_of x) (plan m) r out (node_of y)) → (last told : Option Reply) → parts_of told ≡ parts_of last
+      → IfSome (node_of x).memory (λ m. unread (hear m.station got cost note now).answer ≡ None → last ≡ reply_sent (plan m) (node_of y).memory) → IsSome (message_of got)
+      → told ≡ reply_among (hears network (of_meter x) got cost note now).frames
+  told_replied psk carries last told same replied is =
+      let m = there_is (node_of x).memory may.running in
+      told_reply (of_meter x) (Err drops.Store) plan m.0 (node_of y).memory last told m.1 (ap (λ (n : Node). n.memory) (acted psk carries).node_is)
+      (at (node_of x).memory (λ m. unread (hear m.station got cost note now).answer ≡ None → last ≡ reply_sent (plan m) (node_of y).memory) m.0 m.1 replied
+      (messages_unread m.0.station cost note now got is)) same

@@ -60,7 +60,7 @@ StationCarries s q answer out t = IfSome s.memory (λ l. Carries s (q s.eui l) a
 
 -- # The step
 
-stays_lent : {A : Type 0} (m : Memory) (s t : State StationMemory) (halted answer : A) (out : Out) → StationStayed s halted answer out t → StayedHalted (holder m s) halted answer out (holder m t)
+pub stays_lent : {A : Type 0} (m : Memory) (s t : State StationMemory) (halted answer : A) (out : Out) → StationStayed s halted answer out t → StayedHalted (holder m s) halted answer out (holder m t)
 stays_lent {A} m s t halted answer out h = by s.memory h
   where
     by : (o : Option StationMemory) → IfNone o ((answer ≡ halted) × (out ≡ nothing) × (t ≡ s))

@@ -16,3 +16,8 @@ mod Sendings
 mod Settings
 pub mod FurtherPlans
 pub mod Besides
+mod LentFurther
+mod LentReaches
+mod CoordinatorReaching
+mod MeterReaching
+mod ToldReplies

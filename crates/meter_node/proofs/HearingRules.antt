@@ -1,6 +1,6 @@
 -- How what a meter hears is carried out.
 use Rattle.std.proofs.Common.{◌≡◌, ℕ, Bool, true, false, List, [], Option, Some, None, Result, Ok, Err, refl, sym, ap, subst, ◌∙◌}
-use Rattle.std.specs.Prelude.{if◌then◌else◌, IfSome, IsSome}
+use Rattle.std.specs.Prelude.{if◌then◌else◌, IfSome, IsSome, is_some}
 use Rattle.std.specs.Option.{option_map}
 use Rattle.plc_base.specs.Grant.{Granted}
 use Rattle.plc_base.specs.declared.key.Key.{Key}
@@ -23,6 +23,7 @@ use Rattle.node_rules.specs.declared.refusal.Dropped.{Dropped}
 use Rattle.node_rules.specs.declared.refusal.Dropped.TheVariants as drops
 use Rattle.node_rules.specs.Memory.{StationMemory, Memory}
 use Rattle.node_rules.specs.Plans.{Plan, resting}
+use Rattle.node_rules.specs.Replies.{reply_among, reply_sent}
 use Rattle.node_rules.specs.Hearing.{hear, hear_unit_in, hear_plain, is_joining}
 use Rattle.node_rules.specs.MemoryDrafts.{Unread, unread}
 use Rattle.node_rules.specs.Meters as meters
@@ -205,3 +206,18 @@ module _ (x : MeterState) (t : State StationMemory) (l : StationMemory) (got : A
   heard_other none =
       as_station meters.heard_by_station x After (hear l got cost note now) (meters.hear_meter (identity_of x) (memory_with x l) got cost note now) h between
       (ap (λ o. meters.heard_by (identity_of x) (memory_with x l) now (hear l got cost note now) o) (sym (kept l got cost note now x.station t h between c none))) c
+
+  -- a joining command is handed on
+  pub never_itself : (way : Way) (body : List ℕ) → unread h ≡ Some (record { way = way; body = body }) → unread (hear l got cost note now).answer ≡ None → ⊥
+  never_itself way body is none = none_some (record { way = way; body = body }) (sym none ∙ ap unread (handed_on l got cost note now x.station t h between c way body is))
+
+  is_left : (o : Option StationMemory) → is_some o ≡ is_some (option_map (memory_with x) o)
+  is_left None = refl
+  is_left (Some k) = refl
+
+  -- the reply that the station sent is the one that the rule of the meter sends
+  pub replied_other : unread h ≡ None → t.replied ≡ reply_sent (hear l got cost note now) t.memory
+      → t.replied ≡ reply_sent (meters.hear_meter (identity_of x) (memory_with x l) got cost note now) (node_of After).memory
+  replied_other none is =
+      is ∙ ap (λ (b : Bool). if b then reply_among (hear l got cost note now).frames else None) (is_left t.memory)
+      ∙ ap (λ o. reply_sent (meters.heard_by (identity_of x) (memory_with x l) now (hear l got cost note now) o) (node_of After).memory) (sym (kept l got cost note now x.station t h between c none))

@@ -8,6 +8,9 @@ ghost use Rattle.node_rules.specs.Meters as meters;
 ghost use Rattle.plc_station.specs.Heard.{Fits};
 ghost use Rattle.node_rules.specs.Carrying.{Carries, nothing};
 ghost use Rattle.node_rules.specs.Agreement.{Agrees};
+ghost use Rattle.node_rules.specs.Hearing.{hear};
+ghost use Rattle.node_rules.specs.MemoryDrafts.{unread};
+ghost use Rattle.node_rules.specs.Replies.{reply_sent};
 ghost use Rattle.meter_node.specs.MeterStates.{identity_of, memory_with, node_of};
 ghost use Rattle.meter_node.specs.Sessions.{course_of};
 ghost use Rattle.meter_node.specs.Hearing as hearing;
@@ -265,6 +268,8 @@ impl<K: Keeper + Drop> Meter<K> {
     /// Dropped for the first reason that its rule names. After Store it is halted and nothing goes out, after the others nothing has
     /// changed. A frame that came up to its address has to have come to a joined meter: what `accept` of its station answers has, by
     /// the law [`accepted_frames_came`](crate::accepted_frames_came).
+    ///
+    /// The last reply of its station is then the route reply that it sent. Of a frame with a joining command nothing is said of it.
     pub fn hear<'a>(
         &mut self,
         got: &Accepted<'a>,
@@ -281,6 +286,8 @@ impl<K: Keeper + Drop> Meter<K> {
         ensures carries { IfSome (node_of self.old).memory (λ m. Carries (node_of self.old)
             (meters.hear_meter (identity_of self.old) m got.now cost note now) result out.new (node_of self.new)) }
         ensures agrees { Agrees self.new.station }
+        ensures replied { IfSome (node_of self.old).memory (λ m. unread (hear m.station got.now cost note now).answer ≡ None
+            → self.new.station.replied ≡ reply_sent (meters.hear_meter (identity_of self.old) m got.now cost note now) (node_of self.new).memory) }
         ensures psk { self.new.psk ≡ self.old.psk }
     {
         let heard = self.station.hear(got, cost, note, now, datagram, out);

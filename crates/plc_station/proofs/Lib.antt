@@ -17,3 +17,4 @@ pub mod Shows
 pub mod Beside
 pub mod Locals
 pub mod Replying
+pub mod Holding

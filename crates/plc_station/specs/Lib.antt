@@ -5,3 +5,4 @@ pub mod Pieces
 pub mod Heard
 pub mod Rooms
 pub mod Hears
+pub mod Sizes

@@ -171,6 +171,30 @@ impl<K: Keeper + Drop> Station<K> {
         }
     }
 
+    // Takes octets that came as a frame.
+    fn accept_octets<'a>(
+        &mut self,
+        octets: &[u8],
+        payload: &'a mut FrameBuf,
+    ) -> Result<Accepted<'a>, FrameRefusal>
+        requires agrees { Agrees self.old }
+        ensures halted { IfNone self.old.memory ((result ≡ Err FrameRefusal.Halted) × (self.new ≡ self.old)) }
+        ensures carries { IfSome self.old.memory
+            (λ l. Carries self.old (accepting.accept l self.old.eui
+            (arrived network octets.now)) result nothing self.new) }
+        ensures agrees { Agrees self.new }
+        ensures replied { self.new.replied ≡ self.old.replied }
+        ensures fits { IfOk result (λ got. Fits got) }
+    {
+        if self.halted {
+            return Err(FrameRefusal::Halted);
+        }
+        match read_frame(octets) {
+            Err(_) => Err(FrameRefusal::Malformed),
+            Ok(raw) => self.accept_raw(&raw, payload),
+        }
+    }
+
     /// Takes octets that came as a frame: opens them, and keeps the counter of a sealed frame as the mark of its sender. What is
     /// inside an accepted frame is written into `payload`, in place of what that held.
     ///
@@ -190,14 +214,8 @@ impl<K: Keeper + Drop> Station<K> {
         ensures fits { IfOk result (λ got. Fits got) }
         ensures waits { IfSome self.new.memory (λ l. WaitingFits l) }
     {
-        if self.halted {
-            return Err(FrameRefusal::Halted);
-        }
-        let accepted = match read_frame(octets) {
-            Err(_) => Err(FrameRefusal::Malformed),
-            Ok(raw) => self.accept_raw(&raw, payload),
-        };
-        // What waits fits, by its type.
+        let accepted = self.accept_octets(octets, payload);
+        // What waits keeps its sizes.
         let _waiting = self.bodies.count();
         accepted
     }

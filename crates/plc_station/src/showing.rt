@@ -3,6 +3,7 @@ ghost use Rattle.std.specs.Prelude.{◌≡◌, ◌+◌, ◌<◌, map, None, Some
 ghost use Rattle.std.specs.Option.{option_map};
 ghost use Rattle.plc_base.specs.Orders.{ordered_by};
 ghost use Rattle.store_tables.specs.SlotTables.{entry_of};
+ghost use Rattle.plc_station.specs.Sizes.{HasSizes};
 ghost use Rattle.frame_counters.specs.PeerMarks.{peers};
 ghost use Rattle.routing_set.specs.RoutingSet.{ranks, next_of};
 ghost use Rattle.node_rules.specs.Neighbours.{valid_route};
@@ -140,6 +141,18 @@ impl<K: Keeper + Drop> Station<K> {
         ensures { IfSome self.now.memory (λ l. result + l.counter.next ≡ 4294967295) }
     {
         self.parts.counter.left()
+    }
+
+    /// How many datagrams and commands wait for a route. What it holds keeps its sizes, whatever its keeper is: at most 64 senders and 64
+    /// ranks, and at most 8 reassemblies in 80 blocks and 8 bodies that wait in 80 other ones. Of a halted one that says nothing.
+    pub fn waiting(&self) -> usize
+        ensures value { IfSome self.now.memory (λ l. result ≡ length l.waiting) }
+        ensures sized { IfSome self.now.memory HasSizes }
+    {
+        // The tables keep their sizes by their types.
+        let _senders = self.parts.marks.entries();
+        let _ranks = self.parts.routing.entries();
+        self.bodies.count()
     }
 
     /// The next hop of the valid route to an address and the cost of the address's rank, None where it has no valid route. One that

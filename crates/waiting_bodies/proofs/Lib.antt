@@ -1,4 +1,5 @@
 pub mod Sound
+pub mod Sizes
 pub mod Dropping
 pub mod Letters
 pub mod Leaves

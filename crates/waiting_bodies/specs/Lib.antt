@@ -2,3 +2,4 @@ pub mod Bodies
 pub mod FirstEnd
 pub mod BodiesInPool
 pub mod Frames
+pub mod Sizes

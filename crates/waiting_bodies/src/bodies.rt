@@ -1,15 +1,16 @@
 //! The bodies that a node holds: datagrams that it gathers, and what waits for a route.
 ghost use Rattle.std.specs.Prelude.{◌≡◌, ◌==◌, ◌+◌, ◌<◌, ◌≤◌, [], ◌∷◌, ◌++◌, length, false, None, not, ℕ, IfOk, fold};
 ghost use Rattle.std.specs.Int.{div_ceil};
-ghost use Rattle.std.specs.List.{All, remove, list_any, filter};
+ghost use Rattle.std.specs.List.{remove, list_any, filter};
 ghost use Rattle.std.specs.FinMap as map;
 ghost use Rattle.block_pool.specs.Pool.{IsChain, chain_octets};
 ghost use Rattle.fragment_buffers.specs.Answers.{answer_of, octets_of};
 ghost use Rattle.fragment_buffers.specs.Taking.{blocks, taken};
 ghost use Rattle.fragment_buffers.specs.Taking.{unexpired};
 ghost use Rattle.plc_base.specs.Times.{is_within};
-ghost use Rattle.fragment_buffers.specs.Loads.{IsShort, load_of, units_in};
+ghost use Rattle.fragment_buffers.specs.Loads.{load_of, units_in};
 ghost use Rattle.fragment_buffers.specs.Waiting.{waits_for, is_awaited_in, waiting_blocks, no_room_in, still_waiting, units_by, leaving};
+ghost use Rattle.waiting_bodies.specs.Sizes.{AreSized};
 ghost use Rattle.waiting_bodies.specs.FirstEnd.{end_by, IsStill};
 ghost use Rattle.waiting_bodies.specs.FirstEnd as ends;
 ghost use Rattle.waiting_bodies.specs.Frames.{body_at, frames_of, with_frames};
@@ -169,14 +170,11 @@ impl Bodies {
         any_for(&self.waiting, to)
     }
 
-    /// How many bodies wait. They fit: 8 at most, of 80 blocks at most.
+    /// How many bodies wait. What is held keeps its sizes, as this type makes sure: 8 reassemblies in 80 blocks, 8 bodies in 80 blocks.
     pub fn count(&self) -> usize
         ensures value { result ≡ length self.now.waiting }
-        ensures bodies { length self.now.waiting ≤ 8 }
-        ensures blocks { waiting_blocks self.now.waiting ≤ 80 }
-        ensures short { All (λ b. IsShort b.load) self.now.waiting }
+        ensures sized { AreSized self.now }
     {
-        let _blocks = self.blocks();
         self.waiting.len()
     }
 

@@ -1,7 +1,7 @@
 -- What becomes of datagrams and units over one hop and over several: the runs are computed.
 use Rattle.std.proofs.Common.{refl}
 use Rattle.worked_scripts.proofs.Computing.{computed}
-use Rattle.worked_scripts.specs.HopScripts.{ARepeatIsRefused, DatagramsOfEverySize, DiscoveryOverTwoRelays, ABrokenRouteStaysBroken, ALostFlightComesNoMore, AUnitGoesOnWhileHopsAreLeft, EveryUnitGoesOn, AUnitWithoutARouteIsReported, GoingOnTakesACounter, AnErrorGoesOnToItsTarget, AnErrorThatGoesOnTakesACounter, AnErrorForItsTargetGoesOn}
+use Rattle.worked_scripts.specs.HopScripts.{ARepeatIsRefused, DatagramsOfEverySize, DiscoveryOverTwoRelays, ABrokenRouteStaysBroken, ALostFlightComesNoMore, AUnitGoesOnWhileHopsAreLeft, EveryUnitGoesOn, AUnitWithoutARouteIsReported, GoingOnTakesACounter, AnErrorGoesOnToItsTarget, AnErrorThatGoesOnTakesACounter, AnErrorForItsTargetGoesOn, WhatIsShownIsInOrder}
 
 pub a_repeat_is_refused : ARepeatIsRefused
 unfolding computed ARepeatIsRefused
@@ -50,3 +50,7 @@ an_error_that_goes_on_takes_a_counter = (refl, refl, refl)
 pub an_error_for_its_target_goes_on : AnErrorForItsTargetGoesOn
 unfolding computed AnErrorForItsTargetGoesOn
 an_error_for_its_target_goes_on = (refl, refl, refl, refl, refl, refl)
+
+pub what_is_shown_is_in_order : WhatIsShownIsInOrder
+unfolding computed WhatIsShownIsInOrder
+what_is_shown_is_in_order = refl

@@ -1,7 +1,7 @@
 -- What becomes of joinings: over the air and through an agent, in time and late, with packets that are refused: the runs are computed.
 use Rattle.std.proofs.Common.{refl}
 use Rattle.worked_scripts.proofs.Computing.{computed}
-use Rattle.worked_scripts.specs.JoiningScripts.{AMeterJoinsOverTheAir, AnOldThirdPacketIsRefused, PlainFramesTakeNoCounter, AMeterJoinsThroughAnAgent, ASessionEndsAfterTwoMinutes, ChallengesAreJudgedInOrder, AForgedGrantIsNamed, PacketsAreChecked, EightSessionsAreOpen, AKickedMeterMayNotKnow}
+use Rattle.worked_scripts.specs.JoiningScripts.{AMeterJoinsOverTheAir, AnOldThirdPacketIsRefused, PlainFramesTakeNoCounter, AMeterJoinsThroughAnAgent, ASessionEndsAfterTwoMinutes, ChallengesAreJudgedInOrder, AForgedGrantIsNamed, AForgedAnswerIsNamed, PacketsAreChecked, EightSessionsAreOpen, AKickedMeterMayNotKnow}
 
 pub a_meter_joins_over_the_air : AMeterJoinsOverTheAir
 unfolding computed AMeterJoinsOverTheAir
@@ -30,6 +30,10 @@ challenges_are_judged_in_order = refl
 pub a_forged_grant_is_named : AForgedGrantIsNamed
 unfolding computed AForgedGrantIsNamed
 a_forged_grant_is_named = (refl, refl, refl, refl, refl, refl, refl)
+
+pub a_forged_answer_is_named : AForgedAnswerIsNamed
+unfolding computed AForgedAnswerIsNamed
+a_forged_answer_is_named = (refl, refl, refl, refl, refl)
 
 pub packets_are_checked : PacketsAreChecked
 unfolding computed PacketsAreChecked

@@ -237,3 +237,30 @@ AnErrorForItsTargetGoesOn =
     ≡ said.Set ∷ said.CounterSpent ∷ [])
     × (answers_after 6 error_by_its_hop ≡ said.Broken ∷ [])
     × (counts_of error_by_its_hop ≡ record { events = 7; flights = 0; sends = 0; ups = 0; forged = 1 })
+
+-- # What is shown
+
+-- a meter hears three others, the highest address first, and is shown
+abbrev pub heard_from_above : List Event
+heard_from_above =
+    three_meters
+    ++ (Near 1 3 1 ∷ Near 1 2 1 ∷ Near 1 0 1 ∷ Send 3 1 (0xaa ∷ []) ∷ Send 2 1 (0xbb ∷ []) ∷ Send 0 1 (0xcc ∷ [])
+    ∷ Deliver 1 1 1 ∷ Deliver 2 1 1 ∷ Deliver 3 1 1 ∷ Show 1 ∷ [])
+
+-- Ranks and marks are shown in the order of addresses, and not in that of hearing.
+unfoldable pub WhatIsShownIsInOrder : Type 0
+WhatIsShownIsInOrder =
+    shown_at_last (run plain start heard_from_above) ≡ Some (record {
+      halted = false;
+      address = Some 1;
+      active = Some 0;
+      next_counter = 0;
+      last_number = 1;
+      key0 = Some group_key;
+      key1 = None;
+      routes = record { dest = 0; number = 1; cost = 1; next = Some 0 }
+          ∷ record { dest = 2; number = 1; cost = 1; next = Some 2 }
+          ∷ record { dest = 3; number = 1; cost = 1; next = Some 3 } ∷ [];
+      floors = replicate 16 0;
+      peers = record { from = 0; mark = 0 } ∷ record { from = 2; mark = 0 } ∷ record { from = 3; mark = 0 } ∷ [];
+    })

@@ -175,6 +175,17 @@ peer = record { eui = eui 2; id_s = eui 1; rand_s = rand_k; rand_p = rand_r }
 abbrev pub answer_by : List ℕ → Event
 answer_by packet = Inject 0 1 (up_frame 0 2 (said_of 1 2 packet))
 
+-- A second packet that the meter did not make, under its pair key, is named as forged where the coordinator found its tag right; under another key it
+-- is refused and not named.
+unfoldable pub AForgedAnswerIsNamed : Type 0
+AForgedAnswerIsNamed =
+    (answers_to challenged (answer_by (plain_second pair_key 1 peer) ∷ []) ≡ said.Keyed ∷ [])
+    × (forged_at_last (run plain start (challenged ++ (answer_by (plain_second pair_key 1 peer) ∷ []))) ≡ true)
+    × (counts_of (challenged ++ (answer_by (plain_second pair_key 1 peer) ∷ []))
+    ≡ record { events = 8; flights = 3; sends = 0; ups = 0; forged = 1 })
+    × (answers_to challenged (answer_by (plain_second second_key 1 peer) ∷ []) ≡ said.BadMac ∷ [])
+    × (forged_at_last (run plain start (challenged ++ (answer_by (plain_second second_key 1 peer) ∷ []))) ≡ false)
+
 -- second packets without their form, with another identifier, of another session and another meter, and under another pair key; a right one, and
 -- then the same of fourth ones
 abbrev pub answers_of_a_meter : List Event

@@ -1,5 +1,5 @@
 //! What becomes of datagrams and units over one hop and over several.
-ghost use Rattle.worked_scripts.specs.HopScripts.{ARepeatIsRefused, DatagramsOfEverySize, DiscoveryOverTwoRelays, ABrokenRouteStaysBroken, ALostFlightComesNoMore, AUnitGoesOnWhileHopsAreLeft, EveryUnitGoesOn, AUnitWithoutARouteIsReported, GoingOnTakesACounter, AnErrorGoesOnToItsTarget, AnErrorThatGoesOnTakesACounter, AnErrorForItsTargetGoesOn};
+ghost use Rattle.worked_scripts.specs.HopScripts.{ARepeatIsRefused, DatagramsOfEverySize, DiscoveryOverTwoRelays, ABrokenRouteStaysBroken, ALostFlightComesNoMore, AUnitGoesOnWhileHopsAreLeft, EveryUnitGoesOn, AUnitWithoutARouteIsReported, GoingOnTakesACounter, AnErrorGoesOnToItsTarget, AnErrorThatGoesOnTakesACounter, AnErrorForItsTargetGoesOn, WhatIsShownIsInOrder};
 
 /// A datagram over one hop is handed up, and its repeat is refused.
 #[tactic(auto, using(crate::proofs::HopScripts::a_repeat_is_refused))]
@@ -73,4 +73,10 @@ pub fn an_error_that_goes_on_takes_a_counter()
 #[tactic(auto, using(crate::proofs::HopScripts::an_error_for_its_target_goes_on))]
 pub fn an_error_for_its_target_goes_on()
     ensures { AnErrorForItsTargetGoesOn }
+{}
+
+/// Ranks and marks are shown in the order of addresses, and not in that of hearing.
+#[tactic(auto, using(crate::proofs::HopScripts::what_is_shown_is_in_order))]
+pub fn what_is_shown_is_in_order()
+    ensures { WhatIsShownIsInOrder }
 {}

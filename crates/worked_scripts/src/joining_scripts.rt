@@ -1,5 +1,5 @@
 //! What becomes of joinings: over the air and through an agent, in time and late, with packets that are refused.
-ghost use Rattle.worked_scripts.specs.JoiningScripts.{AMeterJoinsOverTheAir, AnOldThirdPacketIsRefused, PlainFramesTakeNoCounter, AMeterJoinsThroughAnAgent, ASessionEndsAfterTwoMinutes, ChallengesAreJudgedInOrder, AForgedGrantIsNamed, PacketsAreChecked, EightSessionsAreOpen, AKickedMeterMayNotKnow};
+ghost use Rattle.worked_scripts.specs.JoiningScripts.{AMeterJoinsOverTheAir, AnOldThirdPacketIsRefused, PlainFramesTakeNoCounter, AMeterJoinsThroughAnAgent, ASessionEndsAfterTwoMinutes, ChallengesAreJudgedInOrder, AForgedGrantIsNamed, AForgedAnswerIsNamed, PacketsAreChecked, EightSessionsAreOpen, AKickedMeterMayNotKnow};
 
 /// A meter joins over the air: both ends come to an end, and the meter has its address; its session is over, and the keys of its grant are
 /// known as issued.
@@ -44,6 +44,13 @@ pub fn challenges_are_judged_in_order()
 #[tactic(auto, using(crate::proofs::JoiningScripts::a_forged_grant_is_named))]
 pub fn a_forged_grant_is_named()
     ensures { AForgedGrantIsNamed }
+{}
+
+/// A second packet that the meter did not make, under its pair key, is named as forged where the coordinator found its tag right; under
+/// another key it is refused and not named.
+#[tactic(auto, using(crate::proofs::JoiningScripts::a_forged_answer_is_named))]
+pub fn a_forged_answer_is_named()
+    ensures { AForgedAnswerIsNamed }
 {}
 
 /// Packets are checked at both ends, and a refused one leaves the session as it was.

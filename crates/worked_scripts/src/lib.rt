@@ -31,11 +31,11 @@ pub use hop_scripts::{
     a_unit_goes_on_while_hops_are_left, a_unit_without_a_route_is_reported,
     an_error_for_its_target_goes_on, an_error_goes_on_to_its_target,
     an_error_that_goes_on_takes_a_counter, datagrams_of_every_size, discovery_over_two_relays,
-    every_unit_goes_on, going_on_takes_a_counter,
+    every_unit_goes_on, going_on_takes_a_counter, what_is_shown_is_in_order,
 };
 pub use joining_scripts::{
-    a_forged_grant_is_named, a_kicked_meter_may_not_know, a_meter_joins_over_the_air,
-    a_meter_joins_through_an_agent, a_session_ends_after_two_minutes,
+    a_forged_answer_is_named, a_forged_grant_is_named, a_kicked_meter_may_not_know,
+    a_meter_joins_over_the_air, a_meter_joins_through_an_agent, a_session_ends_after_two_minutes,
     an_old_third_packet_is_refused, challenges_are_judged_in_order, eight_sessions_are_open,
     packets_are_checked, plain_frames_take_no_counter,
 };

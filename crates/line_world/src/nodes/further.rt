@@ -1,6 +1,6 @@
 //! What the nodes of a line do about acknowledgements, broadcasts, beacons and path requests.
-ghost use Rattle.std.specs.Prelude.{◌≡◌, ◌<◌, ◌≤◌, ◌+◌, length, Ok, Err, IfSome, IsSome, is_some, not, slice_get};
-ghost use Rattle.std.specs.Option.{option_and_then};
+ghost use Rattle.std.specs.Prelude.{◌≡◌, ◌<◌, ◌≤◌, ◌+◌, length, Ok, Err, IfSome, IsSome, Some, None, if◌then◌else◌, is_some, not, slice_get};
+ghost use Rattle.std.specs.Option.{option_and_then, option_map};
 ghost use Rattle.broadcast_log.specs.Log as logs;
 ghost use Rattle.node_rules.specs.MemoryDrafts.{in_memory};
 ghost use Rattle.node_rules.specs.NodeSteps.{acts};
@@ -36,6 +36,30 @@ fn coordinator() -> Short
     address
 }
 
+fn scratch(x: u8) -> u8
+    ensures { result ≡ x }
+{
+    x
+}
+
+// The cost of a route.
+fn cost_of(route: Option<(Short, u16)>) -> Option<u16>
+    ensures { result ≡ option_map (λ r. r.1) route }
+{
+    let (_, cost) = route?;
+    Some(cost)
+}
+
+// The cost from the coordinator to itself, which a halted one does not tell.
+fn own_cost(halted: bool) -> Option<u16>
+    ensures { result ≡ (if halted then None else Some 0) }
+{
+    if halted {
+        return None;
+    }
+    Some(0)
+}
+
 impl LineCoordinator {
     /// Whether it is halted.
     pub fn halted(&mut self) -> bool
@@ -43,6 +67,14 @@ impl LineCoordinator {
         ensures same { self.new ≡ self.old }
     {
         self.coordinator.station().halted()
+    }
+
+    /// The cost from it to itself, none where it is halted.
+    pub fn cost_home(&mut self) -> Option<u16>
+        ensures value { result ≡ option_and_then (λ m. cost_home self.old.role m.station) self.old.memory }
+        ensures same { self.new ≡ self.old }
+    {
+        own_cost(self.coordinator.station().halted())
     }
 
     /// The log that its store gives.
@@ -130,8 +162,7 @@ impl Meters {
         ensures value { IfSome (slice_get self.old place) (λ x. result ≡ option_and_then (λ m. cost_home x.role m.station) x.memory) }
         ensures same { self.new ≡ self.old }
     {
-        let (_, cost) = self.meters[place].station().valid(coordinator())?;
-        Some(cost)
+        cost_of(self.meters[place].station().valid(coordinator()))
     }
 
     /// The log that a meter's store gives.
@@ -242,17 +273,20 @@ impl Nodes {
         coordinator.halted()
     }
 
-    /// The cost from a node to the coordinator: nothing from the coordinator itself, and from a meter that of its valid route.
+    /// The cost from a node to the coordinator: nothing from the coordinator itself, and from a meter that of its valid route. A halted node
+    /// has none.
     pub fn cost_home(&mut self, number: usize) -> Option<u16>
         requires there { number < length self.old }
-        requires running { IfSome (slice_get self.old number) (λ x. IsSome x.memory) }
         ensures value { IfSome (slice_get self.old number) (λ x. result ≡ option_and_then (λ m. cost_home x.role m.station) x.memory) }
         ensures same { self.new ≡ self.old }
     {
         if number > 0 {
             return self.meters.cost_home(number - 1);
         }
-        Some(0)
+        let Some(coordinator) = &mut self.coordinator else {
+            return None;
+        };
+        coordinator.cost_home()
     }
 
     /// The log of broadcasts that a node's store gives.

@@ -8,7 +8,7 @@ use Rattle.plc_station.proofs.Carrying.{at_some}
 use Rattle.meter_node.specs.Sessions.{session_of}
 use Rattle.meter_node.specs.MeterStates.{MeterState, node_of, memory_with, identity_of}
 use Rattle.meter_node.proofs.Carried.{on_node}
-use Rattle.meter_node.proofs.HearingRules.{some_at, running_on, came, at_rest, heard_joining, heard_other}
+use Rattle.meter_node.proofs.HearingRules.{some_at, running_on, came, at_rest, heard_joining, heard_other, never_itself, replied_other}
 use Rattle.meter_node.proofs.meter.Meter.hear.Goals as goal
 
 pub hear_joining-requires-clause-running : goal.hear_joining-requires-clause-running
@@ -47,3 +47,17 @@ returns-in-None-clause-carries g c =
     subst (λ (r : Result MeterHeard Dropped). Carries (node_of x) (meters.hear_meter (identity_of x) (memory_with x l) c.args.got.now c.args.cost c.args.note c.args.now) r c.hear-heard.new.out (node_of (record x { station = c.hear-heard.new.self })))
     (sym c.heard_by_station.ensures)
     (heard_other x c.hear-heard.new.self l c.args.got.now c.args.cost c.args.note c.args.now c.hear-heard.result c.hear-heard.new.out running (at_some _ _ l running c.hear-heard.ensures.carries) c.in-None.ensures)))
+
+pub returns-in-Some-clause-replied : goal.returns-in-Some-clause-replied
+returns-in-Some-clause-replied g c =
+    let x : MeterState = record { station = c.self.inside.station; psk = c.self.inside.pair_key; randoms = c.self.inside.randoms; session = option_map session_of c.self.inside.session } in
+    rw (← c.self.view_is) (on_node x _ (λ l running none. absurd (
+    never_itself x c.hear-heard.new.self l c.args.got.now c.args.cost c.args.note c.args.now c.hear-heard.result c.hear-heard.new.out running (at_some _ _ l running c.hear-heard.ensures.carries)
+    c.in-Some.command.way c.in-Some.command.body c.in-Some.ensures none)))
+
+pub returns-in-None-clause-replied : goal.returns-in-None-clause-replied
+returns-in-None-clause-replied g c =
+    let x : MeterState = record { station = c.self.inside.station; psk = c.self.inside.pair_key; randoms = c.self.inside.randoms; session = option_map session_of c.self.inside.session } in
+    rw (← c.self.view_is) (on_node x _ (λ l running none.
+    replied_other x c.hear-heard.new.self l c.args.got.now c.args.cost c.args.note c.args.now c.hear-heard.result c.hear-heard.new.out running (at_some _ _ l running c.hear-heard.ensures.carries) c.in-None.ensures
+    (at_some _ _ l running c.hear-heard.ensures.replied)))

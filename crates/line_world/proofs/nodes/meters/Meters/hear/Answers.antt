@@ -1,8 +1,11 @@
 -- A meter at a place hears a frame.
+use Rattle.std.proofs.Common.{ap, ◌∙◌}
 use Rattle.std.proofs.lemmas.List.Elements.{All-set}
+use Rattle.line_world.specs.declared.nodes.reception.Reception.{Reception}
 use Rattle.line_world.specs.Receiving.{MayHear}
 use Rattle.line_world.specs.Soundness.{IsSoundMeter}
-use Rattle.line_world.proofs.HearingSteps.{running, came_up, told, heard, heard_sound}
+use Rattle.line_world.proofs.HearingSteps.{running, came_up, told, heard, heard_sound, told_replied}
+use Rattle.line_world.proofs.ToldReplies.{tells_with}
 use Rattle.line_world.proofs.Places.{agrees_at, at_place, did, found_at, sound_at}
 use Rattle.line_world.proofs.nodes.meters.Meters.hear.Goals as goal
 
@@ -20,18 +23,29 @@ pub hear-heard-requires-clause-came : goal.hear-heard-requires-clause-came
 hear-heard-requires-clause-came c =
     came_up c.index_mut.result.now c.args.got.now (at_place c.self.inside.meters.items _ c.args.place c.index_mut.result.now _ c.self.view_is c.requires.there c.index_mut.ensures.value c.requires.accepted)
 
-pub returns : goal.returns
-returns c =
+pub returns-clause-received : goal.returns-clause-received
+returns-clause-received c =
     let x = c.index_mut.result.now in
     let y = c.hear-heard.new.self in
     let sound = sound_at c.self.inside.meters.items _ c.args.place c.index_mut.result.now c.self.view_is c.requires.there c.index_mut.ensures.value c.self.invariant in
     let may = at_place c.self.inside.meters.items _ c.args.place c.index_mut.result.now (λ n. MayHear n c.args.got.now) c.self.view_is c.requires.there c.index_mut.ensures.value c.requires.accepted in
     found_at c.self.inside.meters.items _ c.args.place c.index_mut.result.now _ c.self.view_is c.requires.there c.index_mut.ensures.value (record {
       tells = told x y c.args.got.now c.args.cost c.args.note c.args.now c.hear-heard.result c.hear-heard.new.out sound may c.hear-heard.ensures.psk c.hear-heard.ensures.carries
-          c.meter_told.result c.meter_told.ensures;
+          c.with_reply.result (tells_with c.meter_told.result c.with_reply.result c.reply_of-replied.result _ c.with_reply.ensures c.meter_told.ensures);
       did = did _ c.self.inside.meters.items _ c.args.place y _ _ c.self.view_is
           (heard x y c.args.got.now c.args.cost c.args.note c.args.now c.hear-heard.result c.hear-heard.new.out sound may c.hear-heard.ensures.psk c.hear-heard.ensures.carries);
     })
+
+pub returns-clause-replied : goal.returns-clause-replied
+returns-clause-replied c is =
+    let x = c.index_mut.result.now in
+    let y = c.hear-heard.new.self in
+    let sound = sound_at c.self.inside.meters.items _ c.args.place c.index_mut.result.now c.self.view_is c.requires.there c.index_mut.ensures.value c.self.invariant in
+    let may = at_place c.self.inside.meters.items _ c.args.place c.index_mut.result.now (λ n. MayHear n c.args.got.now) c.self.view_is c.requires.there c.index_mut.ensures.value c.requires.accepted in
+    found_at c.self.inside.meters.items _ c.args.place c.index_mut.result.now _ c.self.view_is c.requires.there c.index_mut.ensures.value
+    (ap (λ (w : Reception). w.replied) c.with_reply.ensures
+    ∙ told_replied x y c.args.got.now c.args.cost c.args.note c.args.now c.hear-heard.result c.hear-heard.new.out sound may c.hear-heard.ensures.psk c.hear-heard.ensures.carries
+    y.station.replied c.reply_of-replied.result (c.reply_of-replied.ensures ∙ c.last_reply.ensures) c.hear-heard.ensures.replied is)
 
 pub invariant_of-self : goal.invariant_of-self
 invariant_of-self c =
