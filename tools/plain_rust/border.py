@@ -2,13 +2,13 @@
 
 Rattle proves at each call that its `requires` hold; a caller in Rust proves nothing. So each clause of a public function of the crates in
 border.json becomes a check at the beginning of the body, which stops with the name of the call and the clause. A clause that is neither a plain bound
-nor in border.json stops the export: somebody has to say what is checked.
+nor in border.json stops the export: somebody has to say what is checked. A parameter whose type has an invariant and public fields is checked too.
 """
 import json
 import os
 import re
 
-from lexer import CLAUSES, Stop, closing, rust_tokens, step
+from lexer import CLAUSES, Stop, closing, rust_tokens, solid, step
 
 HERE = os.path.dirname(os.path.abspath(__file__))
 BORDER = json.load(open(os.path.join(HERE, "border.json"), encoding="utf-8"))
@@ -51,16 +51,38 @@ def is_public(ts, i):
     return ts[step(ts, i, -1)].text == "pub"
 
 
+def whole(ts, i):
+    """The checks of parameters of the function at i whose type has an invariant and public fields, as pairs of name and test."""
+    opening = step(ts, step(ts, i))
+    while ts[opening].text != "(":
+        opening = step(ts, opening)
+    words = solid(ts[opening : closing(ts, opening)])
+    found = []
+    for k in range(3, len(words)):
+        if words[k] in BORDER["types"] and words[k - 2 : k] == [":", "&"]:
+            found.append((words[k - 3], BORDER["types"][words[k]]["check"].format(words[k - 3])))
+    return found
+
+
+def asked(ts, i, crate):
+    """What the function at i asks for, as pairs of the name of a clause and its test, or None where it has none; and the place of its body."""
+    clauses, body = required(ts, i)
+    name = ts[step(ts, i)].text
+    return [(clause, check_of(crate, name, text)) for clause, text in clauses] + whole(ts, i), body
+
+
+def public_calls(ts):
+    """The places of the public functions, the last first."""
+    return [i for i in range(len(ts) - 1, -1, -1) if ts[i].kind == "ident" and ts[i].text == "fn" and is_public(ts, i)]
+
+
 def checks(ts, crate, tally):
     """Writes the checks of a file. It runs before the clauses are deleted."""
     if crate not in BORDER["crates"]:
         return
-    for i in range(len(ts) - 1, -1, -1):
-        if ts[i].kind != "ident" or ts[i].text != "fn" or not is_public(ts, i):
-            continue
-        clauses, body = required(ts, i)
+    for i in public_calls(ts):
+        tests, body = asked(ts, i, crate)
         name = ts[step(ts, i)].text
-        tests = [(clause, check_of(crate, name, text)) for clause, text in clauses]
         lines = [f'\n        std::required!({test}, "{crate}: {name}: {clause}");' for clause, test in tests if test]
         tally["clause at the border"] += len(tests)
         tally["check at the border"] += len(lines)
@@ -71,11 +93,9 @@ def checks(ts, crate, tally):
 def names(ts, crate):
     """The names of the clauses of a file that are checked, as `call: clause`, and of those that are not."""
     checked, unchecked = [], []
-    for i, t in enumerate(ts):
-        if t.kind == "ident" and t.text == "fn" and is_public(ts, i):
-            name = ts[step(ts, i)].text
-            for clause, text in required(ts, i)[0]:
-                (checked if check_of(crate, name, text) else unchecked).append(f"{name}: {clause}")
+    for i in public_calls(ts):
+        for clause, test in asked(ts, i, crate)[0]:
+            (checked if test else unchecked).append(f"{ts[step(ts, i)].text}: {clause}")
     return checked, unchecked
 
 

@@ -203,6 +203,11 @@ class Border(unittest.TestCase):
         for clause, test in (("1 ≤ length body.now", "body.len() >= 1"), ("length body.old ≤ 379", "body.len() <= 379"), ("3 ≤ code", "code >= 3")):
             self.assertEqual(border.check_of("plc_station", "f", clause), test)
 
+    def test_a_parameter_with_public_fields_is_checked(self):
+        text, tally = plain("impl S { pub fn f(&self, it: &Grant, key: &Key) -> A { g() } }", crate="meter_node")
+        self.assertIn('std::required!(it.keys.get(usize::from(it.active)).is_some_and(Option::is_some), "meter_node: f: it");', text)
+        self.assertEqual(tally["check at the border"], 1)
+
     def test_a_clause_that_nobody_knows_stops(self):
         with self.assertRaises(lexer.Stop):
             code("impl S { pub fn f(&self) requires { Odd self.old } { g() } }", crate="meter_node")
@@ -235,6 +240,15 @@ class BorderOfTheNodes(unittest.TestCase):
         said = [f"{of[kind]}: {call}: {clause}" for calls, words in rows for kind, call in re.findall(r"`(\w+)::(\w+)`", calls)
                 for clause in re.findall(r"`(\w+)`", words)]
         self.assertEqual(sorted(said), sorted(self.checked))
+
+    def test_each_type_with_an_invariant_hides_its_fields_or_is_checked(self):
+        for crate in export.workspace.closure(border.BORDER["crates"], export.workspace.read_crates(export.TOP)):
+            for path in export.sources(os.path.join(export.TOP, "crates", crate, "src")):
+                text = read(path)
+                for name, body in re.findall(r"^impl(?:<.*>)? Model for (\w+).*?\{\n(.*?)^\}", text, re.MULTILINE | re.DOTALL):
+                    fields = re.search(rf"^pub struct {name}\b.*?^\}}|^pub struct {name}\b.*;$", text, re.MULTILINE | re.DOTALL)
+                    if "ghost invariant" in body and fields and re.search(r"\bpub (?!struct|ghost|\()", fields.group(0)):
+                        self.assertIn(name, border.BORDER["types"], path)
 
     def test_what_is_not_checked_is_that_memory_and_store_agree(self):
         self.assertEqual({it.split(": ")[2] for it in self.unchecked}, {"agrees"})

@@ -154,6 +154,16 @@ fn an_index_above_1_stops() {
 }
 
 #[test]
+fn a_grant_without_a_key_at_its_active_index_stops() {
+    let none = Grant { keys: [None; 2], ..grant() };
+    let outside = Grant { active: 7, ..grant() };
+    stops("plc_station: install: grant", || meter().station().install(&none));
+    for wrong in [none, outside] {
+        stops("meter_node: provision: grant", || meter().provision(&wrong));
+    }
+}
+
+#[test]
 fn a_size_or_a_number_out_of_bounds_stops() {
     stops("plc_station: hear: fits", || station_hears(joined().station(), 382));
     stops("meter_node: hear: fits", || meter_hears(joined(), sealed(), 382));
