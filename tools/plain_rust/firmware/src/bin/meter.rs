@@ -51,6 +51,7 @@ mod on_a_board {
         }
     }
 
+    #[inline(never)]
     fn handle(driver: &mut Driver, event: &Event) -> Result<(), Trouble> {
         let octets = event.octets.get(..usize::from(event.count)).ok_or(Trouble::Refused)?;
         match event.kind {
@@ -67,15 +68,23 @@ mod on_a_board {
     static mut DRIVER: MaybeUninit<Driver> = MaybeUninit::uninit();
     static mut EVENT: MaybeUninit<Event> = MaybeUninit::zeroed();
 
-    #[unsafe(no_mangle)]
-    extern "C" fn program() {
+    /// Opens the meter where it stays. It is no part of `program`, so that its stack is free again when it returns.
+    #[inline(never)]
+    fn open() -> &'static mut Driver {
         let (mut eui, mut psk) = ([0; 8], [0; 16]);
         unsafe { board_identity(&mut eui, &mut psk) }
         let Ok(opened) = Driver::open(Flash::new(), Eui(eui), Key(psk)) else {
             core::panic!("the meter does not open");
         };
-        // This is the only borrow of either.
-        let (driver, event) = unsafe { ((&mut *(&raw mut DRIVER)).write(opened), (&mut *(&raw mut EVENT)).assume_init_mut()) };
+        // This is the only borrow of it, since `program` runs once.
+        unsafe { (&mut *(&raw mut DRIVER)).write(opened) }
+    }
+
+    #[unsafe(no_mangle)]
+    extern "C" fn program() {
+        let driver = open();
+        // This is the only borrow of it.
+        let event = unsafe { (&mut *(&raw mut EVENT)).assume_init_mut() };
         loop {
             unsafe { board_wait(event) }
             let answer = handle(driver, event).map_or_else(|it| 1 + it as i32, |()| 0);
