@@ -1,4 +1,5 @@
-"""AES-128 (FIPS 197) and the sealing of frames by CCM* with tags of 4 octets, apart from the program, for one who has the key."""
+"""AES-128 (FIPS 197), the sealing of frames by CCM* with tags of 4 octets, and the packets of EAP-PSK that say something (RFC 4764), apart from the
+program, for one who has the keys."""
 
 
 def doubled(octet):
@@ -87,3 +88,44 @@ def header_of(target, sender, counter, index):
 def payload_of(aes, frame):
     """Returns the payload of a sealed frame, whose tag is taken for right."""
     return masked(aes, nonce_of(frame[:15]), frame[15:-4])
+
+
+def xored(*parts):
+    return bytes(a ^ b for a, b in zip(*parts)) if len(parts) == 2 else xored(xored(*parts[:2]), *parts[2:])
+
+
+def cmac(aes, text):
+    """Returns the CMAC of a text (RFC 4493)."""
+    subkeys, value = [], int.from_bytes(aes.encrypted(bytes(16)), "big")
+    for _ in range(2):
+        value = (value << 1) % 2**128 ^ (0x87 if value >> 127 else 0)
+        subkeys.append(value.to_bytes(16, "big"))
+    at = max(0, (len(text) - 1) // 16 * 16)
+    last = text[at:]
+    last = xored(last, subkeys[0]) if len(last) == 16 else xored((last + b"\x80").ljust(16, b"\0"), subkeys[1])
+    chain = bytes(16)
+    for block in [*(text[it : it + 16] for it in range(0, at, 16)), last]:
+        chain = aes.encrypted(xored(chain, block))
+    return chain
+
+
+def eax_sealed(aes, nonce, header, text):
+    """Returns the sealed text and its tag (the EAX paper)."""
+    start, head = (cmac(aes, bytes(15) + bytes([kind]) + it) for kind, it in ((0, nonce), (1, header)))
+    first = int.from_bytes(start, "big")
+    stream = b"".join(aes.encrypted(((first + it) % 2**128).to_bytes(16, "big")) for it in range(1 + len(text) // 16))
+    masked_text = xored(text, stream)
+    return masked_text, xored(start, head, cmac(aes, bytes(15) + b"\2" + masked_text))
+
+
+def derived(key, block, number):
+    """Returns a key made of a key: a block encrypted, a number added, and encrypted again (RFC 4764, 3.1 and 3.2)."""
+    aes = Aes(key)
+    return aes.encrypted(xored(aes.encrypted(block), bytes(15) + bytes([number])))
+
+
+def channel(psk, rand_p, number, head, text):
+    """Returns the protected channel of a packet: its nonce, its tag and the sealed text, for a pair key and the meter's random value."""
+    tek = Aes(derived(derived(psk, bytes(16), 2), rand_p, 1))
+    sealed_text, tag = eax_sealed(tek, bytes(15) + bytes([number]), head, text)
+    return bytes(3) + bytes([number]) + tag + sealed_text

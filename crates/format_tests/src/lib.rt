@@ -1,21 +1,10 @@
-//! Tests of octets that are read and written, and of the messages, units and frames that nodes exchange, through what their crates
-//! make public.
+//! Tests of what no script shows: the adapters over std, and which octets are a unit or a message, with the first fault of others.
 //!
 //! They stand apart from those crates, since the gate proves a crate once more where it has tests of its own.
 #![tactic(auto)]
 
 #[cfg(test)]
-mod agents;
-#[cfg(test)]
-mod discoveries;
-#[cfg(test)]
-mod fields;
-#[cfg(test)]
-mod frames;
-#[cfg(test)]
 mod joinings;
-#[cfg(test)]
-mod neighbours;
 #[cfg(test)]
 mod paths;
 #[cfg(test)]

@@ -1,11 +1,10 @@
 ghost use Rattle.std.specs.Prelude.{◌≤◌, length};
-ghost use Rattle.mesh_header.specs.Grammar.{IsAllowed, spelled_length};
 
 use mesh_header::UnitFaultKind::{
     Address, AddressKind, DataSize, Dispatch, Empty, HopForm, PieceForm, Short as Ended, Size,
 };
-use mesh_header::{Mesh, Piece, Unit, UnitFault, UnitFaultKind, read_unit, write_unit};
-use plc_base::{FrameBuf, OctetRef, Short};
+use mesh_header::{UnitFault, UnitFaultKind, read_unit};
+use plc_base::FrameBuf;
 use std::process::Abort;
 use std::test::Fail;
 
@@ -26,15 +25,6 @@ fn refuses(rt: &impl Abort, octets: &[u8], kind: UnitFaultKind, place: u16) {
         Some(UnitFault { kind, place }),
         "{octets:?}"
     );
-}
-
-fn writes(rt: &impl Abort, unit: &Unit<'_>, octets: &[u8])
-    requires allowed { IsAllowed unit.now }
-    requires room { spelled_length unit.now ≤ 400 }
-{
-    let mut out = FrameBuf::from_octets(&[0xAA]);
-    write_unit(unit, &mut out);
-    assert_eq!(rt; out.octets(), octets);
 }
 
 // The mesh header from node 1 to node 2 with so many hops, and what follows it.
@@ -104,36 +94,6 @@ fn the_first_fault_and_its_place(rt: HostRuntime) -> Result<(), Fail> {
 }
 
 #[test]
-fn hops_in_both_directions(rt: HostRuntime) -> Result<(), Fail> {
-    let origin = Short::new(1).ok_or("no address")?;
-    let to = Short::new(2).ok_or("no address")?;
-    for hops in [
-        0, 1, 2, 3, 4, 5, 6, 7, 8, 9, 10, 11, 12, 13, 14, 15, 16, 254, 255,
-    ] {
-        let octets = behind_a_header(hops, &[0x41, 0xAA]);
-        let mesh = Mesh { hops, origin, to };
-        match read_unit(octets.octets()) {
-            Ok(
-                Unit::Whole {
-                    mesh: read,
-                    octets: held,
-                },
-            ) => {
-                assert_eq!(rt; read, mesh);
-                assert_eq!(rt; held.octets(), [0xAA].as_slice());
-            }
-            _ => panic!(rt; "no datagram at {hops}"),
-        }
-        let unit = Unit::Whole {
-            mesh,
-            octets: OctetRef::new(&[0xAA]),
-        };
-        writes(&rt, &unit, octets.octets());
-    }
-    Ok(())
-}
-
-#[test]
 fn sizes_at_their_limits(rt: HostRuntime) {
     for (size, kind) in [
         (0, Some(DataSize)),
@@ -176,65 +136,4 @@ fn sizes_at_their_limits(rt: HostRuntime) {
             "{size}"
         );
     }
-}
-
-#[test]
-fn units_of_each_kind(rt: HostRuntime) -> Result<(), Fail> {
-    let mesh = Mesh {
-        hops: 14,
-        origin: Short::new(1).ok_or("no address")?,
-        to: Short::new(2).ok_or("no address")?,
-    };
-    let whole = Unit::Whole {
-        mesh,
-        octets: OctetRef::new(b"Hello"),
-    };
-    writes(
-        &rt,
-        &whole,
-        hex::decode(rt.alloc(), "be000100024148656c6c6f")?.as_slice(),
-    );
-    let carried = Unit::Carried {
-        mesh,
-        body: OctetRef::new(&[6]),
-    };
-    writes(
-        &rt,
-        &carried,
-        hex::decode(rt.alloc(), "be00010002400206")?.as_slice(),
-    );
-    let joining = hex::decode(rt.alloc(), "4002010102030405060708")?;
-    assert_eq!(rt; joining.len(), 11);
-    match read_unit(joining.as_slice()) {
-        Ok(Unit::Local { code, body }) => {
-            assert_eq!(rt; code, 2);
-            assert_eq!(rt; body.octets(), [1, 1, 2, 3, 4, 5, 6, 7, 8].as_slice());
-            writes(&rt, &Unit::Local { code: 2, body }, joining.as_slice());
-        }
-        _ => panic!(rt; "no command"),
-    }
-    for (size, offset, spelled) in [
-        (4, 0, "be00010002c00400094102020202"),
-        (372, 46, "be00010002e17400092e02020202"),
-    ] {
-        let Some(piece) = Piece::new(size, 9, offset, &[2, 2, 2, 2]) else {
-            panic!(rt; "no piece");
-        };
-        assert_eq!(rt;
-            (piece.size(), piece.tag(), piece.offset()),
-            (size, 9, offset)
-        );
-        assert_eq!(rt; piece.octets(), [2, 2, 2, 2].as_slice());
-        writes(
-            &rt,
-            &Unit::Part {
-                mesh,
-                piece: piece.again(),
-            },
-            hex::decode(rt.alloc(), spelled)?.as_slice(),
-        );
-    }
-    assert!(rt; Piece::new(12, 9, 0, &[2, 2, 2, 2]).is_none());
-    assert!(rt; Piece::new(1281, 9, 160, &[2]).is_none());
-    Ok(())
 }

@@ -654,7 +654,7 @@ module _ (w : World) (ok : WorldOk w) (s : WorldSpeaks w) (logs : LogsKept w) (r
   casts_on : (event : Event) (st : Step) → IsReachStep network w event st → CastsIn sent ups home st
   casts_on event st (Fails e fault) = tt
   casts_on event st (Known e t other is none) = old_casts event st is (old_silent w event st is)
-  casts_on event st (Rests e answer other none) = λ honest. silent _ _ (record { bup = refl; broadcast = refl }) before
+  casts_on event st (Rests e answer idle other none) = λ honest. silent _ _ (record { bup = refl; broadcast = refl }) before
   casts_on event st Opens = λ honest. silent _ _ (record { bup = refl; broadcast = refl }) before
   casts_on event st (Bcasts number x datagram there are) = λ honest.
       let d = reaches x (beside_at w number) (Err broadcast_faults.Halted) (λ y. broadcast in_memory y datagram) in
@@ -678,7 +678,7 @@ module _ (w : World) (ok : WorldOk w) (s : WorldSpeaks w) (logs : LogsKept w) (r
       silent _ _ (record { bup = refl; broadcast = refl }) (told_as_before P any (ran w) number
       (reaches x (beside_at w number) (Err choices.Halted) (λ y. choose_agent (identity network x psk) y k w.clock))
       (r.sends.choices number k x psk there pair) (choice_old x (beside_at w number) (identity network x psk) k w.clock) before)
-  casts_on event st (Discovers e number x m octets link other there here comes is) = λ honest.
+  casts_on event st (Discovers e number x m octets link other there here comes over is) = λ honest.
       discovered_casts number discovery_word (beacon_taken number (discovery_in octets) link)
       (hear_discovery x.role m.station (beside_at w number).scan octets link)
   casts_on event st (Unbelieves e number x octets got a is) = λ honest. silent _ _ (record { bup = refl; broadcast = refl })

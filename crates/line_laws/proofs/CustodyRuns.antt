@@ -230,11 +230,6 @@ pub record Owed (ciphers : Ciphers) (live : World → Flight → Bool) (w : Worl
   pub says : SaysInRange ciphers w
   pub joins : (number : ℕ) (y : Node) (octets : List ℕ) (cost : ℕ) → node_at w number ≡ Some y → ArrivesBy w x.event number octets cost → (got : Accepted) → (accepting ciphers y octets).answer ≡ Ok got → Joins ciphers w y octets cost got
 
--- so it is along a run, before the first forged event
-abbrev pub OwedAlong : Ciphers → (World → Flight → Bool) → World → List Entry → Type 0
-OwedAlong ciphers live w [] = Unit {0}
-OwedAlong ciphers live w (x ∷ xs) = x.trace.happened.forged ≡ false → Owed ciphers live w x × OwedAlong ciphers live x.after xs
-
 -- # Homes
 
 acts_role : {A : Type 0} (x : Node) (halted : A) (plan : Memory → Plan Memory A) → (acts x halted plan).node.role ≡ x.role
@@ -419,7 +414,3 @@ module _ (ciphers : Ciphers) (opens : OpensWhatItSeals ciphers) (fits : KeepsRan
     where
       true_false : true ≡ false → ⊥
       true_false e = cc
-
-  one_list : {A : Type 0} (o : Option A) → option_to_list o ≡ one_of o
-  one_list None = refl
-  one_list (Some a) = refl

@@ -37,10 +37,8 @@ use Rattle.line_rules.specs.Answers.{Reception}
 use Rattle.line_rules.specs.Events.{IsEvent}
 use Rattle.line_rules.specs.Forgery.{Comes, OfFlight, OfScript, accepting}
 use Rattle.line_rules.specs.Further.{line_step, checks, bcast, broadcasts_by, path, asks_by, scan, scans_by, choose, chooses_by, discovers_by, commanded, checked, acknowledged_if, acknowledged, acknowledging, unbelieved, heard_by, heard_further, is_dropped, accepted_further, comes, delivers, injects, ticks, after_ok, due, with_check, restarts_by, restarts_further}
-use Rattle.line_rules.specs.Logs.{LogsKept}
 use Rattle.line_rules.specs.Steps.{Step, set_up, ran, happened, trace_of, has_begun, takes_setup, once_begun, in_setup, on_node, on_meter, on_flight, psk_of, acted, ticked, hears, heard, note_by, restarts, tick}
 use Rattle.line_rules.specs.Worlds.{World, Flight, Trace, node_at, flight_at}
-use Rattle.line_laws.proofs.FurtherSteps.{restarts_read}
 use Rattle.line_laws.proofs.IssueNodes.{acts_whole}
 use Rattle.line_laws.proofs.TracesRight.{comes_is, is_same}
 use Rattle.line_laws.proofs.Tellings.{IsStep, IsBrought, Ticks, Restarts, TurnsDown, step_is}
@@ -130,8 +128,11 @@ pub data IsFurtherStep (ciphers : Ciphers) (w : World) : Event → Step → Type
   -- time and a restart: as without further reach, and something else stands beside
   Puts : (event : Event) (r : World × Trace) (bs : List Beside) → (IsBrought event → ⊥) → IsStep ciphers w event (Ok r)
       → IsFurtherStep ciphers w event (Ok (record r.0 { beside = bs }, r.1))
+  -- a restart finds a record of the log that has no reading, which happens in no run
+  Unread : (number : ℕ) (x : Node) (bad : BadStore) → node_at w number ≡ Some x → restarted x.store.records ≡ Err bad
+      → IsFurtherStep ciphers w (events.Restart number) (Ok (restarts_by ciphers w number x (Err bad)))
 
-module _ (ciphers : Ciphers) (w : World) (logs : LogsKept w) where
+module _ (ciphers : Ciphers) (w : World) where
   abbrev Is : Event → Step → Type 1
   Is event s = IsFurtherStep ciphers w event s
 
@@ -204,7 +205,7 @@ module _ (ciphers : Ciphers) (w : World) (logs : LogsKept w) where
 
   restarts_step : (number : ℕ) (x : Node) → node_at w number ≡ Some x → (o : Result Beside BadStore) → restarted x.store.records ≡ o
       → Is (events.Restart number) (Ok (restarts_by ciphers w number x o))
-  restarts_step number x there (Err bad) e = absurd (restarts_read ciphers w logs number x there bad e)
+  restarts_step number x there (Err bad) e = Unread number x bad there e
   restarts_step number x there (Ok b) e = Puts _ (acted ciphers w number (restarts x)) (restarts_by ciphers w number x (Ok b)).0.beside (λ b. b)
       (Restarts number x there)
 

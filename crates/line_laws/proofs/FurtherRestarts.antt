@@ -31,7 +31,7 @@ use Rattle.line_laws.proofs.IssueWorlds.{told_here}
 use Rattle.line_laws.proofs.NetworkSizes.{EntrySized, world_within}
 use Rattle.line_laws.proofs.OctetRuns.{SpeaksIn, WorldSpeaks, start_speaks}
 use Rattle.line_laws.proofs.Readings.{network_ranges}
-use Rattle.line_laws.proofs.RestartRuns.{no_routes}
+use Rattle.line_laws.proofs.RestartRoutes.{no_routes}
 use Rattle.line_laws.proofs.Running.{restart_answers, start_ok}
 use Rattle.line_laws.proofs.ShutSteps.{kicked_out}
 use Rattle.line_laws.proofs.Worlds.{at_place}

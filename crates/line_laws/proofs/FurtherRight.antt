@@ -1,8 +1,9 @@
 -- What the history has of an event of a line with further reach is what the report says of it, and it is forged exactly where it says so.
 use Rattle.std.proofs.Common.{◌≡◌, ◌⊎◌, inl, inr, ⊎_elim, not, ℕ, ◌+◌, ◌≤◌, Bool, true, false, List, [], ◌++◌, length, Option, Some, None, Result, Ok, Err, refl, sym, ap, ◌∙◌, subst, append-nil, arith}
-use Rattle.std.specs.Prelude.{◌↔◌, ◌||◌, ◌&&◌, ◌==◌, is_some, if◌then◌else◌, All}
+use Rattle.std.specs.Prelude.{◌↔◌, ◌||◌, ◌&&◌, ◌==◌, is_some, if◌then◌else◌}
 use Rattle.std.specs.Option.{option_map_or}
 use Rattle.std.proofs.lemmas.List.{length-append}
+use Rattle.plc_base.specs.declared.keeper.BadStore.{BadStore}
 use Rattle.plc_base.specs.declared.key.Key.{Key}
 use Rattle.plc_base.specs.declared.tags.PairTag.{PairTag}
 use Rattle.mesh_header.specs.declared.unit.Unit.{Unit as MeshUnit}
@@ -68,19 +69,16 @@ use Rattle.line_rules.specs.declared.happenings.PathLine.{PathLine}
 use Rattle.line_rules.specs.Answers.{Reception, ask_word, broadcast_word, command_word, coordinator_reception, discovery_word, meter_reception, only, scan_word}
 use Rattle.line_rules.specs.Events.{IsEvent}
 use Rattle.line_rules.specs.Forgery.{Comes, IsForged, accepting}
-use Rattle.line_rules.specs.Further.{line_step, agent_line, asks_by, beacon_taken, beside_at, broadcasts_by, choice_word, chooses_by, commanded, discovers_by, discovery_flights, due, due_of, has_discovered, is_reply_taken, acknowledged, acknowledging, adds_frames, bcast, of_memory, scanning, unbelieved, scans_by, sends_nothing, with_beside}
-use Rattle.line_rules.specs.Logs.{LogsKept}
+use Rattle.line_rules.specs.Further.{line_step, agent_line, asks_by, beacon_taken, beside_at, broadcasts_by, choice_word, chooses_by, commanded, discovers_by, discovery_flights, due, due_of, has_discovered, is_reply_taken, acknowledged, acknowledging, adds_frames, bcast, of_memory, restarts_by, scanning, unbelieved, scans_by, sends_nothing, with_beside}
 use Rattle.line_rules.specs.Steps.{Step, acted, forged_by, happened, has_begun, identity, is_taken, note_by, ran, set_up, told, trace_of}
 use Rattle.line_rules.specs.Traces.{Adds, IsTracedRight, is_broadcast, is_done, is_issue, is_took, is_up}
 use Rattle.line_rules.specs.Worlds.{World, Trace, Further, Noticed, nothing_further, node_at}
 use Rattle.line_rules.specs.Runs.{Entry}
 use Rattle.line_laws.specs.LineAccounts.{LineTracesRight}
-use Rattle.line_laws.specs.Lines.{FlightFits, WorldOk}
-use Rattle.line_laws.specs.Owed.{KeepsRanges}
+use Rattle.line_laws.proofs.CommandTags.{acts_made, command_made}
 use Rattle.line_laws.proofs.FurtherEvents.{IsFurtherStep, IsHeard, checks_so, found_none, further_step_is, heard_so, hearing, taker}
-use Rattle.line_laws.proofs.FurtherEvents.{Old, TurnsOn, Spreads, Seeks, Looks, Picks, Finds, Takes, Puts, IsUnbelieved, IsPlain, IsCommand, IsChecked, IsAnswered}
+use Rattle.line_laws.proofs.FurtherEvents.{Old, TurnsOn, Spreads, Seeks, Looks, Picks, Finds, Takes, Puts, Unread, IsUnbelieved, IsPlain, IsCommand, IsChecked, IsAnswered}
 use Rattle.line_laws.proofs.FurtherForms.{AnyUnits, ask_is, broadcast_is}
-use Rattle.line_laws.proofs.FurtherSenders.{known}
 use Rattle.line_laws.proofs.FurtherSteps.{ack_is, hears_nothing}
 use Rattle.line_laws.proofs.FurtherTellings.{untold}
 use Rattle.line_laws.proofs.Tellings.{Hears}
@@ -407,7 +405,7 @@ spread_or_not _ = inr refl
 
 -- # Octets that were accepted
 
-module _ (ciphers : Ciphers) (fits : KeepsRanges ciphers) (w : World) (ok : WorldOk w) (flown : All FlightFits w.flights) (logs : LogsKept w) (n : ℕ)
+module _ (ciphers : Ciphers) (w : World) (n : ℕ)
     (event : Event) (number : ℕ) (x : Node) (octets : List ℕ) (cost : ℕ) (got : Accepted)
     (there : node_at w number ≡ Some x) (says : IsEvent event) (comes_so : Comes w event number octets) (low : cost ≤ 255)
     (is : (accepting ciphers x octets).answer ≡ Ok got) where
@@ -439,11 +437,10 @@ module _ (ciphers : Ciphers) (fits : KeepsRanges ciphers) (w : World) (ok : Worl
       let halted : Result CommandHeard ReachDropped = Err (reach_drops.Known drops.Store) in
       let does = with_beside (beside_at r.0 number) (λ z. hear_command in_memory z c) in
       let a = acts d.node halted does in
-      let none = untold AnyUnits d.node halted does
-      (λ m here. (known ciphers fits w ok flown logs).commands event number x octets got cost c m says comes_so there is e here) in
+      let none = acts_made d.node halted does (command_made (beside_at r.0 number) c) in
       let more : length (told ciphers r.0 number a).flights ≡ length r.0.flights + length a.frames = told_flights ciphers r.0 number a in
       let before : length r.0.flights ≡ length w.flights + r.1.happened.flights = plainly.adds.flights in
-      let made : r.0.made ++ a.made ≡ w.made ++ r.1.made = ap (λ ts. r.0.made ++ ts) none.0 ∙ append-nil r.0.made ∙ plainly.adds.made in
+      let made : r.0.made ++ a.made ≡ w.made ++ r.1.made = ap (λ ts. r.0.made ++ ts) none ∙ append-nil r.0.made ∙ plainly.adds.made in
       let t : Trace = (commanded ciphers number d.node c r).1 in
       reworded ciphers w n event r.0 (commanded ciphers number d.node c r).0 r.1 (command_word a.answer) t.happened.bup t.happened.path
       (r.1.happened.flights + length a.frames) r.1.made t.further plainly
@@ -495,7 +492,7 @@ module _ (ciphers : Ciphers) (fits : KeepsRanges ciphers) (w : World) (ok : Worl
 
 -- # Every event
 
-module _ (ciphers : Ciphers) (fits : KeepsRanges ciphers) (w : World) (ok : WorldOk w) (flown : All FlightFits w.flights) (logs : LogsKept w) where
+module _ (ciphers : Ciphers) (w : World) where
   -- What is right of an event; what the history has is that of one that is no broadcast.
   record RightOn (x : Entry) : Type 0 where
     adds : Adds w x
@@ -532,6 +529,16 @@ module _ (ciphers : Ciphers) (fits : KeepsRanges ciphers) (w : World) (ok : Worl
         forged = unforged ciphers w event false b.opened refl none.1 (unbrought ciphers w event (λ q. q));
       }
 
+  -- of a restart that finds no log: its node is halted, and nothing is sent
+  unread_right : (n number : ℕ) (x : Node) (bad : BadStore)
+      → Right ciphers w (entry n (events.Restart number) (restarts_by ciphers w number x (Err bad)))
+  unfolding told
+  unread_right n number x bad =
+      let e = stays (record x { memory = None }) said.BadStore in
+      more_told ciphers w n (events.Restart number) (acted ciphers w number e).0 (acted ciphers w number e).1 w.checks_on
+      (restarts_by ciphers w number x (Err bad)).0.beside nothing_further None
+      (acted_right ciphers w n (events.Restart number) number e (refl, refl, refl, refl, refl) refl (unbrought ciphers w (events.Restart number) (λ b. b)))
+
   line_right : (n : ℕ) (event : Event) (s : Step) → IsFurtherStep ciphers w event s → GoodOn n event s
   line_right n event s (Old e t is) = old_right n e t (right ciphers w e t is n)
   line_right n event s (TurnsOn begun) =
@@ -546,9 +553,10 @@ module _ (ciphers : Ciphers) (fits : KeepsRanges ciphers) (w : World) (ok : Worl
       as_right _ (finds_right ciphers w n e number x octets link
       (λ own key a. found_none ciphers w e number x octets there comes_so is a.number a.node own a.got a.there a.comes a.is) x.memory)
   line_right n event s (Takes e number x octets cost got t there says comes_so low is how) = as_right _
-      (heard_right ciphers fits w ok flown logs n e number x octets cost got there says comes_so low is t how)
+      (heard_right ciphers w n e number x octets cost got there says comes_so low is t how)
   line_right n event s (Puts e r bs quiet is) = as_right _
       (more_told ciphers w n e r.0 r.1 r.0.checks_on bs r.1.further r.1.happened.agent (right ciphers w e (Ok r) is n))
+  line_right n event s (Unread number x bad there e) = as_right _ (unread_right n number x bad)
 
   -- # What the history has
 
@@ -604,19 +612,19 @@ module _ (ciphers : Ciphers) (fits : KeepsRanges ciphers) (w : World) (ok : Worl
   }
 
 pub line_traces_right : LineTracesRight
-line_traces_right ciphers fits w ok flown logs x says e = record { adds = g.adds; traced = traced; forged = g.forged }
+line_traces_right ciphers w x says e = record { adds = g.adds; traced = traced; forged = g.forged }
   where
-    g : RightOn ciphers fits w ok flown logs x
-    g = subst (GoodOn ciphers fits w ok flown logs x.number x.event) e
-        (line_right ciphers fits w ok flown logs x.number x.event (line_step ciphers w x.event) (further_step_is ciphers w logs x.event says))
+    g : RightOn ciphers w x
+    g = subst (GoodOn ciphers w x.number x.event) e
+        (line_right ciphers w x.number x.event (line_step ciphers w x.event) (further_step_is ciphers w x.event says))
 
     by_spread : (number : ℕ) (datagram : List ℕ) → x.event ≡ events.Bcast number datagram → IsTracedRight w x
-    by_spread number datagram is = subst (TracedIn ciphers fits w ok flown logs x.number x.event) e
-        (subst (λ (k : Event). TracedIn ciphers fits w ok flown logs x.number k (line_step ciphers w k)) (sym is)
-        (bcast_traced ciphers fits w ok flown logs x.number number datagram))
+    by_spread number datagram is = subst (TracedIn ciphers w x.number x.event) e
+        (subst (λ (k : Event). TracedIn ciphers w x.number k (line_step ciphers w k)) (sym is)
+        (bcast_traced ciphers w x.number number datagram))
 
     traced : IsTracedRight w x
     traced = ⊎_elim
         (λ (s : (number : ℕ) × (datagram : List ℕ) × (x.event ≡ events.Bcast number datagram)). by_spread s.0 s.1 s.2)
-        (λ (other : is_broadcast x.event ≡ false). other_traced ciphers fits w ok flown logs x other (g.traced other))
+        (λ (other : is_broadcast x.event ≡ false). other_traced ciphers w x other (g.traced other))
         (spread_or_not x.event)

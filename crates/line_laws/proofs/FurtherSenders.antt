@@ -56,9 +56,9 @@ use Rattle.line_laws.proofs.CoordinatorCalls.{accept_failed, accept_ok, accepted
 use Rattle.line_laws.proofs.FlightFolds.{NewSenders, address_low, all_senders, came_octets, none_new, one_told, senders, speaks, told_silent}
 use Rattle.line_laws.proofs.FlightFolds.{SendersIn as SendersBefore}
 use Rattle.line_laws.proofs.FurtherEvents.{IsFurtherStep, IsHeard, checks_so, further_step_is, heard_so, hearing, taker}
-use Rattle.line_laws.proofs.FurtherEvents.{Old, TurnsOn, Spreads, Seeks, Looks, Picks, Finds, Takes, Puts, IsUnbelieved, IsPlain, IsCommand, IsChecked, IsAnswered}
+use Rattle.line_laws.proofs.FurtherEvents.{Old, TurnsOn, Spreads, Seeks, Looks, Picks, Finds, Takes, Puts, Unread, IsUnbelieved, IsPlain, IsCommand, IsChecked, IsAnswered}
 use Rattle.line_laws.proofs.FurtherForms.{AnyUnits, IsFurther, Goes, Rests, further_ok, ask_is, broadcast_is}
-use Rattle.line_laws.proofs.FurtherSteps.{ack_did, ack_is, choice_ok, command_silent}
+use Rattle.line_laws.proofs.FurtherSteps.{ack_did, ack_is, choice_ok, command_silent, restarts_read}
 use Rattle.line_laws.proofs.FurtherTellings.{Speaks, any_speaks}
 use Rattle.line_laws.proofs.LaterMoves.{discovery_nonce}
 use Rattle.line_laws.proofs.Nodes.{DidOk, acts_ok, ring_readable}
@@ -268,7 +268,8 @@ module _ (ciphers : Ciphers) (fits : KeepsRanges ciphers) (w : World) (ok : Worl
   line_senders event s
       (Takes e number x octets cost got t there says comes_so low is how) = heard_senders e number x octets cost got there says comes_so is t low how
   line_senders event s (Puts e r bs quiet is) = senders ciphers fits w ok flown e (Ok r) is
+  line_senders event s (Unread number x bad there e) = absurd (restarts_read ciphers w logs number x there bad e)
 
 pub line_senders_right : LineSendersAreRight
 line_senders_right ciphers fits w ok flown logs event says = line_senders ciphers fits w ok flown logs event (line_step ciphers w event)
-    (further_step_is ciphers w logs event says)
+    (further_step_is ciphers w event says)

@@ -106,9 +106,9 @@ module _ (home : ℕ → ℕ) (apart : (i j : ℕ) → home i ≡ home j → i �
 pub every_up : EveryDatagramWasSent
 every_up entries r =
     let fly = every_flight entries r in
-    let traced = every_trace network network_ranges entries r fly in
+    let traced = every_trace network entries r in
     let h = reach_homes start [] start_sound entries r.events r.run in
-    ups_from h.home h.apart h.first (sends_of entries) (every_tag network network_ranges entries r fly) (every_send network network_ranges entries r fly)
+    ups_from h.home h.apart h.first (sends_of entries) (every_tag network network_ranges entries r fly) (every_send network entries r)
     start [] start_sound refl
     (record {
       flights = All-nil (IsFlight network);
@@ -118,4 +118,4 @@ every_up entries r =
       places = record { at_most = λ n i some. zero-le };
     })
     (All-nil (λ (u : Handed). (0 < u.note) × (0 < length u.octets))) entries r.events r.run refl h.along
-    (every_count network network_ranges entries r fly) traced
+    (every_count network entries r) traced

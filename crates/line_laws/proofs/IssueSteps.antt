@@ -85,6 +85,7 @@ use Rattle.line_laws.proofs.IssueMeters.{PeerIs, MeterPlan, took_in, meter_plan,
 use Rattle.line_laws.proofs.IssueCoordinator.{keyed_in, done_in}
 use Rattle.line_laws.proofs.IssueNodes.{RingOk, TagOk, MeterOk, MeterDid, Nought, CoordinatorOk, CoordinatorDid, CoordinatorPlan, meter_acts, sound_acts, coordinator_acts, all_made, acts_opened, acts_ring, acts_whole, depot_address, installs_ring, installs_rest, issued_keys}
 use Rattle.line_laws.proofs.IssueCalls.{Quietly, quiet_coordinator, send_quietly, near_quietly, counter_quietly, number_quietly, broke_quietly, random_quietly, accept_quietly, hears_coordinator, allow_coordinator, depot_coordinator, rekey_coordinator, activate_self_coordinator, challenge_coordinator, activate_coordinator, kick_coordinator}
+pub use Rattle.line_laws.proofs.ReceivedKeys.{keyed_same, no_keys, took_same}
 use Rattle.line_laws.proofs.IssueWorlds.{Keyed, IsMeter, same_keyed, told_meter, told_coordinator, told_here, keyed_more}
 use Rattle.node_rules.specs.Accepting.{same_eui}
 use Rattle.line_rules.specs.Events.{IsEui}
@@ -97,45 +98,6 @@ pub data StepKeyed (w : World) (given : List Issued) : Step → Type 0 where
 told_as : {A B : Type 0} (ciphers : Ciphers) (w : World) (number : ℕ) (reads : A → B) (d : NodeStep A) (given : List Issued) → Keyed (told ciphers w number d) given → Keyed (told ciphers w number (answering reads d)) given
 unfolding told
 told_as ciphers w number reads d given k = same_keyed _ _ given k refl refl
-
-station_took : (h : Heard) → ((station_reception h).took ≡ None) × ((station_reception h).keyed ≡ None) × ((station_reception h).done ≡ None)
-station_took (station_heard.Up from note octets) = (refl, refl, refl)
-station_took station_heard.Held = (refl, refl, refl)
-station_took station_heard.Relayed = (refl, refl, refl)
-station_took station_heard.Answered = (refl, refl, refl)
-station_took station_heard.Learned = (refl, refl, refl)
-station_took station_heard.Broken = (refl, refl, refl)
-station_took station_heard.Reported = (refl, refl, refl)
-station_took (station_heard.Joining way body) = (refl, refl, refl)
-station_took (station_heard.Local from all code body) = (refl, refl, refl)
-
-pub took_same : (a : MeterHeard) → (meter_reception (Ok a)).took ≡ took_in a
-took_same (meter_heard.Station h) = (station_took h).0
-took_same meter_heard.Carried = refl
-took_same meter_heard.Replied = refl
-took_same (meter_heard.Took agreed) = refl
-took_same meter_heard.Noted = refl
-took_same meter_heard.Declined = refl
-took_same meter_heard.Left = refl
-took_same meter_heard.Activated = refl
-
-pub no_keys : (r : Result MeterHeard Dropped) → (meter_reception r).keyed ≡ None
-no_keys (Ok (meter_heard.Station h)) = (station_took h).1
-no_keys (Ok meter_heard.Carried) = refl
-no_keys (Ok meter_heard.Replied) = refl
-no_keys (Ok (meter_heard.Took agreed)) = refl
-no_keys (Ok meter_heard.Noted) = refl
-no_keys (Ok meter_heard.Declined) = refl
-no_keys (Ok meter_heard.Left) = refl
-no_keys (Ok meter_heard.Activated) = refl
-no_keys (Err reason) = refl
-
-pub keyed_same : (a : CoordinatorHeard) → ((coordinator_reception (Ok a)).keyed ≡ keyed_in a) × ((coordinator_reception (Ok a)).done ≡ done_in a)
-keyed_same (coordinator_heard.Station h) = let t = station_took h in (t.1, t.2)
-keyed_same coordinator_heard.Challenged = (refl, refl)
-keyed_same (coordinator_heard.Keyed eui granted) = (refl, refl)
-keyed_same (coordinator_heard.Done eui agreed) = (refl, refl)
-keyed_same coordinator_heard.Declined = (refl, refl)
 
 pub or_false : (a b : Bool) → (a || b) ≡ false → b ≡ false
 or_false true b e = absurd (cc)

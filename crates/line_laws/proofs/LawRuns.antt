@@ -2,25 +2,25 @@
 use Rattle.std.proofs.Common.{◌≡◌, ℕ, ◌≤◌, ◌<◌, true, List, [], ◌∷◌, ◌++◌, length, append-nil, Option, Some, None, Ok, sym, subst}
 use Rattle.std.specs.Prelude.{All, AllPairs, IfSome}
 use Rattle.std.proofs.lemmas.List.{append_assoc}
-use Rattle.std.proofs.lemmas.List.Elements.{All-append, All-cons, All-nil, All-push}
+use Rattle.std.proofs.lemmas.List.Elements.{All-append, All-cons, All-head, All-nil, All-push, All-tail}
 use Rattle.node_rules.specs.Ciphers.{Ciphers, network}
 use Rattle.node_rules.specs.Memory.{Node, node_route}
 use Rattle.line_rules.specs.declared.event.Answer.TheVariants as said
 use Rattle.line_rules.specs.declared.event.Event.{Event}
 use Rattle.line_rules.specs.declared.event.Event.TheVariants as events
-use Rattle.line_rules.specs.Events.{IsEvent}
+use Rattle.line_rules.specs.Events.{AreEvents, IsEvent}
 use Rattle.line_rules.specs.Further.{line_step}
 use Rattle.line_rules.specs.Forgery.{IsForgedRight}
 use Rattle.line_rules.specs.Nonces as nonces
 use Rattle.line_rules.specs.Nonces.{AreAddressed, AreSpelled, IsSpelled}
-use Rattle.line_rules.specs.Runs.{Entry, one_of, sends as sends_of}
+use Rattle.line_rules.specs.Runs.{Entry, IsRun, events_of, one_of, sends as sends_of}
 use Rattle.line_rules.specs.SafeRuns.{IsAlwaysSizedBy, IsSizedBy, RestartsAreAnswered, is_restart}
 use Rattle.line_rules.specs.Traces.{AreTracedRight, CountsRight, IsSendOf}
 use Rattle.line_rules.specs.Worlds.{World, Sending, node_at, start}
 use Rattle.line_laws.specs.FurtherLines.{FlightsSpelled}
 use Rattle.line_laws.specs.Laws.{EveryCountIsRight, EveryCounterRises, EveryFlightIsSpelled, EveryForgeryIsTold, EveryRestartIsAnswered}
-use Rattle.line_laws.specs.Laws.{EveryRunIsSized, EverySenderIsRight, EveryTraceIsRight}
-use Rattle.line_laws.specs.LineAccounts.{RestartIn, TagsIn}
+use Rattle.line_laws.specs.Laws.{EveryRunIsSized, EverySenderIsRight, EveryTraceIsRight, IsLineRun}
+use Rattle.line_laws.specs.LineAccounts.{IsLineRight, RestartIn, TagsIn}
 use Rattle.line_laws.specs.Live.{EveryMarkRises, MarksAlwaysRise}
 use Rattle.line_laws.specs.Loops.{EveryRestartEndsRoutes, RestartsEndRoutes}
 use Rattle.line_laws.specs.Owed.{KeepsRanges}
@@ -29,36 +29,51 @@ use Rattle.line_laws.specs.Tags.{EverySendHasOctets, EveryTagRises, TagRises, Ta
 use Rattle.line_laws.proofs.FurtherOctets.{every_flight}
 use Rattle.line_laws.proofs.FurtherRanges.{line_steps_spell}
 use Rattle.line_laws.proofs.FurtherRestarts.{AnsweredIn, line_answered, line_restarts_right}
+use Rattle.line_laws.proofs.FurtherRight.{line_traces_right}
 use Rattle.line_laws.proofs.FurtherTags.{line_tags_rise}
 use Rattle.line_laws.proofs.IssueRuns.{all_of_one}
-use Rattle.line_laws.proofs.LineRuns.{AreLawful, lawful, right_at, rises_at, senders_at}
+use Rattle.line_laws.proofs.LineRuns.{AreLawful, lawful, rises_at, senders_at}
 use Rattle.line_laws.proofs.Readings.{network_ranges}
 use Rattle.line_laws.proofs.Running.{world_sized}
 use Rattle.line_laws.proofs.TagRuns.{start_tags}
 
-module _ (ciphers : Ciphers) (fits : KeepsRanges ciphers) where
-  -- # What the history has
+-- # What the history has
 
-  counts_from : (w : World) (entries : List Entry) → AreLawful ciphers w entries → CountsRight w entries
-  counts_from w [] l = tt
-  counts_from w (x ∷ xs) l = ((right_at ciphers fits w x l.0).adds, counts_from x.after xs l.1)
+module _ (ciphers : Ciphers) where
+  -- each event is one that lines can say, and what the history has of it is right
+  abbrev AreRight : World → List Entry → Type 0
+  AreRight w [] = Unit {0}
+  AreRight w (x ∷ xs) = IsEvent x.event × IsLineRight ciphers w x × AreRight x.after xs
 
-  traces_from : (w : World) (entries : List Entry) → AreLawful ciphers w entries → AreTracedRight w entries
-  traces_from w [] l = tt
-  traces_from w (x ∷ xs) l = ((right_at ciphers fits w x l.0).traced, traces_from x.after xs l.1)
+  right_from : (w : World) (entries : List Entry) → AreEvents (events_of entries) → IsRun ciphers w entries → AreRight w entries
+  right_from w [] says run = tt
+  right_from w (x ∷ xs) says run =
+      let event = All-head IsEvent x.event (events_of xs) says in
+      (event, line_traces_right ciphers w x event run.2, right_from x.after xs (All-tail IsEvent x.event (events_of xs) says) run.3)
 
-  forged_from : (w : World) (entries : List Entry) → AreLawful ciphers w entries → IsForgedRight ciphers w entries
-  forged_from w [] l = tt
-  forged_from w (x ∷ xs) l = ((right_at ciphers fits w x l.0).forged, forged_from x.after xs l.1)
+  all_right : (entries : List Entry) → IsLineRun ciphers entries → AreRight start entries
+  all_right entries r = right_from start entries r.events r.run
+
+  counts_from : (w : World) (entries : List Entry) → AreRight w entries → CountsRight w entries
+  counts_from w [] r = tt
+  counts_from w (x ∷ xs) r = (r.1.adds, counts_from x.after xs r.2)
+
+  traces_from : (w : World) (entries : List Entry) → AreRight w entries → AreTracedRight w entries
+  traces_from w [] r = tt
+  traces_from w (x ∷ xs) r = (r.1.traced, traces_from x.after xs r.2)
+
+  forged_from : (w : World) (entries : List Entry) → AreRight w entries → IsForgedRight ciphers w entries
+  forged_from w [] r = tt
+  forged_from w (x ∷ xs) r = (r.1.forged, forged_from x.after xs r.2)
 
   -- no datagram that was sent is empty
   abbrev HasOctets : Sending → Type 0
   HasOctets s = 0 < length s.datagram
 
-  sends_from : (w : World) (entries : List Entry) → AreLawful ciphers w entries → All HasOctets (sends_of entries)
-  sends_from w [] l = All-nil HasOctets
-  sends_from w (x ∷ xs) l = All-append HasOctets (one_of x.trace.sent) (sends_of xs)
-      (by_sent x.trace.sent (right_at ciphers fits w x l.0).traced.send l.0.says) (sends_from x.after xs l.1)
+  sends_from : (w : World) (entries : List Entry) → AreRight w entries → All HasOctets (sends_of entries)
+  sends_from w [] r = All-nil HasOctets
+  sends_from w (x ∷ xs) r = All-append HasOctets (one_of x.trace.sent) (sends_of xs)
+      (by_sent x.trace.sent r.1.traced.send r.0) (sends_from x.after xs r.2)
     where
       by_sent : (o : Option Sending) → IfSome o (IsSendOf w x.event) → IsEvent x.event → All HasOctets (one_of o)
       by_sent None h event = All-nil HasOctets
@@ -66,6 +81,7 @@ module _ (ciphers : Ciphers) (fits : KeepsRanges ciphers) where
           let is : IsEvent (events.Send s.from s.to s.datagram) = subst IsEvent h.fields event in
           All-push HasOctets [] s (All-nil HasOctets) is.2.0
 
+module _ (ciphers : Ciphers) (fits : KeepsRanges ciphers) where
   -- # What flies
 
   abbrev Spelled : Entry → Type 0
@@ -142,16 +158,16 @@ module _ (ciphers : Ciphers) (fits : KeepsRanges ciphers) where
 -- # Every run
 
 pub every_count : EveryCountIsRight
-every_count ciphers fits entries r fly = counts_from ciphers fits start entries (lawful ciphers fits entries r fly)
+every_count ciphers entries r = counts_from ciphers start entries (all_right ciphers entries r)
 
 pub every_trace : EveryTraceIsRight
-every_trace ciphers fits entries r fly = traces_from ciphers fits start entries (lawful ciphers fits entries r fly)
+every_trace ciphers entries r = traces_from ciphers start entries (all_right ciphers entries r)
 
 pub every_forgery : EveryForgeryIsTold
-every_forgery ciphers fits entries r fly = forged_from ciphers fits start entries (lawful ciphers fits entries r fly)
+every_forgery ciphers entries r = forged_from ciphers start entries (all_right ciphers entries r)
 
 pub every_send : EverySendHasOctets
-every_send ciphers fits entries r fly = sends_from ciphers fits start entries (lawful ciphers fits entries r fly)
+every_send ciphers entries r = sends_from ciphers start entries (all_right ciphers entries r)
 
 pub every_spelling : EveryFlightIsSpelled
 every_spelling ciphers fits entries r fly = spelled_from ciphers fits start (All-nil (IsSpelled ciphers)) entries (lawful ciphers fits entries r fly)

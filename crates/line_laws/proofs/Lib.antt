@@ -97,6 +97,7 @@ pub mod CustodyHomes
 pub mod CustodyRuns
 pub mod IssueCalls
 pub mod IssueWorlds
+pub mod ReceivedKeys
 pub mod IssueSteps
 pub mod IssueRuns
 pub mod AddressWorlds
@@ -129,7 +130,7 @@ pub mod ShutCalls
 pub mod ShutSteps
 pub mod KeysStood
 pub mod KickRuns
-pub mod RestartRuns
+pub mod RestartRoutes
 pub mod LaterSeals
 pub mod LaterKeeps
 pub mod LaterEnds
@@ -164,10 +165,19 @@ pub mod FurtherLive
 pub mod FurtherRight
 pub mod FurtherRestarts
 pub mod ReachSteps
+pub mod ReachWords
+pub mod ReachCame
+pub mod ReachTold
+pub mod CheckHistories
+pub mod CheckedRight
+pub mod StepsTaken
+pub mod OnePlan
+pub mod RepliesTaken
 pub mod ReachHistory
 pub mod ReachLogs
 pub mod OldUnits
 pub mod FlightsSay
+pub mod CommandTags
 pub mod CommandsCome
 pub mod SendsSay
 pub mod WalkRuns

@@ -17,7 +17,7 @@ use Rattle.line_rules.proofs.StepsOn.{line_steps}
 use Rattle.line_laws.specs.Keyed.{Keyed}
 use Rattle.line_laws.specs.Laws.{FlightsAreOctets, IsLineRun}
 use Rattle.line_laws.specs.FurtherLines.{LogsHold, RisesIn, StepHolds}
-use Rattle.line_laws.specs.LineAccounts.{BooksIn, BooksLater, FlightsEnd, IsLineRight, SealedOnce, SendersIn}
+use Rattle.line_laws.specs.LineAccounts.{BooksIn, BooksLater, FlightsEnd, SealedOnce, SendersIn}
 use Rattle.line_laws.specs.Lines.{FlightFits, WorldOk}
 use Rattle.line_laws.specs.Live.{MarksRise}
 use Rattle.line_laws.specs.Owed.{KeepsRanges}
@@ -25,7 +25,6 @@ use Rattle.line_laws.proofs.FurtherGrowth.{line_books_grow}
 use Rattle.line_laws.proofs.FurtherKeyed.{line_keyed}
 use Rattle.line_laws.proofs.FurtherLive.{line_flights_fall, line_follow, line_nodes_accept_once}
 use Rattle.line_laws.proofs.FurtherLogs.{line_logs_hold}
-use Rattle.line_laws.proofs.FurtherRight.{line_traces_right}
 use Rattle.line_laws.proofs.FurtherSenders.{line_senders_right}
 use Rattle.line_laws.proofs.FurtherSteps.{line_steps_hold}
 use Rattle.line_laws.proofs.FurtherTellings.{line_steps_rise}
@@ -76,9 +75,6 @@ module _ (ciphers : Ciphers) (fits : KeepsRanges ciphers) where
   module _ (w : World) (x : Entry) (l : Lawful ciphers w x) where
     pub on : GoesOn w x.after
     on = line_steps ciphers w x.after x.event x.trace l.step
-
-    pub right_at : IsLineRight ciphers w x
-    right_at = line_traces_right ciphers fits w l.before.ok l.before.flown l.before.logs x l.says l.step
 
     pub senders_at : All (HasSender x.after) (drop (length w.flights) x.after.flights)
     senders_at =

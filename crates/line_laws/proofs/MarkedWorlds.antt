@@ -496,7 +496,7 @@ module _ (w : World) (ok : WorldOk w) (flown_are : All FlightFits w.flights) (lo
   unfolding told
   marks_on event s (Fails e fault) = tt
   marks_on event s (Known e t other is nothing) = known_marks event s other is
-  marks_on event s (Rests e answer other nothing) = none (ran w, trace_of (happened w answer)) refl (at_none ups w held (ran w) refl (λ n. refl))
+  marks_on event s (Rests e answer idle other nothing) = none (ran w, trace_of (happened w answer)) refl (at_none ups w held (ran w) refl (λ n. refl))
   marks_on event s Opens = none (record (set_up w) { checks_on = true }, trace_of (happened w said.Set)) refl
       (at_none ups w held (record (set_up w) { checks_on = true }) refl (λ n. refl))
   marks_on event s (Bcasts number x datagram there are) =
@@ -512,7 +512,7 @@ module _ (w : World) (ok : WorldOk w) (flown_are : All FlightFits w.flights) (lo
       carried (chooses_by network w number x k (Some psk)).0 (chooses_by network w number x k (Some psk)).1 number x (Err choices.Halted)
       (λ y. choose_agent (identity network x psk) y k w.clock) refl there
       (λ m here. choice_marks ups number m (beside_at w number) (identity network x psk) (short number x m there here) k w.clock) refl refl
-  marks_on event s (Discovers e number x m octets link other there here comes is) =
+  marks_on event s (Discovers e number x m octets link other there here comes over is) =
       none (discovers_by w number x octets link (Some m)) refl (same_log number x
       (record (beside_at w number) { scan = (hear_discovery x.role m.station (beside_at w number).scan octets link).scan }) there refl
       (discovers_by w number x octets link (Some m)).0 refl refl)

@@ -496,7 +496,7 @@ pub record IsUntouched (w v : World) (t : Trace) : Type 0 where
   pub beside : (n : ℕ) → beside_at v n ≡ beside_at w n
   pub further : t.further ≡ nothing_further
 
-abbrev UntouchedIn : World → Step → Type 0
+abbrev pub UntouchedIn : World → Step → Type 0
 UntouchedIn w (Ok r) = IsUntouched w r.0 r.1
 UntouchedIn w (Err fault) = Unit {0}
 
@@ -579,7 +579,7 @@ module _ (ciphers : Ciphers) (w : World) (logs : LogsKept w) where
   unfolding told
   follows_history event s (Fails e fault) = tt
   follows_history event s (Known e t other is none) = untouched_follows event s other (untouched ciphers w event s is)
-  follows_history event s (Rests e answer other none) = still w (entry event _ _) other (λ n. refl) refl
+  follows_history event s (Rests e answer idle other none) = still w (entry event _ _) other (λ n. refl) refl
   follows_history event s Opens = still w (entry event _ _) (refl, λ n. refl) (λ n. refl) refl
   follows_history event s (Bcasts number x datagram there are) =
       at_one w (entry event _ _) (refl, λ n. refl) number _ (within number x there) refl
@@ -598,7 +598,7 @@ module _ (ciphers : Ciphers) (w : World) (logs : LogsKept w) where
       (plan_notes number w.clock x (beside_at w number) (Err choices.Halted) (λ y. choose_agent (identity ciphers x psk) y k w.clock) (λ _. None)
       (same_notes number w.clock (beside_at w number) (beside_at w number) refl refl)
       (λ m here. agent_notes number w.clock (beside_at w number) m (identity ciphers x psk) k w.clock))
-  follows_history event s (Discovers e number x m octets link other there here comes is) =
+  follows_history event s (Discovers e number x m octets link other there here comes over is) =
       at_one w (entry event _ _) other number _ (within number x there) refl
       (hears_notes number w.clock (beside_at w number) x.role m.station link (discovery_in octets))
   follows_history event s (Unbelieves e number x octets got a is) = still w (entry event _ _) a.other (λ n. refl) refl
@@ -662,7 +662,7 @@ nothing_scanned : scanning.after_history [] ≡ ended
 unfolding scanning.after_history
 nothing_scanned = refl
 
-start_history : IsOfHistory [] start
+pub start_history : IsOfHistory [] start
 start_history = record { checks = λ number. sym check_lemmas.nobody_at_the_start; scan = λ number. sym nothing_scanned }
 
 pub every_history : EveryHistoryIsKept

@@ -30,6 +30,7 @@ use Rattle.line_rules.specs.Further.{accepted_further, after_ok, asks_by, bcast,
 use Rattle.line_rules.specs.Logs.{LogsKept}
 use Rattle.line_rules.specs.Steps.{Step, happened, has_begun, heard, hears, in_setup, note_by, on_flight, on_meter, on_node, once_begun, psk_of, ran, set_up, takes_setup, tick, ticked, told, trace_of}
 use Rattle.line_rules.specs.Worlds.{World, Trace, Flight, flight_at, node_at}
+use Rattle.line_laws.specs.ReachTraces.{link_of}
 use Rattle.line_laws.proofs.FurtherSteps.{restarts_read}
 use Rattle.line_laws.proofs.Tellings.{IsBrought, IsStep, TurnsDown, step_is}
 
@@ -54,6 +55,13 @@ after_accepting ciphers x octets = (accepting ciphers x octets).node
 abbrev pub heard_node : Ciphers → World → Node → List ℕ → Accepted → ℕ → NodeStep Reception
 heard_node ciphers w x octets got cost = hears ciphers (after_accepting ciphers x octets) got cost (note_by w octets got.path) w.clock
 
+-- the words of a node that does nothing
+abbrev pub is_idle : Answer → Bool
+is_idle said.Halted = true
+is_idle said.NoAddress = true
+is_idle said.NoBeacon = true
+is_idle _ = false
+
 pub data IsReachStep (ciphers : Ciphers) (w : World) : Event → Step → Type 1 where
   -- the event is not taken
   Fails : (event : Event) (fault : StepFault) → IsReachStep ciphers w event (Err fault)
@@ -63,7 +71,8 @@ pub data IsReachStep (ciphers : Ciphers) (w : World) : Event → Step → Type 1
       → (accepting ciphers x octets).answer ≡ Ok got → ⊥)
       → IsReachStep ciphers w event s
   -- nothing is done
-  Rests : (event : Event) (answer : Answer) → IsOther event → ((number : ℕ) (octets : List ℕ) → Comes w event number octets → is_discovery octets ≡ false → ⊥)
+  Rests : (event : Event) (answer : Answer) → is_idle answer ≡ true → IsOther event
+      → ((number : ℕ) (octets : List ℕ) → Comes w event number octets → is_discovery octets ≡ false → ⊥)
       → IsReachStep ciphers w event (Ok (ran w, trace_of (happened w answer)))
   -- neighbours are checked from now on
   Opens : IsReachStep ciphers w events.Checks (Ok (record (set_up w) { checks_on = true }, trace_of (happened w said.Set)))
@@ -76,7 +85,7 @@ pub data IsReachStep (ciphers : Ciphers) (w : World) : Event → Step → Type 1
   Chooses : (number k : ℕ) (x : Node) (psk : Key) → node_at w number ≡ Some x → psk_of x ≡ Some psk
       → IsReachStep ciphers w (events.Choose number k) (Ok (chooses_by ciphers w number x k (Some psk)))
   Discovers : (event : Event) (number : ℕ) (x : Node) (m : Memory) (octets : List ℕ) (link : ℕ) → IsOther event → node_at w number ≡ Some x → x.memory ≡ Some m
-      → Comes w event number octets → is_discovery octets ≡ true
+      → Comes w event number octets → link_of event ≡ link → is_discovery octets ≡ true
       → IsReachStep ciphers w event (Ok (discovers_by w number x octets link (Some m)))
   -- a request of a listed neighbour
   Unbelieves : (event : Event) (number : ℕ) (x : Node) (octets : List ℕ) (got : Accepted) → IsAccepted ciphers w event number x octets got
@@ -165,7 +174,7 @@ module _ (ciphers : Ciphers) (w : World) (logs : LogsKept w) where
     where
       by_address : (x y : Node) → node_at w from ≡ Some x → node_at w to ≡ Some y → (o : Option ℕ) → node_address y ≡ o
           → Is (events.Path from to) (Ok (asks_by ciphers w from x o))
-      by_address x y there other None e = Rests _ said.NoAddress (refl, λ n. refl) (λ n ys c s. brought c)
+      by_address x y there other None e = Rests _ said.NoAddress refl (refl, λ n. refl) (λ n ys c s. brought c)
       by_address x y there other (Some target) e = Asks from to x y target there other e
 
   scan_step : (number : ℕ) → Is (events.Scan number) (scan w number)
@@ -173,7 +182,7 @@ module _ (ciphers : Ciphers) (w : World) (logs : LogsKept w) where
   scan_step number = once _ _ (at_meter _ number _ (λ x there. by_memory x there x.memory refl))
     where
       by_memory : (x : Node) → node_at w number ≡ Some x → (o : Option Memory) → x.memory ≡ o → Is (events.Scan number) (Ok (scans_by w number o))
-      by_memory x there None e = Rests _ said.Halted (refl, λ n. refl) (λ n ys c s. brought c)
+      by_memory x there None e = Rests _ said.Halted refl (refl, λ n. refl) (λ n ys c s. brought c)
       by_memory x there (Some m) e = Scans number x m there e
 
   choose_step : (number k : ℕ) → Is (events.Choose number k) (choose ciphers w number k)
@@ -181,7 +190,7 @@ module _ (ciphers : Ciphers) (w : World) (logs : LogsKept w) where
   choose_step number k = once _ _ (at_meter _ number _ (λ x there. by_key x there (psk_of x) refl))
     where
       by_key : (x : Node) → node_at w number ≡ Some x → (o : Option Key) → psk_of x ≡ o → Is (events.Choose number k) (Ok (chooses_by ciphers w number x k o))
-      by_key x there None e = Rests _ said.NoBeacon (refl, λ n. refl) (λ n ys c s. brought c)
+      by_key x there None e = Rests _ said.NoBeacon refl (refl, λ n. refl) (λ n ys c s. brought c)
       by_key x there (Some psk) e = Chooses number k x psk there e
 
   checks_step : Is events.Checks (checks w)
@@ -210,10 +219,10 @@ module _ (ciphers : Ciphers) (w : World) (logs : LogsKept w) where
   -- # Octets that come
 
   module _ (event : Event) (number : ℕ) (x : Node) (octets : List ℕ) (cost : ℕ) (other : IsOther event) (there : node_at w number ≡ Some x)
-      (says : IsEvent event) (comes_so : Comes w event number octets) (low : cost ≤ 255) where
+      (says : IsEvent event) (comes_so : Comes w event number octets) (low : cost ≤ 255) (over : link_of event ≡ cost) where
     discovers_step : is_discovery octets ≡ true → (o : Option Memory) → x.memory ≡ o → Is event (Ok (discovers_by w number x octets cost o))
-    discovers_step is None e = Rests event said.Halted other (λ n ys c s. cc (is, s, (same_comes w event number n octets ys comes_so c).1))
-    discovers_step is (Some m) e = Discovers event number x m octets cost other there e comes_so is
+    discovers_step is None e = Rests event said.Halted refl other (λ n ys c s. cc (is, s, (same_comes w event number n octets ys comes_so c).1))
+    discovers_step is (Some m) e = Discovers event number x m octets cost other there e comes_so over is
 
     accepted_step : is_discovery octets ≡ false → (got : Accepted) → (accepting ciphers x octets).answer ≡ Ok got
         → Is event (Ok (heard_further ciphers w number (after_accepting ciphers x octets) octets got cost))
@@ -263,13 +272,13 @@ module _ (ciphers : Ciphers) (w : World) (logs : LogsKept w) where
       → Is (events.Deliver flight number cost) (delivers ciphers w flight number cost)
   unfolding delivers
   delivers_step flight number cost says = once _ _ (at_node _ number _
-      (λ x hx. at_flight _ flight _ (λ f e. comes_step _ number x f.octets cost (refl, λ n. refl) hx says (OfFlight flight number cost f e) says.2.1)))
+      (λ x hx. at_flight _ flight _ (λ f e. comes_step _ number x f.octets cost (refl, λ n. refl) hx says (OfFlight flight number cost f e) says.2.1 refl)))
 
   injects_step : (number cost : ℕ) (octets : List ℕ) → IsEvent (events.Inject number cost octets)
       → Is (events.Inject number cost octets) (injects ciphers w number cost octets)
   unfolding injects
   injects_step number cost octets says = once _ _ (at_node _ number _ (λ x hx. comes_step _ number x octets cost (refl, λ n. refl) hx says
-      (OfScript number cost octets) says.1.1))
+      (OfScript number cost octets) says.1.1 refl))
 
   pub reach_step_is : (event : Event) → IsEvent event → IsReachStep ciphers w event (line_step ciphers w event)
   reach_step_is (events.Coordinator eui key) e = Known (events.Coordinator eui key) _ (refl, λ n. refl) (step_is ciphers w (events.Coordinator eui key) e)

@@ -689,7 +689,7 @@ module _ (w : World) (ok : WorldOk w) (s : WorldSpeaks w) (r : IsInRange w) (wal
   walks_on : (event : Event) (st : Step) → IsReachStep network w event st → WalksIn walked st
   walks_on event st (Fails e fault) = tt
   walks_on event st (Known e t other is none) = old_walk event st is (old_silent w event st is)
-  walks_on event st (Rests e answer other none) = λ honest. silent _ _ (record { path = refl; stepping = refl }) before
+  walks_on event st (Rests e answer idle other none) = λ honest. silent _ _ (record { path = refl; stepping = refl }) before
   walks_on event st Opens = λ honest. silent _ _ (record { path = refl; stepping = refl }) before
   walks_on event st (Bcasts number x datagram there are) = λ honest. silent _ _ (record { path = refl; stepping = refl })
       (told_says P (ran w) number (reaches x (beside_at w number) (Err broadcast_faults.Halted) (λ y. broadcast in_memory y datagram))
@@ -711,7 +711,7 @@ module _ (w : World) (ok : WorldOk w) (s : WorldSpeaks w) (r : IsInRange w) (wal
       let d = reaches x (beside_at w number) (Err choices.Halted) (λ y. choose_agent (identity network x psk) y k w.clock) in
       silent _ _ (record { path = refl; stepping = refl }) (told_as_before P any (ran w) number d (r.sends.choices number k x psk there pair)
       (choice_old x (beside_at w number) (identity network x psk) k w.clock) before)
-  walks_on event st (Discovers e number x m octets link other there here comes is) = λ honest.
+  walks_on event st (Discovers e number x m octets link other there here comes over is) = λ honest.
       discovered_walks number discovery_word (beacon_taken number (discovery_in octets) link)
       (hear_discovery x.role m.station (beside_at w number).scan octets link)
   walks_on event st (Unbelieves e number x octets got a is) = λ honest. silent _ _ (record { path = refl; stepping = refl })

@@ -20,27 +20,24 @@ pub record IsLineRun (ciphers : Ciphers) (entries : List Entry) : Type 0 where
 abbrev pub FlightsAreOctets : List Entry → Type 0
 FlightsAreOctets entries = All (λ (x : Entry). All (λ (f : Flight). AreOctets f.octets) x.after.flights) entries
 
--- # The history and the report
+-- # The history and the report, whatever the ciphers are
 
 -- the counts of each world are those of its history
 abbrev pub EveryCountIsRight : Type 0
-EveryCountIsRight =
-    (ciphers : Ciphers) → KeepsRanges ciphers → (entries : List Entry) → IsLineRun ciphers entries
-    → FlightsAreOctets entries → CountsRight start entries
+EveryCountIsRight = (ciphers : Ciphers) (entries : List Entry) → IsLineRun ciphers entries → CountsRight start entries
 
 -- the history has of each event what the report says
 abbrev pub EveryTraceIsRight : Type 0
-EveryTraceIsRight =
-    (ciphers : Ciphers) → KeepsRanges ciphers → (entries : List Entry) → IsLineRun ciphers entries
-    → FlightsAreOctets entries → AreTracedRight start entries
+EveryTraceIsRight = (ciphers : Ciphers) (entries : List Entry) → IsLineRun ciphers entries → AreTracedRight start entries
 
 -- exactly forged events are reported to be forged
 abbrev pub EveryForgeryIsTold : Type 0
-EveryForgeryIsTold =
-    (ciphers : Ciphers) → KeepsRanges ciphers → (entries : List Entry) → IsLineRun ciphers entries
-    → FlightsAreOctets entries → IsForgedRight ciphers start entries
+EveryForgeryIsTold = (ciphers : Ciphers) (entries : List Entry) → IsLineRun ciphers entries → IsForgedRight ciphers start entries
 
--- each flight with a key is a sealed frame under it, and each other one a plain frame or one of discovery
+-- # What flies
+
+-- each flight with a key is a sealed frame under it, and each other one a plain frame or one of discovery; so its address and cost are in their ranges,
+-- which other ciphers keep only where they keep ranges
 abbrev pub EveryFlightIsSpelled : Type 0
 EveryFlightIsSpelled =
     (ciphers : Ciphers) → KeepsRanges ciphers → (entries : List Entry) → IsLineRun ciphers entries

@@ -26,3 +26,7 @@ pub mod FurtherLines
 pub mod FurtherState
 pub mod LineAccounts
 pub mod Reach
+pub mod ReachTraces
+pub mod CheckHistories
+pub mod StepsTaken
+pub mod OnePlan

@@ -130,10 +130,10 @@ pub record IsLineRight (ciphers : Ciphers) (w : World) (x : Entry) : Type 0 wher
   pub traced : IsTracedRight w x
   pub forged : (x.trace.happened.forged ≡ true) ↔ IsForged ciphers w x.event x.trace.opened
 
+-- whatever the ciphers are, and in any world
 abbrev pub LineTracesRight : Type 0
 LineTracesRight =
-    (ciphers : Ciphers) → KeepsRanges ciphers → (w : World) → WorldOk w → All FlightFits w.flights → LogsKept w
-    → (x : Entry) → IsEvent x.event → line_step ciphers w x.event ≡ Ok (x.after, x.trace) → IsLineRight ciphers w x
+    (ciphers : Ciphers) (w : World) (x : Entry) → IsEvent x.event → line_step ciphers w x.event ≡ Ok (x.after, x.trace) → IsLineRight ciphers w x
 
 -- # Restarts
 

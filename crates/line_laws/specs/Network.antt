@@ -10,11 +10,14 @@ use Rattle.line_rules.specs.Runs.{Entry, IsRun}
 use Rattle.line_rules.specs.SafeRuns.{IsAlwaysSized, IsSafe, RestartsAreAnswered}
 use Rattle.line_rules.specs.Traces.{CountsRight, AreTracedRight}
 use Rattle.line_rules.specs.Worlds.{World, Flight, start}
+use Rattle.line_laws.specs.CheckHistories.{AreCheckedRight}
 use Rattle.line_laws.specs.Live.{MarksAlwaysRise, FlightsAlwaysFall}
 use Rattle.line_laws.specs.Once.{AcceptsOnce, AcceptedOnce}
 use Rattle.line_laws.specs.Issued.{IsIssuedAfter}
 use Rattle.line_laws.specs.Laws.{IsLineRun, FlightsAreOctets}
 use Rattle.line_laws.specs.Loops.{AreLoopFree, RestartsEndRoutes}
+use Rattle.line_laws.specs.ReachTraces.{AreReachTold, ListsBroadcasts}
+use Rattle.line_laws.specs.StepsTaken.{AreStepsTaken}
 use Rattle.line_laws.specs.Tags.{SendsHaveOctets, TagsRise}
 use Rattle.line_laws.specs.Ups.{UpsAreSentAfter}
 
@@ -52,6 +55,10 @@ pub record IsRight (entries : List Entry) : Type 0 where
   pub logs : LogsAlwaysKept entries
   pub broadcasts : AreBroadcastOnce entries
   pub walks : AreWalked entries
+  pub told : AreReachTold start entries
+  pub listed : ListsBroadcasts entries
+  pub checked : AreCheckedRight entries
+  pub steps : AreStepsTaken start entries
 
 -- so it is of every run of the network
 abbrev pub EveryNetworkRunIsRight : Type 0

@@ -27,11 +27,9 @@ EveryTagRises =
 abbrev pub SendsHaveOctets : List Entry → Type 0
 SendsHaveOctets entries = All (λ (s : Sending). 0 < length s.datagram) (sends entries)
 
--- so it is of every run, forged or not
+-- so it is of every run, forged or not, whatever the ciphers are
 abbrev pub EverySendHasOctets : Type 0
-EverySendHasOctets =
-    (ciphers : Ciphers) → KeepsRanges ciphers → (entries : List Entry) → IsLineRun ciphers entries
-    → FlightsAreOctets entries → SendsHaveOctets entries
+EverySendHasOctets = (ciphers : Ciphers) (entries : List Entry) → IsLineRun ciphers entries → SendsHaveOctets entries
 
 -- # What holds of them in a world
 

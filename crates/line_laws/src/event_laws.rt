@@ -2,6 +2,7 @@
 ghost use Rattle.line_laws.specs.FurtherLines.{CallsKeepAll, CallsKeepTheLine, CommandsFit, CommandsKeepTheLine, DiscoveryKeepsTheLine, LineLogsHold, LineStepsHold, LineStepsRise, LineStepsSpell, LinesSpellBeacons, LogsFit, TablesAreShort};
 ghost use Rattle.line_laws.specs.Later.{BesideKeeps, CommandsMayBeSealed, DiscoveringKeeps, JoinedNodesSeal, KeepsInTurn, OthersMayNot, PlainKeeps, PlansSplit, RunningKeeps, SealingKeeps, StartHolds, StoringKeeps, UnsentHolds};
 ghost use Rattle.line_laws.specs.LineAccounts.{LineBooksGrow, LineFlightsFall, LineKicksShut, LineNodesAcceptOnce, LineRestartsAreRight, LineSendersAreRight, LineStepsShut, LineTagsRise, LineTracesRight};
+ghost use Rattle.line_laws.specs.OnePlan.{AcknowledgesInTurn, ChecksInTurn, CommandsInTurn, OthersInTurn, RepliesTakenAlike};
 
 /// Where a node seals a command alone of code 03, 04 or 05, under note 0 and with its next counter, as it seals each of its commands, all is
 /// kept that the laws rest on: no mark and no stored rank falls, no flight comes to life, and the flight has the address of its node. A
@@ -21,6 +22,39 @@ pub fn storing_keeps()
 #[tactic(auto)]
 pub fn plans_split<A>()
     ensures { PlansSplit A }
+{}
+
+/// A node that hears a reply and acknowledges it by one plan does the same as one that hears it and then acknowledges it, whichever write fails:
+/// it is left the same, and sends both, or nothing where a write failed.
+#[tactic(auto)]
+pub fn acknowledges_in_turn<A>()
+    ensures { AcknowledgesInTurn A }
+{}
+
+/// A command for the neighbours is heard by the one plan of a node with further reach as by the two moves of a line, of which the first leaves the
+/// node as it is.
+#[tactic(auto)]
+pub fn commands_in_turn<H>()
+    ensures { CommandsInTurn H }
+{}
+
+/// Where checks are off, every other frame is heard by that one plan as by the first move of a line alone.
+#[tactic(auto)]
+pub fn others_in_turn<H>()
+    ensures { OthersInTurn H }
+{}
+
+/// Where checks are on, the one plan drops a request of a listed neighbour and leaves the node as it is, and hears every other frame that carries no
+/// command by its own rule, which is followed by the acknowledgement of a reply that was taken.
+#[tactic(auto)]
+pub fn checks_in_turn<H>()
+    ensures { ChecksInTurn H }
+{}
+
+/// The replies that a line acknowledges, answered Learned or Relayed, are those that the plan acknowledges: those that their own rule did not refuse.
+#[tactic(auto)]
+pub fn replies_are_taken_alike()
+    ensures { RepliesTakenAlike }
 {}
 
 /// Where a frame of discovery flies, all of this is kept too.
@@ -176,7 +210,7 @@ pub fn line_nodes_accept_once()
     ensures { LineNodesAcceptOnce }
 {}
 
-/// What the history has of an event of such a line is what the report says of it, the counts of the world are those of its history, and an event
+/// Whatever the ciphers are, what the history has of an event is what the report says of it, the counts of the world are those of its history, and an event
 /// is told to be forged exactly where it is. Of a broadcast, whose word is that of a send, the history has no send.
 #[tactic(auto)]
 pub fn line_traces_are_right()

@@ -1,4 +1,5 @@
 //! Laws of the runs: each carried by a function that does nothing.
+ghost use Rattle.line_laws.specs.CheckHistories.{EveryCheckIsRight};
 ghost use Rattle.line_laws.specs.FurtherLines.{EveryRunHolds};
 ghost use Rattle.line_laws.specs.FurtherState.{EveryIssuedKeyStood, EveryRunIsRanged};
 ghost use Rattle.line_laws.specs.Issued.{EveryJoiningAgrees, OnlyIssuedKeys};
@@ -10,6 +11,8 @@ ghost use Rattle.line_laws.specs.Network.{EveryNetworkRunIsRight, EveryRunIsSafe
 ghost use Rattle.line_laws.specs.Once.{EveryFrameIsAcceptedOnce, EveryNodeAcceptsOnce};
 ghost use Rattle.line_laws.specs.Owed.{KeepsRanges};
 ghost use Rattle.line_laws.specs.Reach.{EveryBroadcastIsOnce, EveryHistoryIsKept, EveryLogIsKept, EveryWalkWasTaken};
+ghost use Rattle.line_laws.specs.ReachTraces.{EveryBroadcastIsListed, EveryEventIsTold};
+ghost use Rattle.line_laws.specs.StepsTaken.{EveryStepIsTaken};
 ghost use Rattle.line_laws.specs.Tags.{EverySendHasOctets, EveryTagRises};
 ghost use Rattle.line_laws.specs.Ups.{EveryDatagramWasSent};
 ghost use Rattle.node_rules.specs.Ciphers.{OpensWhatItSeals, network};
@@ -65,7 +68,7 @@ pub fn every_tag_rises()
     ensures { EveryTagRises }
 {}
 
-/// In every run, forged or not, no datagram that was sent is empty.
+/// In every run, forged or not, whatever the ciphers are, no datagram that was sent is empty.
 #[tactic(auto)]
 pub fn every_send_has_octets()
     ensures { EverySendHasOctets }
@@ -109,21 +112,21 @@ pub fn every_joining_agrees()
     ensures { EveryJoiningAgrees }
 {}
 
-/// In every run, forged or not, the world counts events, sends, datagrams that were handed up, forged events, joinings, flights and
+/// In every run, forged or not, whatever the ciphers are, the world counts events, sends, datagrams that were handed up, forged events, joinings, flights and
 /// pair tags as its history has them.
 #[tactic(auto)]
 pub fn every_count_is_right()
     ensures { EveryCountIsRight }
 {}
 
-/// In every run, forged or not, the history has a send, a datagram that was handed up, a grant that was taken, issued keys or a
+/// In every run, forged or not, whatever the ciphers are, the history has a send, a datagram that was handed up, a grant that was taken, issued keys or a
 /// joining that is done exactly where the answer of the event says so; a broadcast, which is answered as a send, is none.
 #[tactic(auto)]
 pub fn every_trace_is_right()
     ensures { EveryTraceIsRight }
 {}
 
-/// In every run exactly those events are reported to be forged in which a node accepted octets that no node sent under their key, or
+/// In every run, whatever the ciphers are, exactly those events are reported to be forged in which a node accepted octets that no node sent under their key, or
 /// found a pair tag right that no node made.
 #[tactic(auto)]
 pub fn every_forgery_is_told()
@@ -226,6 +229,37 @@ pub fn every_walk_was_taken()
 #[tactic(auto)]
 pub fn every_broadcast_is_once()
     ensures { EveryBroadcastIsOnce }
+{}
+
+/// In every run of the network, forged or not, over restarts and failed writes, what the history and the report have of further reach is there
+/// exactly where the answer of its event says so: a broadcast where a `bcast` line was answered Sent, of its node and with its datagram; a broadcast
+/// that is handed up and a walk that is reported at the answers Bup and Path, with what came in the frame that was accepted; an acknowledgement, a
+/// beacon and a scan at Acked, Beaconed and Scanning, with the frame that came; and a reply that begins a check is one of the flights of its event.
+#[tactic(auto)]
+pub fn every_event_is_told()
+    ensures { EveryEventIsTold }
+{}
+
+/// In every run of the network the history lists exactly the broadcasts that `bcast` lines sent, each once and in their order.
+#[tactic(auto)]
+pub fn every_broadcast_is_listed()
+    ensures { EveryBroadcastIsListed }
+{}
+
+/// In every run of the network, forged or not, over restarts and failed writes, an event is answered Blacklisted exactly where checks are on and a
+/// request came of a neighbour that the history of its node lists, Acked only where the history has an open check of the reply that was acknowledged,
+/// and NotAwaited only where it has none.
+#[tactic(auto)]
+pub fn every_check_is_right()
+    ensures { EveryCheckIsRight }
+{}
+
+/// In every run of the network, forged or not, over restarts and failed writes, each step of an ask that the history has was taken by a node of the
+/// address that the step names, whose valid next hop to the target it leads to; a `path` line had asked it, or it had accepted the ask in a frame to it
+/// alone, from the neighbour that is the last of the ask's walk.
+#[tactic(auto)]
+pub fn every_step_is_taken()
+    ensures { EveryStepIsTaken }
 {}
 
 /// Every run of the network is safe before its first forged event: each datagram that is handed up was sent to that node before, with the

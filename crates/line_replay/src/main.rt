@@ -6,8 +6,6 @@ mod replay;
 mod report;
 mod show;
 mod status;
-#[cfg(test)]
-mod tests;
 mod tool;
 
 use plc_base::{StdSink, StdSource};

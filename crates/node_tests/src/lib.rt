@@ -1,17 +1,10 @@
-//! Tests of stations, of meters, of the coordinator, of sessions and of what they gather, through what their crates make public.
+//! Tests of what no script shows: a coordinator that opens over a store that has records, or whose first put fails, and a piece that is longer
+//! than a frame.
 //!
-//! They stand apart from those crates, since the gate proves a crate once more where it has tests of its own.
+//! They stand apart from the crates that they test, since the gate proves a crate once more where it has tests of its own.
 #![tactic(auto)]
 
 #[cfg(test)]
 mod coordinators;
 #[cfg(test)]
-mod meters;
-#[cfg(test)]
-mod random_values;
-#[cfg(test)]
 mod reassemblies;
-#[cfg(test)]
-mod sessions;
-#[cfg(test)]
-mod stations;

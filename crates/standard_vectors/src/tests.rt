@@ -22,19 +22,6 @@ fn cipher(key: &str) -> Result<Aes, Fail> {
     Ok(Aes::new(&Key(<[u8; 16]>::from_hex(key)?)))
 }
 
-#[test]
-fn the_text_is_that_of_the_standards(rt: HostRuntime) {
-    assert_eq!(rt;
-        vectors_text().octets(),
-        b"aes128 69c4e0d86a7b0430d8cdb78070b4c55a\n\
-cmac0 bb1d6929e95937287fa37d129b756746\n\
-cmac16 070a16b46b4d4144f79bdd9dd04a287c\n\
-eax0 e037830e8389f27b025a2d6527e79d01\n\
-ccm1 588c979a61c663d2f066d0c2c0f989806d5f6b61dac38417e8d12cfdf926e0\n"
-            .as_slice()
-    );
-}
-
 /// FIPS 197, appendices B and C.1.
 #[test]
 fn blocks_of_fips_197(rt: HostRuntime) -> Result<(), Fail> {

@@ -1,4 +1,4 @@
-//! Chains side by side in one pool: the ends of its ranges, octets across the ends of blocks, chains given back in another order.
+//! Chains side by side in one pool: octets across the ends of blocks, chains given back in another order.
 ghost use Rattle.std.specs.Prelude.{◌≡◌, ◌≤◌, ◌<◌, ◌+◌, ℕ, length, IfOk};
 ghost use Rattle.block_pool.specs.Pool.{IsChain, chain_octets};
 
@@ -34,36 +34,6 @@ fn three_blocks(rt: HostRuntime) -> Result<(), Fail> {
     Ok(())
 }
 
-// How many of 1,024 blocks are free beside a chain of so many octets.
-const SIZES: [(u16, u16); 8] = [
-    (1, 1023),
-    (63, 1023),
-    (64, 1023),
-    (65, 1022),
-    (128, 1022),
-    (129, 1021),
-    (1279, 1004),
-    (1280, 1004),
-];
-
-#[test]
-fn blocks_are_taken_and_given_back(rt: HostRuntime) -> Result<(), Fail> {
-    let mut pool = Pool::new(rt.alloc(), 1024)?;
-    for (octets, free) in SIZES {
-        if octets < 1 || octets > 1280 {
-            continue;
-        }
-        let chain = chain_of(&mut pool, octets)?;
-        assert_eq!(rt; pool.free_blocks(), free, "{octets}");
-        pool.give_back(chain);
-        assert_eq!(rt; pool.free_blocks(), 1024, "{octets}");
-    }
-    Ok(())
-}
-
-// Four octets written into zeros at a place, and the six octets from one place before it on.
-const ACROSS: [u16; 6] = [1, 60, 61, 63, 64, 125];
-
 // Writes four octets into a chain of 192 zeros, and reads them with their neighbours.
 fn around(pool: &mut Pool, chain: &Chain, at: u16) -> [u8; 6]
     requires long { length (chain_octets pool.old chain.now) ≡ 192 }
@@ -75,19 +45,6 @@ fn around(pool: &mut Pool, chain: &Chain, at: u16) -> [u8; 6]
     let mut octets = [9; 6];
     pool.read_at(chain, at - 1, &mut octets);
     octets
-}
-
-#[test]
-fn octets_stand_across_the_ends_of_blocks(rt: HostRuntime) -> Result<(), Fail> {
-    for at in ACROSS {
-        if at < 1 || at > 187 {
-            continue;
-        }
-        let mut pool = Pool::new(rt.alloc(), 3)?;
-        let chain = chain_of(&mut pool, 192)?;
-        assert_eq!(rt; around(&mut pool, &chain, at), [0, 1, 2, 3, 4, 0], "{at}");
-    }
-    Ok(())
 }
 
 #[test]

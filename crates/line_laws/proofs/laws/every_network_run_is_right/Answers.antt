@@ -1,5 +1,6 @@
 -- Each law, for the network's ciphers, which keep the ranges, and its flights, which are octets.
 use Rattle.node_rules.specs.Ciphers.{network}
+use Rattle.line_laws.proofs.CheckedRight.{every_check}
 use Rattle.line_laws.proofs.FurtherLoops.{every_run as loop_free}
 use Rattle.line_laws.proofs.FurtherOctets.{every_flight}
 use Rattle.line_laws.proofs.FurtherRestarts.{every_size}
@@ -12,8 +13,10 @@ use Rattle.line_laws.proofs.OnceRuns.{every_frame, every_node}
 use Rattle.line_laws.proofs.ReachHistory.{every_history}
 use Rattle.line_laws.proofs.ReachLogs.{every_log}
 use Rattle.line_laws.proofs.ReachRuns.{every_broadcast, every_walk}
+use Rattle.line_laws.proofs.ReachTold.{every_list, every_told}
 use Rattle.line_laws.proofs.Readings.{network_ranges}
 use Rattle.line_laws.proofs.SafeRun.{every_safe}
+use Rattle.line_laws.proofs.StepsTaken.{every_step}
 use Rattle.line_laws.proofs.laws.every_network_run_is_right.Goals as goal
 
 pub returns : goal.returns
@@ -35,15 +38,19 @@ returns c = λ entries run. record {
   keys = only_issued network network_ranges entries run (every_flight entries run);
   kicked = every_kick entries run;
   routes = loop_free entries run;
-  counted = every_count network network_ranges entries run (every_flight entries run);
-  traced = every_trace network network_ranges entries run (every_flight entries run);
+  counted = every_count network entries run;
+  traced = every_trace network entries run;
   tags = every_tag network network_ranges entries run (every_flight entries run);
-  some = every_send network network_ranges entries run (every_flight entries run);
+  some = every_send network entries run;
   ups = every_up entries run;
   safe = every_safe entries run;
-  forged = every_forgery network network_ranges entries run (every_flight entries run);
+  forged = every_forgery network entries run;
   histories = every_history entries run;
   logs = every_log entries run;
   broadcasts = every_broadcast entries run;
   walks = every_walk entries run;
+  told = every_told entries run;
+  listed = every_list entries run;
+  checked = every_check entries run;
+  steps = every_step entries run;
 }
