@@ -25,7 +25,7 @@ use Rattle.line_rules.specs.Answers.{command_word}
 use Rattle.line_rules.specs.Further.{without_log, broadcast_up, path_line, reaches, beside_after}
 use Rattle.line_world.specs.declared.nodes.command.CommandRef.{CommandRef}
 use Rattle.line_world.specs.declared.nodes.command.Commanded.{Commanded}
-use Rattle.line_world.specs.declared.nodes.station_further.BroadcastRef.{BroadcastRef}
+use Rattle.line_world.specs.declared.nodes.station_broadcasts.BroadcastRef.{BroadcastRef}
 use Rattle.line_world.specs.declared.nodes.station_further.PathHeard.{PathHeard}
 use Rattle.line_world.specs.declared.nodes.station_further.PathHeard.TheVariants as paths
 use Rattle.line_world.specs.Doings.{Did, Took, given_by}

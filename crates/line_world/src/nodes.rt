@@ -19,9 +19,11 @@ mod meters;
 mod ordering;
 mod reception;
 mod setting;
+mod station_broadcasts;
 mod station_calls;
 mod station_further;
 mod station_steps;
+mod tables;
 mod telling;
 mod time;
 

@@ -19,7 +19,8 @@ use crate::nodes::Nodes;
 use crate::nodes::command::{CommandRef, Commanded};
 use crate::nodes::line_coordinator::LineCoordinator;
 use crate::nodes::meters::Meters;
-use crate::nodes::station_further::{acknowledge_at, ask_at, broadcast_at, hear_command_at};
+use crate::nodes::station_broadcasts::broadcast_at;
+use crate::nodes::station_further::{acknowledge_at, ask_at, hear_command_at};
 use broadcast_log::BroadcastLog;
 use line_rules::Answer;
 use node_rules::{LocalRefusal, Reply};
@@ -34,12 +35,6 @@ fn coordinator() -> Short
         unreachable!()
     };
     address
-}
-
-fn scratch(x: u8) -> u8
-    ensures { result ≡ x }
-{
-    x
 }
 
 // The cost of a route.

@@ -1,11 +1,7 @@
-//! What a station does about broadcasts, path requests and acknowledgements, halted or not.
-ghost use Rattle.std.specs.Prelude.{◌≡◌, ◌≢◌, ◌<◌, ◌≤◌, ◌∷◌, [], false, length, is_some, Ok, Err, Some, None, IfNone, IfSome, IfOk, IsSome, if◌then◌else◌};
+//! What a station does about path requests, acknowledgements and the commands that it hears, halted or not.
+ghost use Rattle.std.specs.Prelude.{◌≡◌, ◌≢◌, ◌<◌, ◌≤◌, ◌∷◌, [], length, is_some, Ok, Err, Some, None, IfNone, IfSome, IfOk, IsSome, if◌then◌else◌};
 ghost use Rattle.std.specs.Option.{option_map};
-ghost use Rattle.broadcast_log.specs.Grammar.{spelling};
-ghost use Rattle.broadcast_log.specs.Log.{empty_log, IsKept, numbered_log, admitted_log};
-ghost use Rattle.broadcast_log.specs.NextNumber.{is_spent, number_put};
-ghost use Rattle.broadcast_log.specs.OriginMarks.{keep_write, room_for};
-ghost use Rattle.broadcast_log.specs.Reading as broadcasts;
+ghost use Rattle.broadcast_log.specs.Log.{empty_log, IsKept};
 ghost use Rattle.node_rules.specs.declared.refusal.Dropped.TheVariants as drops;
 ghost use Rattle.node_rules.specs.Agreement.{Agrees};
 ghost use Rattle.node_rules.specs.Carrying.{nothing};
@@ -15,27 +11,26 @@ ghost use Rattle.node_rules.specs.Neighbours.{CarriesAfter};
 ghost use Rattle.node_rules.specs.Neighbours as local;
 ghost use Rattle.path_requests.specs.Messages.{IsPath, path_spelling};
 ghost use Rattle.path_requests.specs.Taking.{IsStep};
-ghost use Rattle.plc_base.specs.Keeper.{Stores};
 ghost use Rattle.reach_rules.specs.declared.heard.CommandHeard.TheVariants as commands;
 ghost use Rattle.reach_rules.specs.declared.refusal.ReachDropped.TheVariants.{Known};
-ghost use Rattle.reach_rules.specs.Broadcasts as broadcast_rules;
 ghost use Rattle.reach_rules.specs.CheckedReplies as reply_rules;
 ghost use Rattle.reach_rules.specs.PathAsking as path_rules;
 ghost use Rattle.reach_rules.specs.Receiving as command_rules;
 ghost use Rattle.line_rules.specs.Answers.{reach_drop_word};
-ghost use Rattle.line_world.specs.Reaching.{EndsCheck, Reaches, ReachesCommand, ReachesFirst, TellsCommand, answer_as, broadcast_of, command_of, handed_up, path_heard, told_after};
+ghost use Rattle.line_world.specs.Reaching.{EndsCheck, Reaches, ReachesCommand, ReachesFirst, TellsCommand, answer_as, command_of, path_heard, told_after};
 
 use crate::beside::Beside;
 use crate::nodes::command::{CommandRef, Commanded};
+use crate::nodes::station_broadcasts::broadcast_command;
 use crate::nodes::telling::drop_word;
-use broadcast_log::{BroadcastLog, LogFault, read_broadcast};
-use line_rules::{Answer, BroadcastUp, PathLine};
+use broadcast_log::BroadcastLog;
+use line_rules::{Answer, PathLine};
 use neighbour_checks::{Checks, read_ack, write_ack};
 use node_rules::{Dropped, LocalRefusal, Reply};
 use path_requests::{PathMessage, PathRefusal, PathStep, Walk, read_path, take_path, write_path};
-use plc_base::{FrameBuf, MemKeeper, OctetRef, Out, Short};
+use plc_base::{FrameBuf, MemKeeper, Out, Short};
 use plc_station::Station;
-use reach_rules::{AskRefusal, BroadcastRefusal, ReachDropped};
+use reach_rules::{AskRefusal, ReachDropped};
 
 // # Commands that go out
 
@@ -49,7 +44,7 @@ fn forget_if_halted(station: &Station<MemKeeper>, log: &mut BroadcastLog)
 }
 
 // A command goes to a neighbour, or to all where `to` is None, after the frames that `out` has.
-fn tell(
+pub(crate) fn tell(
     station: &mut Station<MemKeeper>,
     log: &mut BroadcastLog,
     code: u8,
@@ -73,116 +68,6 @@ fn tell(
     let sent = station.send_local(code, to, body, out);
     forget_if_halted(station, log);
     sent
-}
-
-// Writes the body of a broadcast.
-fn write_broadcast(hops: u8, origin: Short, number: u32, octets: &[u8], out: &mut FrameBuf)
-    requires { length octets.now ≤ 360 }
-    ensures { out.new ≡ spelling (record { hops = hops; origin = origin; number = number; octets = octets.now }) }
-{
-    out.clear();
-    out.push(hops);
-    out.push_be_u16(origin.number());
-    out.push(0x50);
-    out.push((number % 256) as u8);
-    out.push_be_u32(number);
-    out.append(octets);
-}
-
-// # Broadcasts of its own
-
-// The number of the next own broadcast. Where it can't be stored, the station is halted and the log is empty.
-fn take_number(station: &mut Station<MemKeeper>, log: &mut BroadcastLog) -> Option<u32>
-    requires kept { IsKept log.old station.old.store.records }
-    requires left { is_spent log.old.numbering ≡ false }
-    requires running { IsSome station.old.memory }
-    requires agrees { Agrees station.old }
-    ensures number { IfSome result (λ number. number ≡ log.old.numbering.next) }
-    ensures log { log.new ≡ (if is_some result then numbered_log log.old else empty_log) }
-    ensures stores { Stores station.old.store (number_put log.old.numbering) (is_some result) station.new.store }
-    ensures station { station.new ≡ record station.old {
-      store = station.new.store;
-      memory = if is_some result then station.old.memory else None;
-    } }
-    ensures agrees { Agrees station.new }
-{
-    let Ok(number) = log.next(station.keeper_mut()) else {
-        station.halt();
-        *log = BroadcastLog::new();
-        return None;
-    };
-    Some(number)
-}
-
-// How an own broadcast ended.
-fn broadcast_sent(sent: Result<(), LocalRefusal>) -> Result<(), BroadcastRefusal>
-    ensures { result ≡ told_after BroadcastRefusal.CounterSpent BroadcastRefusal.Store sent }
-{
-    match sent {
-        Ok(()) => Ok(()),
-        Err(LocalRefusal::CounterSpent) => Err(BroadcastRefusal::CounterSpent),
-        Err(LocalRefusal::Store) => Err(BroadcastRefusal::Store),
-    }
-}
-
-// A datagram goes to all, from this address.
-fn broadcast_from(
-    own: Short,
-    station: &mut Station<MemKeeper>,
-    beside: &mut Beside,
-    datagram: &[u8],
-    room: &mut FrameBuf,
-    out: &mut Out,
-) -> Result<(), BroadcastRefusal>
-    requires running { IsSome station.old.memory }
-    requires own { IfSome station.old.memory (λ l. address_of l ≡ Some own) }
-    requires agrees { Agrees station.old }
-    requires kept { IsKept beside.old.log station.old.store.records }
-    requires empty { out.old ≡ nothing }
-    ensures reaches { ReachesFirst station.old beside.old (Err BroadcastRefusal.Halted)
-        (λ y. broadcast_rules.broadcast_from alone y own datagram.now) result out.new station.new beside.new }
-    ensures agrees { Agrees station.new }
-{
-    if datagram.is_empty() || datagram.len() > 360 {
-        return Err(BroadcastRefusal::BadSize);
-    }
-    if beside.log.number_left() == 0 {
-        return Err(BroadcastRefusal::NumberSpent);
-    }
-    if station.counters_left() == 0 {
-        return Err(BroadcastRefusal::CounterSpent);
-    }
-    let Some(number) = take_number(station, &mut beside.log) else {
-        out.clear();
-        return Err(BroadcastRefusal::Store);
-    };
-    write_broadcast(14, own, number, datagram, room);
-    let sent = tell(station, &mut beside.log, 4, None, room.octets(), out);
-    broadcast_sent(sent)
-}
-
-// A datagram goes to all. `room` is overwritten, and what goes out is in `out`.
-pub(crate) fn broadcast_at(
-    station: &mut Station<MemKeeper>,
-    beside: &mut Beside,
-    datagram: &[u8],
-    room: &mut FrameBuf,
-    out: &mut Out,
-) -> Result<(), BroadcastRefusal>
-    requires agrees { Agrees station.old }
-    requires kept { IfSome station.old.memory (λ _. IsKept beside.old.log station.old.store.records) }
-    ensures reaches { ReachesFirst station.old beside.old (Err BroadcastRefusal.Halted)
-        (λ y. broadcast_rules.broadcast alone y datagram.now) result out.new station.new beside.new }
-    ensures agrees { Agrees station.new }
-{
-    out.clear();
-    if station.halted() {
-        return Err(BroadcastRefusal::Halted);
-    }
-    let Some(own) = station.ring().joined() else {
-        return Err(BroadcastRefusal::NotJoined);
-    };
-    broadcast_from(own, station, beside, datagram, room, out)
 }
 
 // # Asking for a path
@@ -320,7 +205,7 @@ pub(crate) fn reply_of(last: Option<(Short, u16, Short)>) -> Option<Reply>
     Some(Reply { to, number, origin })
 }
 
-// # Acknowledgements and broadcasts that are heard
+// # Acknowledgements that are heard
 
 // An acknowledgement ends a check.
 fn hear_acknowledgement(checks: &mut Checks, command: &CommandRef<'_>) -> Result<(), ReachDropped>
@@ -329,89 +214,17 @@ fn hear_acknowledgement(checks: &mut Checks, command: &CommandRef<'_>) -> Result
     if command.to_all {
         return Err(ReachDropped::Known(Dropped::BadUnit));
     }
-    let Some((number, origin)) = read_ack(command.body.octets()) else {
+    let Some(ack) = read_ack(command.body.octets()) else {
         return Err(ReachDropped::Known(Dropped::BadUnit));
     };
-    if checks.acked(command.from, number, origin).is_err() {
+    if checks.acked(command.from, ack.0, ack.1).is_err() {
         return Err(ReachDropped::NotAwaited);
     }
     Ok(())
 }
 
-/// A broadcast as it stands in its body.
-#[derive(Drop)]
-pub(crate) struct BroadcastRef<'a> {
-    pub(crate) hops: u8,
-    pub(crate) origin: Short,
-    pub(crate) number: u32,
-    pub(crate) octets: OctetRef<'a>,
-}
-
-// The broadcast that a body is, if it is one.
-fn broadcast_in<'a>(body: &'a [u8]) -> Option<BroadcastRef<'a>>
-    ensures value { option_map broadcast_of result ≡ broadcasts.broadcast_in body.now }
-    ensures fits { IfSome result (λ b. length b.octets ≤ 360) }
-{
-    let broadcast = read_broadcast(body)?;
-    Some(BroadcastRef {
-        hops: broadcast.hops,
-        origin: broadcast.origin,
-        number: broadcast.number,
-        octets: OctetRef::new(&body[9..]),
-    })
-}
-
-// Why a broadcast is not admitted.
-fn broadcast_fault(
-    own: Short,
-    log: &BroadcastLog,
-    broadcast: &BroadcastRef<'_>,
-) -> Option<ReachDropped>
-    ensures { result ≡ broadcast_rules.broadcast_fault own log.now (broadcast_of broadcast.now) }
-{
-    if broadcast.origin.number() == own.number() {
-        return Some(ReachDropped::Old);
-    }
-    match log.room(broadcast.origin, broadcast.number) {
-        Ok(()) => None,
-        Err(LogFault::NumberSpent) => Some(ReachDropped::Old),
-        Err(LogFault::Store) => Some(ReachDropped::Old),
-        Err(LogFault::Old) => Some(ReachDropped::Old),
-        Err(LogFault::OriginsFull) => Some(ReachDropped::OriginsFull),
-    }
-}
-
-// The mark of the origin is kept. Where it can't be stored, the station is halted and the log is empty.
-fn keep_mark(
-    station: &mut Station<MemKeeper>,
-    log: &mut BroadcastLog,
-    broadcast: &BroadcastRef<'_>,
-) -> bool
-    requires kept { IsKept log.old station.old.store.records }
-    requires room { room_for log.old.marks broadcast.now.origin broadcast.now.number ≡ Ok tt }
-    requires agrees { Agrees station.old }
-    ensures log { log.new ≡ (if result then admitted_log log.old broadcast.now.origin broadcast.now.number else empty_log) }
-    ensures stores { Stores station.old.store (keep_write log.old.marks broadcast.now.origin broadcast.now.number) result
-        station.new.store }
-    ensures station { station.new ≡ record station.old {
-      store = station.new.store;
-      memory = if result then station.old.memory else None;
-    } }
-    ensures agrees { Agrees station.new }
-{
-    if log
-        .admit(station.keeper_mut(), broadcast.origin, broadcast.number)
-        .is_err()
-    {
-        station.halt();
-        *log = BroadcastLog::new();
-        return false;
-    }
-    true
-}
-
 // How a command that was heard ended.
-fn sent_on(sent: Result<(), LocalRefusal>) -> Result<(), ReachDropped>
+pub(crate) fn sent_on(sent: Result<(), LocalRefusal>) -> Result<(), ReachDropped>
     ensures { result ≡ told_after (Known drops.CounterSpent) (Known drops.Store) sent }
 {
     match sent {
@@ -419,73 +232,6 @@ fn sent_on(sent: Result<(), LocalRefusal>) -> Result<(), ReachDropped>
         Err(LocalRefusal::CounterSpent) => Err(ReachDropped::Known(Dropped::CounterSpent)),
         Err(LocalRefusal::Store) => Err(ReachDropped::Known(Dropped::Store)),
     }
-}
-
-// A broadcast that is not at fault is marked, and sent on while it has a hop more.
-fn admit_broadcast(
-    station: &mut Station<MemKeeper>,
-    beside: &mut Beside,
-    broadcast: &BroadcastRef<'_>,
-    room: &mut FrameBuf,
-    out: &mut Out,
-) -> Result<(), ReachDropped>
-    requires running { IsSome station.old.memory }
-    requires joined { IfSome station.old.memory (λ l. IsSome l.ring) }
-    requires agrees { Agrees station.old }
-    requires kept { IsKept beside.old.log station.old.store.records }
-    requires marks { room_for beside.old.log.marks broadcast.now.origin broadcast.now.number ≡ Ok tt }
-    requires fits { length broadcast.now.octets ≤ 360 }
-    requires room { length out.old.frames < 24 }
-    ensures reaches { Reaches station.old beside.old (Err (Known drops.Store))
-        (λ y. broadcast_rules.admits_broadcast alone y (broadcast_of broadcast.now))
-        (handed_up (broadcast_of broadcast.now) result) out.old out.new station.new beside.new }
-    ensures agrees { Agrees station.new }
-{
-    if broadcast.hops >= 2 && station.counters_left() == 0 {
-        return Err(ReachDropped::Known(Dropped::CounterSpent));
-    }
-    if !keep_mark(station, &mut beside.log, broadcast) {
-        out.clear();
-        return Err(ReachDropped::Known(Dropped::Store));
-    }
-    if broadcast.hops < 2 {
-        return Ok(());
-    }
-    write_broadcast(
-        broadcast.hops - 1,
-        broadcast.origin,
-        broadcast.number,
-        broadcast.octets.octets(),
-        room,
-    );
-    let sent = tell(station, &mut beside.log, 4, None, room.octets(), out);
-    sent_on(sent)
-}
-
-// A broadcast is heard at the node of this address.
-fn hear_broadcast(
-    own: Short,
-    station: &mut Station<MemKeeper>,
-    beside: &mut Beside,
-    broadcast: &BroadcastRef<'_>,
-    room: &mut FrameBuf,
-    out: &mut Out,
-) -> Result<(), ReachDropped>
-    requires running { IsSome station.old.memory }
-    requires own { IfSome station.old.memory (λ l. address_of l ≡ Some own) }
-    requires agrees { Agrees station.old }
-    requires kept { IsKept beside.old.log station.old.store.records }
-    requires fits { length broadcast.now.octets ≤ 360 }
-    requires room { length out.old.frames < 24 }
-    ensures reaches { Reaches station.old beside.old (Err (Known drops.Store))
-        (λ y. broadcast_rules.hear_broadcast_in alone y own (Some (broadcast_of broadcast.now)))
-        (handed_up (broadcast_of broadcast.now) result) out.old out.new station.new beside.new }
-    ensures agrees { Agrees station.new }
-{
-    if let Some(fault) = broadcast_fault(own, &beside.log, broadcast) {
-        return Err(fault);
-    }
-    admit_broadcast(station, beside, broadcast, room, out)
 }
 
 // # Path messages that are heard
@@ -624,7 +370,7 @@ fn hear_path(
 // # What is told of a command
 
 // A command that led to nothing but a word.
-fn only(answer: Answer) -> Commanded<'static>
+pub(crate) fn only(answer: Answer) -> Commanded<'static>
     ensures { result ≡ record { answer = answer; bup = None; path = None } }
 {
     Commanded {
@@ -635,7 +381,7 @@ fn only(answer: Answer) -> Commanded<'static>
 }
 
 // The word of a command that was dropped.
-fn dropped_word(reason: ReachDropped) -> Answer
+pub(crate) fn dropped_word(reason: ReachDropped) -> Answer
     ensures { result ≡ reach_drop_word reason }
 {
     match reason {
@@ -655,29 +401,6 @@ fn acknowledgement_told(heard: Result<(), ReachDropped>, number: u16) -> Command
 {
     match heard {
         Ok(()) => only(Answer::Acked),
-        Err(reason) => only(dropped_word(reason)),
-    }
-}
-
-// What is told of a broadcast, at the node of this number.
-fn broadcast_told<'a>(
-    heard: Result<(), ReachDropped>,
-    number: u16,
-    broadcast: &BroadcastRef<'a>,
-) -> Commanded<'a>
-    ensures { TellsCommand result number (handed_up (broadcast_of broadcast.now) heard) }
-{
-    match heard {
-        Ok(()) => Commanded {
-            answer: Answer::Bup,
-            bup: Some(BroadcastUp {
-                node: number,
-                origin: broadcast.origin,
-                number: broadcast.number,
-                octets: OctetRef::new(broadcast.octets.octets()),
-            }),
-            path: None,
-        },
         Err(reason) => only(dropped_word(reason)),
     }
 }
@@ -705,36 +428,6 @@ fn path_told(heard: Result<PathHeard, ReachDropped>, number: u16) -> Commanded<'
         Ok(heard) => path_words(heard, number),
         Err(reason) => only(dropped_word(reason)),
     }
-}
-
-// A broadcast is heard at the node of this number and address, which may not have gone to one node alone.
-fn broadcast_command<'a>(
-    number: u16,
-    own: Short,
-    station: &mut Station<MemKeeper>,
-    beside: &mut Beside,
-    command: &CommandRef<'a>,
-    room: &mut FrameBuf,
-    out: &mut Out,
-) -> Commanded<'a>
-    requires running { IsSome station.old.memory }
-    requires own { IfSome station.old.memory (λ l. address_of l ≡ Some own) }
-    requires agrees { Agrees station.old }
-    requires kept { IsKept beside.old.log station.old.store.records }
-    requires room { length out.old.frames < 24 }
-    ensures reaches { ReachesCommand station.old beside.old
-        (λ y. broadcast_rules.hear_broadcast alone y own command.now.to_all command.now.body) result number out.old out.new
-        station.new beside.new }
-    ensures agrees { Agrees station.new }
-{
-    if !command.to_all {
-        return only(Answer::BadUnit);
-    }
-    let Some(broadcast) = broadcast_in(command.body.octets()) else {
-        return only(Answer::BadUnit);
-    };
-    let heard = hear_broadcast(own, station, beside, &broadcast, room, out);
-    broadcast_told(heard, number, &broadcast)
 }
 
 // A command is heard, by its code, at the node of this number and address.

@@ -1,10 +1,9 @@
 -- Why a broadcast is not admitted.
-use Rattle.std.proofs.Common.{◌≡◌, ◌∙◌, Option, Some, None, Err, sym, ap}
-use Rattle.broadcast_log.specs.declared.fault.LogFault.TheVariants as faults
+use Rattle.std.proofs.Common.{◌∙◌, Err, sym, ap}
 use Rattle.reach_rules.specs.Broadcasts.{mark_fault}
 use Rattle.line_world.specs.Reaching.{broadcast_of}
 use Rattle.line_world.proofs.FurtherPlans.{fault_own, fault_other}
-use Rattle.line_world.proofs.nodes.station_further.broadcast_fault.Goals as goal
+use Rattle.line_world.proofs.nodes.station_broadcasts.broadcast_fault.Goals as goal
 
 pub returns-then-number : goal.returns-then-number
 returns-then-number c =
