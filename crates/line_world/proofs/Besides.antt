@@ -86,7 +86,7 @@ steps_further takes w v h r bs more s = record {
 
 module _ {A : Type 0} {w : World} {number found : ℕ} (there : IsThere w number found) (halted : A) (plan : Reaching Memory → Plan (Reaching Memory) A) (word : A → Answer) (more : Further) where
   -- what the node does, by the number that was found
-  reached_by : Node → NodeStep A
+  abbrev reached_by : Node → NodeStep A
   reached_by y = reaches y (beside_at w found) halted plan
 
   -- what is said and what is left of it
@@ -112,11 +112,11 @@ module _ {A : Type 0} {w : World} {number found : ℕ} (there : IsThere w number
         has_reached network (ran w) number x halted plan (reaches x (beside_at w number) halted plan),
         record (spoken w (answering word (reaches x (beside_at w number) halted plan))) { further = more },
       ))) (sym is)
-      (steps_as _ _ (λ i. Ok (
+      (steps_as _ _ ((λ i. Ok (
         set_beside (sym there.same i) (beside_after x (beside_at w (sym there.same i)) plan (reaches x (beside_at w (sym there.same i)) halted plan).node)
             (told network (ran w) number (reaches x (beside_at w (sym there.same i)) halted plan)),
         record (spoken w (answering word (reaches x (beside_at w (sym there.same i)) halted plan))) { further = more },
-      ) ∙ ap (λ (d : Beside). Ok (
+      )) ∙ ap (λ (d : Beside). Ok (
         set_beside found d (told network (ran w) number (reached_by x)),
         record (spoken w (answering word (reached_by x))) { further = more },
       )) (sym r.beside)) s)

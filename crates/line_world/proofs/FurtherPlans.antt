@@ -1,12 +1,11 @@
 -- What a station does by a plan of its further rules.
-use Rattle.std.proofs.Common.{◌≡◌, ◌≢◌, ℕ, ◌+◌, ◌*◌, ◌≤◌, ◌<◌, Bool, true, false, List, [], ◌∷◌, ◌++◌, length, Option, Some, None, Result, Ok, Err, refl, sym, ap, subst, ◌∙◌, arith}
+use Rattle.std.proofs.Common.{◌≡◌, ◌≢◌, ℕ, ◌*◌, ◌≤◌, Bool, true, false, List, [], ◌∷◌, length, Option, Some, None, Result, Ok, Err, refl, sym, ap, subst, ◌∙◌, arith}
 use Rattle.std.specs.Prelude.{◌==◌, IfNone, IfSome, IsSome, is_some, nat_lt, if◌then◌else◌}
 use Rattle.std.specs.Option.{option_map, option_map_or}
 use Rattle.plc_base.specs.Grant.{Granted}
 use Rattle.group_keys.specs.KeyRing.{Ring}
 use Rattle.std.proofs.lemmas.Bool.{eq-eqb, ne_eqb}
 use Rattle.std.proofs.lemmas.List.{append-nil}
-use Rattle.byteorder.specs.Endian.{big_bytes}
 use Rattle.plc_base.specs.declared.out_frame.Out.{Out}
 use Rattle.neighbour_checks.specs.Acks.{ack_in}
 use Rattle.neighbour_checks.specs.Neighbours.{Neighbours, acked_after, is_awaited}
@@ -33,10 +32,13 @@ use Rattle.reach_rules.specs.declared.refusal.ReachDropped.TheVariants.{Known, N
 use Rattle.reach_rules.specs.Broadcasts.{broadcast_fault, mark_fault}
 use Rattle.reach_rules.specs.declared.refusal.AskRefusal.TheVariants as asks
 use Rattle.reach_rules.specs.PathAsking.{ask_ends, ask_path, asks_from}
-use Rattle.reach_rules.specs.ReachingNodes.{Beside, Reaching, in_reach, tells_neighbours}
+use Rattle.reach_rules.specs.declared.heard.CommandHeard.{CommandHeard}
+use Rattle.reach_rules.specs.declared.heard.CommandHeard.TheVariants.{Acked}
+use Rattle.reach_rules.specs.CheckedReplies.{hear_acknowledgement_in}
+use Rattle.reach_rules.specs.ReachingNodes.{Beside, Reaching, drop_it, in_reach, nothing_beside, remembers, tells_neighbours, with_checks}
 use Rattle.reach_rules.specs.Receiving.{NeighbourCommand}
 use Rattle.line_rules.specs.Further.{without_log}
-use Rattle.line_world.specs.Reaching.{EndsCheck, Reaches, ReachesFirst, beside_left, of_held}
+use Rattle.line_world.specs.Reaching.{EndsCheck, Reaches, ReachesFirst, beside_left, check_ended, of_held}
 
 -- # How long path messages are
 
@@ -60,23 +62,56 @@ fault_other own log b r apart is = let other : (b.origin == own) ≡ false = ne_
 
 -- # Ending a check
 
+-- the checks, with nothing else of a node
+abbrev pub checks_alone : Neighbours → Reaching (Unit {0})
+checks_alone s = record { memory = tt; beside = record nothing_beside { checks = s } }
+
+-- how a check ends, by whom the command went to, and what is read
+abbrev ended_by : Neighbours → ℕ → Bool → Option (ℕ × ℕ) → Plan (Reaching (Unit {0})) (Result CommandHeard ReachDropped)
+ended_by s from all read = choose all (drop_it (checks_alone s) (Known BadUnit)) (hear_acknowledgement_in (checks_alone s) from read)
+
+-- the same by whether it was awaited
+abbrev ended_at : Neighbours → ℕ → ℕ → ℕ → Bool → Plan (Reaching (Unit {0})) (Result CommandHeard ReachDropped)
+ended_at s from number origin awaited =
+    choose awaited (remembers (with_checks (acked_after s from number origin) (checks_alone s)) Acked) (drop_it (checks_alone s) NotAwaited)
+
 pub ends_all : (s : Neighbours) (c : NeighbourCommand) → c.to_all ≡ true → EndsCheck s c (Err (Known BadUnit)) s
 unfolding choose resting
 ends_all s c is = record { answer = rw is refl; checks = rw is refl }
 
 pub ends_unread : (s : Neighbours) (c : NeighbourCommand) → c.to_all ≡ false → ack_in c.body ≡ None → EndsCheck s c (Err (Known BadUnit)) s
 unfolding choose resting
-ends_unread s c one is = record { answer = rw (one, is) refl; checks = rw (one, is) refl }
+ends_unread s c one is =
+    let answer : (check_ended s c).0 ≡ Err (Known BadUnit) = λ i. (ended_by s c.from (one i) (is i)).answer in
+    let checks : (check_ended s c).1 ≡ s = λ i. (ended_by s c.from (one i) (is i)).memory.beside.checks in
+    record { answer = sym answer; checks = sym checks }
 
-pub ends_unawaited : (s : Neighbours) (c : NeighbourCommand) (number origin : ℕ) → c.to_all ≡ false → ack_in c.body ≡ Some (number, origin) → is_awaited s c.from number origin ≡ false
-    → EndsCheck s c (Err NotAwaited) s
-unfolding choose resting
-ends_unawaited s c number origin one is none = record { answer = rw (one, is, none) refl; checks = rw (one, is, none) refl }
+module _ (s : Neighbours) (c : NeighbourCommand) (number origin : ℕ) (one : c.to_all ≡ false) (is : ack_in c.body ≡ Some (number, origin)) where
+  -- an acknowledgement was read
+  ended_read : ended_by s c.from c.to_all (ack_in c.body) ≡ ended_at s c.from number origin (is_awaited s c.from number origin)
+  unfolding choose
+  ended_read = λ i. ended_by s c.from (one i) (is i)
 
-pub ends_awaited : (s : Neighbours) (c : NeighbourCommand) (number origin : ℕ) → c.to_all ≡ false → ack_in c.body ≡ Some (number, origin) → is_awaited s c.from number origin ≡ true
-    → EndsCheck s c (Ok tt) (acked_after s c.from number origin)
-unfolding choose resting
-ends_awaited s c number origin one is some = record { answer = rw (one, is, some) refl; checks = rw (one, is, some) refl }
+  pub ends_unawaited : is_awaited s c.from number origin ≡ false → EndsCheck s c (Err NotAwaited) s
+  unfolding choose resting
+  ends_unawaited none =
+      let answer : (ended_at s c.from number origin (is_awaited s c.from number origin)).answer ≡ Err NotAwaited = λ i. (ended_at s c.from number origin (none i)).answer in
+      let checks : (ended_at s c.from number origin (is_awaited s c.from number origin)).memory.beside.checks ≡ s = λ i. (ended_at s c.from number origin (none i)).memory.beside.checks in
+      record {
+        answer = sym (ap (λ (p : Plan (Reaching (Unit {0})) (Result CommandHeard ReachDropped)). p.answer) ended_read ∙ answer);
+        checks = sym (ap (λ (p : Plan (Reaching (Unit {0})) (Result CommandHeard ReachDropped)). p.memory.beside.checks) ended_read ∙ checks);
+      }
+
+  pub ends_awaited : is_awaited s c.from number origin ≡ true → EndsCheck s c (Ok tt) (acked_after s c.from number origin)
+  unfolding choose resting
+  ends_awaited some =
+      let answer : (ended_at s c.from number origin (is_awaited s c.from number origin)).answer ≡ Ok Acked = λ i. (ended_at s c.from number origin (some i)).answer in
+      let checks : (ended_at s c.from number origin (is_awaited s c.from number origin)).memory.beside.checks ≡ acked_after s c.from number origin =
+      λ i. (ended_at s c.from number origin (some i)).memory.beside.checks in
+      record {
+        answer = sym (ap (λ (p : Plan (Reaching (Unit {0})) (Result CommandHeard ReachDropped)). p.answer) ended_read ∙ answer);
+        checks = sym (ap (λ (p : Plan (Reaching (Unit {0})) (Result CommandHeard ReachDropped)). p.memory.beside.checks) ended_read ∙ checks);
+      }
 
 -- # What a station holds
 
@@ -107,10 +142,10 @@ module _ {A : Type 0} (s : State StationMemory) (b : Beside) (halted : A) (plan 
   }
 
   module _ (l : StationMemory) (running : s.memory ≡ Some l) where
-    none_stayed : (P : Type 0) → IfNone s.memory P
+    pub none_stayed : (P : Type 0) → IfNone s.memory P
     none_stayed P = subst (λ (o : Option StationMemory). IfNone o P) (sym running) tt
 
-    some_is : (P : StationMemory → Type 0) → P l → IfSome s.memory P
+    pub some_is : (P : StationMemory → Type 0) → P l → IfSome s.memory P
     some_is P p = subst (λ (o : Option StationMemory). IfSome o P) (sym running) p
 
     -- nothing is done
@@ -132,7 +167,7 @@ module _ {A : Type 0} (s : State StationMemory) (b : Beside) (halted : A) (plan 
     }
 
     -- what was given out before stays
-    before_stays : (before : Out) → before ≡ followed before nothing
+    pub before_stays : (before : Out) → before ≡ followed before nothing
     before_stays before = λ i. record {
       frames = sym (append-nil before.frames) i;
       tags = record { made = sym (append-nil before.tags.made) i; opened = sym (append-nil before.tags.opened) i };
@@ -159,6 +194,16 @@ module _ {A : Type 0} (s : State StationMemory) (b : Beside) (halted : A) (plan 
         by : (d : Bool) → reads (if d then q.answer else q.failed) ≡ (if d then reads q.answer else reads q.failed)
         by true = refl
         by false = refl
+
+    pub sent_first : {B : Type 0} (reads : B → A) (q : Plan StationMemory B) (answer : B) (out : Out) (t : State StationMemory) (c : Beside)
+        → plan (record { memory = l; beside = b }) ≡ within (λ k. record { memory = k; beside = b }) reads q → Carries s q answer out t
+        → c ≡ (if is_some t.memory then b else without_log b) → ReachesFirst s b halted plan (reads answer) out t c
+    sent_first {B} reads q answer out t c is carried left = record {
+      stayed = none_stayed _;
+      carried = some_is (λ k. Carries s (of_held b plan k) (reads answer) out t) (sent_so reads q answer out t is carried);
+      beside = some_is (λ k. c ≡ beside_left b plan k t.memory)
+          (left ∙ ap (λ (d : Beside). if is_some t.memory then d else without_log b) (sym (ap (λ (p : Plan (Reaching StationMemory) A). p.memory.beside) is)));
+    }
 
     pub sent_after : {B : Type 0} (reads : B → A) (q : Plan StationMemory B) (answer : B) (before out : Out) (t : State StationMemory) (c : Beside)
         → plan (record { memory = l; beside = b }) ≡ within (λ k. record { memory = k; beside = b }) reads q → CarriesAfter s q answer before out t

@@ -16,9 +16,18 @@ mod Sendings
 mod Settings
 pub mod FurtherPlans
 pub mod BroadcastPlans
+pub mod PathPlans
 pub mod Besides
 mod LentFurther
 mod LentReaches
 mod CoordinatorReaching
 mod MeterReaching
 mod ToldReplies
+mod NumberedNodes
+mod Comings
+mod Hearings
+mod Discoveries
+mod Storable
+mod HeardFurther
+mod Calling
+mod Acknowledging

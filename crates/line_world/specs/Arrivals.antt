@@ -1,5 +1,5 @@
 -- What becomes of octets that came to a node.
-use Rattle.std.specs.Prelude.{◌≡◌, ℕ, Bool, slice_set, IfNone, IfSome, true, ◌||◌, List, ◌++◌, length, map, Option, Some, None, is_some, Result, Ok, Err, if◌then◌else◌}
+use Rattle.std.specs.Prelude.{◌≡◌, ⊤, ℕ, Bool, slice_set, IfNone, IfSome, false, true, ◌||◌, List, ◌++◌, length, map, Option, Some, None, is_some, Result, Ok, Err, if◌then◌else◌}
 use Rattle.std.specs.List.{list_any}
 use Rattle.std.specs.Option.{option_map, option_map_or}
 use Rattle.plc_base.specs.declared.address.Eui.{Eui}
@@ -8,8 +8,9 @@ use Rattle.node_rules.specs.declared.heard.Accepted.{Accepted}
 use Rattle.node_rules.specs.declared.heard.Path.{Path}
 use Rattle.node_rules.specs.declared.heard.Reply.{Reply}
 use Rattle.node_rules.specs.declared.refusal.LocalRefusal.{LocalRefusal}
+use Rattle.node_rules.specs.declared.refusal.LocalRefusal.TheVariants as locals
 use Rattle.node_rules.specs.declared.refusal.FrameRefusal.{FrameRefusal}
-use Rattle.node_rules.specs.Ciphers.{Ciphers}
+use Rattle.node_rules.specs.Ciphers.{Ciphers, network}
 use Rattle.node_rules.specs.Memory.{Node}
 use Rattle.node_rules.specs.NodeSteps.{NodeStep}
 use Rattle.line_flights.specs.declared.flights.Origin.{Origin}
@@ -21,7 +22,10 @@ use Rattle.line_rules.specs.declared.happenings.Happenings.{Happenings}
 use Rattle.node_rules.specs.NodeSteps.{stays}
 use Rattle.reach_rules.specs.CheckedReplies.{checks_after}
 use Rattle.reach_rules.specs.Receiving.{NeighbourCommand, command_of}
+use Rattle.line_rules.specs.declared.event.Event.{Event}
+use Rattle.line_rules.specs.declared.event.Event.TheVariants as events
 use Rattle.line_rules.specs.declared.event.Answer.TheVariants as said
+use Rattle.line_rules.specs.Logs.{CommandsAreOctets}
 use Rattle.line_rules.specs.Further.{acknowledging, beside_at, checked, commanded, is_dropped, set_beside}
 use Rattle.line_rules.specs.Answers.{frame_word, only, Reception}
 use Rattle.line_rules.specs.Worlds.{Flight, World, Trace, start, is_forged_tag}
@@ -62,6 +66,12 @@ checked_so ciphers w number x got origin cost =
 abbrev pub acknowledging_if : Node → Option Reply → NodeStep (Result (Unit {0}) LocalRefusal)
 acknowledging_if x None = stays x (Ok tt)
 acknowledging_if x (Some reply) = acknowledging x reply
+
+-- whether no write failed by it
+abbrev pub is_stored : Result (Unit {0}) LocalRefusal → Bool
+is_stored (Ok u) = true
+is_stored (Err locals.CounterSpent) = true
+is_stored (Err locals.Store) = false
 
 -- An acknowledgement went out after what was given out before, if one was due. Where its put failed nothing is left of either.
 pub record Acknowledges (w : World) (number : ℕ) (x : Node) (due : Option Reply) (before : Out) (done : Bool) (out : Out) (new : World)
@@ -125,3 +135,9 @@ said_of w number out forged told = record (happened w told.answer) {
   done = done_in w told.done;
   flights = length out.frames;
 }
+
+-- a command that an event brings to a node is octets
+abbrev pub BringsOctets : World → Event → Type 0
+BringsOctets w (events.Deliver flight node cost) = CommandsAreOctets network w (events.Deliver flight node cost)
+BringsOctets w (events.Inject node cost octets) = CommandsAreOctets network w (events.Inject node cost octets)
+BringsOctets w _ = ⊤

@@ -8,13 +8,13 @@ use Rattle.node_rules.specs.Meters as meters
 use Rattle.node_rules.specs.NodeSteps.{acts, answering}
 use Rattle.node_rules.specs.declared.refusal.JoinRefusal.TheVariants as joins
 use Rattle.reach_rules.specs.declared.refusal.DiscoveryDropped.TheVariants as drops
-use Rattle.reach_rules.specs.Beacons.{hear_beacon, hear_discovery_in, takes_beacon, stays}
+use Rattle.reach_rules.specs.Beacons.{chosen, hear_beacon, hear_discovery_in, takes_beacon, stays}
 use Rattle.reach_rules.specs.Beacons as beacons
 use Rattle.reach_rules.specs.ReachingNodes.{Beside}
 use Rattle.line_rules.specs.declared.event.Answer.{Answer}
 use Rattle.line_rules.specs.declared.event.Answer.TheVariants as said
 use Rattle.line_rules.specs.Answers.{discovery_word, join_word}
-use Rattle.line_rules.specs.Further.{beacon_taken, beside_at, discovery_flights, has_discovered, set_beside}
+use Rattle.line_rules.specs.Further.{agent_line, beacon_taken, beside_at, discovery_flights, has_discovered, set_beside}
 use Rattle.line_rules.specs.Steps.{happened, identity, ran, spoken, told, trace_of}
 use Rattle.line_rules.specs.Worlds.{World, Trace}
 
@@ -58,6 +58,6 @@ joins_in w number x psk address total =
     let trace = spoken w (answering join_word d) in (
       told network (ran w) number d,
       record trace {
-        happened = record trace.happened { agent = Some (record { node = number; address = address; total = total }) };
+        happened = record trace.happened { agent = agent_line number (chosen (record { address = address; total = total }) d.answer) };
       },
     )

@@ -1,11 +1,11 @@
 -- What holds of each node between the events of a line.
-use Rattle.std.specs.Prelude.{IsSome, IfSome}
+use Rattle.std.specs.Prelude.{◌≤◌, List, All, IsSome, IfSome}
 use Rattle.plc_base.specs.Keeper.{Records}
 use Rattle.group_keys.specs.KeyBook as book
-use Rattle.node_rules.specs.Memory.{Memory, Role, Meter}
+use Rattle.node_rules.specs.Memory.{Memory, Node, Role, Meter}
 use Rattle.node_rules.specs.States.{State}
 use Rattle.node_rules.specs.Agreement.{AgreesWith}
-use Rattle.node_rules.specs.Tables.{OfCoordinator, HasGaplessTables}
+use Rattle.node_rules.specs.Tables.{OfCoordinator, HasGaplessTables, HasShortTables}
 use Rattle.meter_node.specs.MeterStates.{MeterState}
 use Rattle.meter_node.specs.MeterStates as meters
 use Rattle.coordinator.specs.CoordinatorAgreement.{HasHome}
@@ -26,3 +26,17 @@ pub record IsSound (role : Role) (s : State Memory) : Type 0 where
 -- a meter that is sound
 abbrev pub IsSoundMeter : MeterState → Type 0
 IsSoundMeter m = IsSound (Meter m.psk) (meters.node_of m)
+
+-- no table of a node has more entries than slots
+abbrev pub IsShort : Node → Type 0
+IsShort x = IfSome x.memory (λ m. HasShortTables m.station)
+
+-- a node's next counter is not past the limit that is stored
+abbrev pub IsBelow : Node → Type 0
+IsBelow x = IfSome x.memory (λ m. m.station.counter.next ≤ m.station.counter.limit)
+
+abbrev pub AreBelow : List Node → Type 0
+AreBelow nodes = All IsBelow nodes
+
+abbrev pub AreShort : List Node → Type 0
+AreShort nodes = All IsShort nodes

@@ -2,6 +2,8 @@
 ghost use Rattle.std.specs.Prelude.{◌≡◌, ◌<◌, ◌≤◌, ◌||◌, true, false, length, is_some, slice_get, Ok, IfSome, IfOk};
 ghost use Rattle.std.specs.List.{list_any};
 ghost use Rattle.node_rules.specs.Ciphers.{network};
+ghost use Rattle.plc_base.specs.Fields.{AreOctets};
+ghost use Rattle.line_rules.specs.declared.event.Event.TheVariants as events;
 ghost use Rattle.line_rules.specs.declared.event.TheConstants.{MAX_EVENTS};
 ghost use Rattle.line_rules.specs.Answers as words;
 ghost use Rattle.line_rules.specs.Steps as rules;
@@ -10,6 +12,7 @@ ghost use Rattle.line_rules.specs.Logs.{LogsKept};
 ghost use Rattle.line_rules.specs.Worlds.{is_forged_tag};
 ghost use Rattle.line_world.specs.Receiving.{MayHear};
 ghost use Rattle.line_world.specs.Arrivals.{comes_so, done_in, forged_in, handed_in, hears_so, in_run, left_of, note_in, said_of, taker_in};
+ghost use Rattle.line_world.specs.Arrivals.{BringsOctets};
 ghost use Rattle.line_world.specs.Bounds.{IsBounded};
 ghost use Rattle.line_world.specs.Lines.{HasRoom, world_of};
 ghost use Rattle.line_world.specs.Steps.{Steps};
@@ -69,6 +72,21 @@ fn origin(flights: &Flights, octets: &[u8], accepted: &Result<Accepted<'_>, Fram
             note: 0,
         },
     }
+}
+
+// Octets are octets.
+fn are_octets(octets: &[u8])
+    ensures { AreOctets octets.now }
+{}
+
+// What an accepted frame carries is octets, as its type says.
+fn payload_octets(accepted: &Result<Accepted<'_>, FrameRefusal>)
+    ensures { IfOk accepted.now (λ got. AreOctets got.payload) }
+{
+    let Ok(got) = accepted else {
+        return;
+    };
+    are_octets(got.payload.octets());
 }
 
 // A datagram that was handed up, for the report.
@@ -236,8 +254,9 @@ impl Line {
         requires beside { length self.old.beside.items ≡ length self.old.nodes }
         requires logs { LogsKept (world_of self.old) }
         requires events { self.old.events < MAX_EVENTS }
-        ensures { Steps true (world_of self.old) result (world_of self.new)
+        ensures steps { Steps true (world_of self.old) result (world_of self.new)
             (further.delivers network (world_of self.old) flight node cost) }
+        ensures octets { IfOk result (λ _. BringsOctets (world_of self.old) (events.Deliver flight node cost)) }
     {
         let number = self.node(node)?;
         if self.flights.flying(flight).is_none() {
@@ -252,7 +271,9 @@ impl Line {
             let frame = read_discovery(octets);
             return Ok(self.discovered(number, frame, cost));
         }
+        self.nodes.short_tables();
         let accepted = self.nodes.accept(number, octets, &mut space.payload);
+        payload_octets(&accepted);
         let origin = origin(&self.flights, octets, &accepted);
         Ok(self.arrived(number, &accepted, origin, cost, &mut space.datagram))
     }
@@ -269,8 +290,9 @@ impl Line {
         requires beside { length self.old.beside.items ≡ length self.old.nodes }
         requires logs { LogsKept (world_of self.old) }
         requires events { self.old.events < MAX_EVENTS }
-        ensures { Steps true (world_of self.old) result (world_of self.new)
+        ensures steps { Steps true (world_of self.old) result (world_of self.new)
             (further.injects network (world_of self.old) node cost octets.now) }
+        ensures octets { IfOk result (λ _. BringsOctets (world_of self.old) (events.Inject node cost octets.now)) }
     {
         let number = self.node(node)?;
         self.reserve()?;
@@ -278,7 +300,9 @@ impl Line {
             let frame = read_discovery(octets);
             return Ok(self.discovered(number, frame, cost));
         }
+        self.nodes.short_tables();
         let accepted = self.nodes.accept(number, octets, &mut space.payload);
+        payload_octets(&accepted);
         let origin = origin(&self.flights, octets, &accepted);
         Ok(self.arrived(number, &accepted, origin, cost, &mut space.datagram))
     }

@@ -9,7 +9,6 @@ ghost use Rattle.line_rules.specs.Answers as words;
 ghost use Rattle.line_rules.specs.Further as further;
 ghost use Rattle.line_rules.specs.Steps as rules;
 ghost use Rattle.line_world.specs.Bounds.{IsBounded};
-ghost use Rattle.node_rules.specs.Memory.{address_of};
 ghost use Rattle.line_world.specs.Discovering.{HearsBeacon, TakesBeacon, discovered_in, discovers_in, flies_in, joins_in};
 ghost use Rattle.line_world.specs.Lines.{HasRoom, world_of};
 ghost use Rattle.line_world.specs.Steps.{Steps};
@@ -51,6 +50,27 @@ fn choice_word(asked: Result<(), JoinRefusal>) -> Answer
         Ok(()) => Answer::Asked,
         Err(JoinRefusal::Halted) => Answer::Halted,
         Err(JoinRefusal::AlreadyJoined) => Answer::AlreadyJoined,
+    }
+}
+
+// The agent by which a meter began to join, for the report.
+fn agent_of(
+    node: usize,
+    address: Short,
+    total: u32,
+    asked: &Result<(), JoinRefusal>,
+) -> Option<AgentLine>
+    requires node { node < 1000 }
+    ensures { result ≡ further.agent_line node (beacons.chosen (record { address = address; total = total }) asked.now) }
+{
+    match asked {
+        Ok(()) => Some(AgentLine {
+            node: node as u16,
+            address,
+            total,
+        }),
+        Err(JoinRefusal::Halted) => None,
+        Err(JoinRefusal::AlreadyJoined) => None,
     }
 }
 
@@ -202,22 +222,18 @@ impl Line {
         requires events { self.old.events < MAX_EVENTS }
         requires there { node < length self.old.nodes }
         requires meter { 1 ≤ node }
-        ensures { IfSome (slice_get self.old.nodes node) (λ x. IfSome x.memory (λ m. address_of m.station ≡ None
-            → IfSome (rules.psk_of x) (λ psk. Steps true (world_of self.old) (Ok result) (world_of self.new)
-            (Ok (joins_in (world_of self.old) node x psk address total))))) }
+        ensures { IfSome (slice_get self.old.nodes node) (λ x. IfSome (rules.psk_of x) (λ psk. Steps true (world_of self.old) (Ok result)
+            (world_of self.new) (Ok (joins_in (world_of self.old) node x psk address total)))) }
     {
         let asked = self.nodes.join(node, address, self.clock, &mut self.out);
+        let agent = agent_of(node, address, total, &asked);
         let happened = self.acted(node, choice_word(asked));
         Happenings {
             answer: happened.answer,
             forged: false,
             up: None,
             bup: None,
-            agent: Some(AgentLine {
-                node: node as u16,
-                address,
-                total,
-            }),
+            agent,
             path: None,
             grant: None,
             took: None,
@@ -239,6 +255,9 @@ impl Line {
     {
         let number = self.meter_number(node)?;
         self.reserve()?;
+        // Only a meter has a pair key, and can choose.
+        let _psk = self.nodes.psk(number);
+        self.nodes.short_tables();
         if self.nodes.halted(number) {
             return Ok(self.answered(Answer::Halted));
         }

@@ -4,6 +4,7 @@ ghost use Rattle.std.specs.Option.{option_and_then};
 ghost use Rattle.loadng_messages.specs.Grammar as messages;
 ghost use Rattle.loadng_messages.specs.Reading as reading;
 ghost use Rattle.mesh_header.specs.Reading as units;
+ghost use Rattle.node_rules.specs.declared.refusal.Dropped.TheVariants.{Store};
 ghost use Rattle.node_rules.specs.Ciphers.{network};
 ghost use Rattle.node_rules.specs.Replies.{route_message};
 ghost use Rattle.reach_rules.specs.CheckedReplies as replies;
@@ -13,7 +14,7 @@ ghost use Rattle.line_rules.specs.Answers as words;
 ghost use Rattle.line_rules.specs.Further as further;
 ghost use Rattle.line_rules.specs.Logs.{LogsKept};
 ghost use Rattle.line_rules.specs.Steps as rules;
-ghost use Rattle.line_world.specs.Arrivals.{Acknowledges, checked_so, heard_further_so, heard_so, in_run, unbelieved_so, with_check_of};
+ghost use Rattle.line_world.specs.Arrivals.{Acknowledges, checked_so, heard_further_so, heard_so, in_run, is_stored, unbelieved_so, with_check_of};
 ghost use Rattle.line_world.specs.Bounds.{IsBounded};
 ghost use Rattle.line_world.specs.Lines.{HasRoom, world_of};
 ghost use Rattle.line_world.specs.Reaching as reaching;
@@ -181,8 +182,21 @@ fn reply_of(message: &Option<Message>, replied: Option<Reply>) -> Option<Reply>
     replied
 }
 
+// Whether no write failed.
+fn is_stored(sent: &Result<(), LocalRefusal>) -> bool
+    ensures { result ≡ is_stored sent.now }
+{
+    match sent {
+        Ok(()) => true,
+        Err(LocalRefusal::CounterSpent) => true,
+        Err(LocalRefusal::Store) => false,
+    }
+}
+
 // Nothing came up, and a write failed.
-fn failed() -> Reception<'static> {
+fn failed() -> Reception<'static>
+    ensures { result ≡ record { answer = words.drop_word Store; up = None; took = false; done = None; replied = None } }
+{
     Reception {
         answer: Answer::Store,
         up: None,
@@ -339,7 +353,10 @@ impl Line {
     // The reply that the node sent begins a check, if it sent one.
     fn begin_check(&mut self, node: usize, sent: Option<Reply>)
         requires there { node < length self.old.beside.items }
-        ensures { world_of self.new ≡ with_check_of (world_of self.old) node sent }
+        ensures world { world_of self.new ≡ with_check_of (world_of self.old) node sent }
+        ensures flights { self.new.flights ≡ self.old.flights }
+        ensures made { self.new.made ≡ self.old.made }
+        ensures out { self.new.out ≡ self.old.out }
     {
         let Some(reply) = sent else {
             return;
@@ -355,8 +372,10 @@ impl Line {
         requires number { IfSome due (λ r. 0 < r.number) }
         requires joined { IsSome due → IfSome (slice_get self.old.nodes node) (λ x. IfSome x.memory (λ m. IsSome m.station.ring)) }
         requires room { IsSome due → length self.old.out.frames < 24 }
-        ensures { IfSome (slice_get self.old.nodes node) (λ x. Acknowledges (world_of self.old) node x due self.old.out result self.new.out
-            (world_of self.new)) }
+        ensures acknowledges { IfSome (slice_get self.old.nodes node) (λ x. Acknowledges (world_of self.old) node x due self.old.out result
+            self.new.out (world_of self.new)) }
+        ensures flights { self.new.flights ≡ self.old.flights }
+        ensures made { self.new.made ≡ self.old.made }
     {
         let Some(reply) = due else {
             return true;
@@ -364,7 +383,7 @@ impl Line {
         let sent = self
             .nodes
             .acknowledge(node, reply, &mut self.body, &mut self.out);
-        !matches!(sent, Err(LocalRefusal::Store))
+        is_stored(&sent)
     }
 
     // A node hears a frame where neighbours are checked.

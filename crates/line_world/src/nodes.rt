@@ -23,6 +23,7 @@ mod station_broadcasts;
 mod station_calls;
 mod station_further;
 mod station_steps;
+mod tables;
 mod telling;
 mod time;
 

@@ -171,43 +171,7 @@ impl World {
         ensures step { Gives self.old result self.new (line_step network self.old event.now) }
         ensures memory { HasMemory (takes_memory self.old event.now) result }
     {
-        match event {
-            Event::Coordinator { eui, key } => self.line.coordinator(*eui, key),
-            Event::Meter { eui, psk } => self.line.meter(*eui, *psk),
-            Event::Depot { node } => self.line.depot(*node),
-            Event::Near { a, b, cost } => self.line.near(*a, *b, *cost),
-            Event::Counter { node, value } => self.line.counter(*node, *value),
-            Event::Number { node, value } => self.line.number(*node, *value),
-            Event::Allow { node } => self.line.allow(*node),
-            Event::Rand { node, value } => self.line.rand(*node, *value),
-            Event::Join { node, agent } => self.line.join(*node, *agent),
-            Event::Leave { node } => self.line.leave(*node),
-            Event::Send { from, to, datagram } => self.line.send(*from, *to, datagram.octets()),
-            Event::Deliver { flight, node, cost } => self
-                .line
-                .deliver(*flight, *node, *cost, space),
-            Event::Inject { node, cost, octets } => {
-                self.line.inject(*node, *cost, octets.octets(), space)
-            }
-            Event::Lose { flight } => self.line.lose(*flight),
-            Event::Break { node, next } => self.line.breaks(*node, *next),
-            Event::Tick { seconds } => self.line.tick(*seconds),
-            Event::Restart { node } => self.line.restart(*node),
-            Event::Cut {
-                node,
-                nth,
-                keeps_new,
-            } => self.line.cut(*node, *nth, *keeps_new),
-            Event::Rekey { index, key } => self.line.rekey(*index, key),
-            Event::Challenge { node } => self.line.challenge(*node),
-            Event::Activate { node, index } => self.line.activate(*node, *index),
-            Event::Kick { node } => self.line.kick(*node),
-            Event::Show { node } => self.line.show(*node, space),
-            Event::Checks => self.line.checks(),
-            Event::Bcast { node, datagram } => self.line.bcast(*node, datagram.octets()),
-            Event::Scan { node } => self.line.scan(*node),
-            Event::Choose { node, k } => self.line.choose(*node, *k),
-            Event::Path { from, to } => self.line.path(*from, *to),
-        }
+        self.line.nodes.short_tables();
+        self.line.step(event, space)
     }
 }

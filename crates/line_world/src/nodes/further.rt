@@ -37,12 +37,6 @@ fn coordinator() -> Short
     address
 }
 
-fn scratch(x: u8) -> u8
-    ensures { result ≡ x }
-{
-    x
-}
-
 // The cost of a route.
 fn cost_of(route: Option<(Short, u16)>) -> Option<u16>
     ensures { result ≡ option_map (λ r. r.1) route }

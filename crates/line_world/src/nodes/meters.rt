@@ -364,8 +364,9 @@ impl Meters {
         ensures replied { IsSome (message_of got.now) → IfSome (slice_get self.old place)
             (λ x. result.replied ≡ reply_among (hears network x got.now cost note now).frames) }
     {
-        let heard = self.meters[place].hear(got, cost, note, now, datagram, out);
-        let replied = reply_of(self.meters[place].last_reply());
+        let meter = &mut self.meters[place];
+        let heard = meter.hear(got, cost, note, now, datagram, out);
+        let replied = reply_of(meter.last_reply());
         meter_told(&heard).with_reply(replied)
     }
 }

@@ -214,10 +214,10 @@ fn hear_acknowledgement(checks: &mut Checks, command: &CommandRef<'_>) -> Result
     if command.to_all {
         return Err(ReachDropped::Known(Dropped::BadUnit));
     }
-    let Some((number, origin)) = read_ack(command.body.octets()) else {
+    let Some(ack) = read_ack(command.body.octets()) else {
         return Err(ReachDropped::Known(Dropped::BadUnit));
     };
-    if checks.acked(command.from, number, origin).is_err() {
+    if checks.acked(command.from, ack.0, ack.1).is_err() {
         return Err(ReachDropped::NotAwaited);
     }
     Ok(())

@@ -4,7 +4,7 @@ use Rattle.std.specs.Prelude.{if◌then◌else◌}
 use Rattle.line_rules.specs.declared.event.StepFault.TheVariants as faults
 use Rattle.line_rules.specs.declared.event.Answer.TheVariants as said
 use Rattle.line_rules.specs.Further.{checks}
-use Rattle.line_rules.specs.Steps.{Step, happened, in_setup, set_up, trace_of}
+use Rattle.line_rules.specs.Steps.{Step, happened, set_up, trace_of}
 use Rattle.line_rules.specs.Worlds.{World}
 use Rattle.line_world.specs.Bounds.{IsBounded}
 use Rattle.line_world.specs.Lines.{world_of}
@@ -14,7 +14,7 @@ use Rattle.line_world.proofs.Taking.{refused, is_taken_so}
 use Rattle.line_world.proofs.line.Line.checks.Goals as goal
 
 pub returns-then-not-takes_setup : goal.returns-then-not-takes_setup
-unfolding checks in_setup
+unfolding checks
 returns-then-not-takes_setup c =
     let w = world_of c.args.self.now in
     refused faults.Setup refl _ _ _ c.requires.bounds

@@ -1,0 +1,130 @@
+//! The loop of a meter, in calls that a task makes.
+use crate::Flash;
+use meter_node::Meter;
+use node_rules::{Heard, MeterHeard};
+use plc_station::OpenFault;
+use plc_base::{DatagramBuf, Eui, FrameBuf, Grant, Key, LinkCost, Out, Rand, Short};
+use rattle_std::alloc::Global;
+
+/// The power line and what stands behind the meter.
+pub trait Modem {
+    /// Sends a frame. Frames leave in the order of these calls.
+    fn transmit(&mut self, frame: &[u8]);
+
+    /// Takes a datagram that another node sent to this one.
+    fn take(&mut self, from: Short, datagram: &[u8]);
+}
+
+/// What a call could not do.
+#[derive(Clone, Copy, Debug, PartialEq, Eq)]
+pub enum Trouble {
+    /// The node refused it, and is as before.
+    Refused,
+    /// A write to the flash failed: the node is halted. Look after the flash, and call `restart`.
+    Halted,
+}
+
+/// A meter with all that it is lent. It takes no memory after `open`.
+pub struct Driver {
+    meter: Meter<Flash>,
+    out: Out,
+    payload: FrameBuf,
+    datagram: DatagramBuf,
+}
+
+impl Driver {
+    /// Opens the meter, once after power comes: it reads the flash.
+    pub fn open(flash: Flash, eui: Eui, psk: Key) -> Result<Driver, OpenFault> {
+        let meter = Meter::open(Global, flash, eui, psk).map_err(|(fault, _)| fault)?;
+        Ok(Driver { meter, out: Out::new(), payload: FrameBuf::new(), datagram: DatagramBuf::new() })
+    }
+
+    /// Takes the grant that a workshop gives, in place of joining over the air.
+    pub fn provision(&mut self, grant: &Grant) -> Result<(), Trouble> {
+        self.is_running()?;
+        self.meter.provision(grant).map_err(|_| self.trouble())
+    }
+
+    /// Gives 16 octets of the random source, which it never gave before: one call before each `join`.
+    pub fn give_random(&mut self, value: Rand) -> Result<(), Trouble> {
+        self.meter.give_random(value).map_err(|_| self.trouble())
+    }
+
+    /// Asks an agent for a place in the network.
+    pub fn join(&mut self, modem: &mut impl Modem, agent: Short, now: u64) -> Result<(), Trouble> {
+        self.meter.join(agent, now, &mut self.out).map_err(|_| self.trouble())?;
+        self.flush(modem);
+        Ok(())
+    }
+
+    /// Notes that the node of this address is a neighbour.
+    pub fn has_neighbour(&mut self, address: Short, cost: LinkCost, now: u64) -> Result<(), Trouble> {
+        self.is_running()?;
+        self.meter.station().preset_near(address, cost, now).map_err(|_| self.trouble())
+    }
+
+    /// Sends a datagram of 1 to 1,280 octets. Its frames leave at once, or when a route is found.
+    pub fn send(&mut self, modem: &mut impl Modem, to: Short, datagram: &[u8], now: u64) -> Result<(), Trouble> {
+        self.meter.station().send(to, datagram, 0, now, &mut self.out).map_err(|_| self.trouble())?;
+        self.flush(modem);
+        Ok(())
+    }
+
+    /// Takes a frame from the line, with the cost of the link that it came by.
+    pub fn hear(&mut self, modem: &mut impl Modem, frame: &[u8], cost: LinkCost, now: u64) -> Result<(), Trouble> {
+        let Ok(got) = self.meter.station().accept(frame, &mut self.payload) else {
+            return Err(self.trouble());
+        };
+        if self.meter.station().halted() {
+            return Err(Trouble::Halted);
+        }
+        match self.meter.hear(&got, cost, 0, now, &mut self.datagram, &mut self.out) {
+            Ok(MeterHeard::Station(Heard::Up { from, octets, .. })) => modem.take(from, octets.octets()),
+            Ok(_) => {}
+            Err(_) => return Err(self.trouble()),
+        }
+        self.flush(modem);
+        Ok(())
+    }
+
+    /// Ends the routes by way of a neighbour that the modem gave up on.
+    pub fn broke(&mut self, next: Short) -> Result<(), Trouble> {
+        self.meter.station().broke(next).map_err(|_| self.trouble())
+    }
+
+    /// Gives up the address and the keys.
+    pub fn leave(&mut self) -> Result<(), Trouble> {
+        self.meter.leave().map_err(|_| self.trouble())
+    }
+
+    /// The address, where it is joined and not halted.
+    pub fn address(&self) -> Option<Short> {
+        self.meter.address()
+    }
+
+    /// Ends what is old. Call it once a second, with the seconds since the meter began, which never go back.
+    pub fn tick(&mut self, now: u64) {
+        self.meter.tick(now);
+    }
+
+    /// Reads the flash again, after a write that failed.
+    pub fn restart(&mut self) -> Result<(), Trouble> {
+        self.meter.restart().map_err(|_| Trouble::Halted)
+    }
+
+    // What several calls ask for, since their contract does.
+    fn is_running(&mut self) -> Result<(), Trouble> {
+        if self.meter.station().halted() { Err(Trouble::Halted) } else { Ok(()) }
+    }
+
+    fn trouble(&mut self) -> Trouble {
+        if self.meter.station().halted() { Trouble::Halted } else { Trouble::Refused }
+    }
+
+    fn flush(&mut self, modem: &mut impl Modem) {
+        for frame in self.out.frames.frames() {
+            modem.transmit(frame.octets.octets());
+        }
+        self.out.clear();
+    }
+}

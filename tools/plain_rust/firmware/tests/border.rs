@@ -1,0 +1,206 @@
+//! Each check at the border stops, with the name of the call and of the clause; and what a clause just allows does not stop. `tests.py` holds the names here
+//! against the checks that the export writes.
+use coordinator::Coordinator;
+use firmware::Flash;
+use meter_node::Meter;
+use node_rules::{Accepted, FrameRef, Path};
+use plc_base::{DatagramBuf, Eui, FrameBuf, Grant, Key, LinkCost, Out, Rand, Short};
+use plc_station::Station;
+use rattle_std::alloc::Global;
+use std::panic::{AssertUnwindSafe, catch_unwind};
+
+/// Makes a call, which has to stop at this clause.
+fn stops<T>(clause: &str, call: impl FnOnce() -> T) {
+    let Err(why) = catch_unwind(AssertUnwindSafe(call)) else {
+        panic!("{clause}: the call went on");
+    };
+    assert_eq!(*why.downcast_ref::<&str>().unwrap(), format!("its contract does not allow this call: {clause}"));
+}
+
+fn key() -> Key {
+    Key([7; 16])
+}
+
+fn coordinator() -> Coordinator<Flash> {
+    Coordinator::open(Global, Flash::new(), Eui([1; 8]), &key()).map_err(|it| it.0).unwrap()
+}
+
+fn meter() -> Meter<Flash> {
+    Meter::open(Global, Flash::new(), Eui([2; 8]), key()).map_err(|it| it.0).unwrap()
+}
+
+fn grant() -> Grant {
+    coordinator().depot(Eui([2; 8]), &key()).unwrap()
+}
+
+fn joined() -> Meter<Flash> {
+    let mut node = meter();
+    node.provision(&grant()).unwrap();
+    node
+}
+
+fn halted() -> Meter<Flash> {
+    let mut node = joined();
+    node.station().halt();
+    node
+}
+
+/// A coordinator whose station gave its address away.
+fn homeless() -> Coordinator<Flash> {
+    let mut node = coordinator();
+    node.station().leave().unwrap();
+    node
+}
+
+fn address(number: u16) -> Short {
+    Short::new(number).unwrap()
+}
+
+fn cost() -> LinkCost {
+    LinkCost::new(1).unwrap()
+}
+
+fn full() -> Out {
+    let mut out = Out::new();
+    for _ in 0..24 {
+        out.frames.push_blank();
+    }
+    out
+}
+
+/// The buffers of a frame that is heard.
+struct Lent {
+    payload: FrameBuf,
+    datagram: DatagramBuf,
+    out: Out,
+}
+
+impl Lent {
+    fn new(count: usize) -> Lent {
+        Lent { payload: FrameBuf::from_octets(&vec![1; count]), datagram: DatagramBuf::new(), out: Out::new() }
+    }
+}
+
+fn sealed() -> Path {
+    Path::Sealed { from: address(1), to_all: false, key: key() }
+}
+
+fn station_hears(node: &mut Station<Flash>, count: usize) {
+    let mut lent = Lent::new(count);
+    let got = Accepted { path: sealed(), payload: FrameRef::new(&lent.payload) };
+    let _ = node.hear(&got, cost(), 0, 0, &mut lent.datagram, &mut lent.out);
+}
+
+fn meter_hears(mut node: Meter<Flash>, path: Path, count: usize) {
+    let mut lent = Lent::new(count);
+    let got = Accepted { path, payload: FrameRef::new(&lent.payload) };
+    let _ = node.hear(&got, cost(), 0, 0, &mut lent.datagram, &mut lent.out);
+}
+
+fn coordinator_hears(mut node: Coordinator<Flash>, count: usize) {
+    let mut lent = Lent::new(count);
+    let got = Accepted { path: sealed(), payload: FrameRef::new(&lent.payload) };
+    let _ = node.hear(&got, cost(), 0, 0, &mut lent.datagram, &mut lent.out);
+}
+
+#[test]
+fn a_halted_node_stops() {
+    stops("plc_station: hear: running", || station_hears(halted().station(), 1));
+    stops("plc_station: send_local: running", || halted().station().send_local(3, None, &[1], &mut Out::new()));
+    stops("plc_station: preset_counter: running", || halted().station().preset_counter(1));
+    stops("plc_station: preset_number: running", || halted().station().preset_number(1));
+    stops("plc_station: preset_near: running", || halted().station().preset_near(address(1), cost(), 0));
+    stops("plc_station: install: running", || halted().station().install(&grant()));
+    stops("plc_station: put_key: running", || halted().station().put_key(0, &key()));
+    stops("plc_station: activate: running", || halted().station().activate(0));
+    stops("plc_station: leave: running", || halted().station().leave());
+    stops("meter_node: hear: running", || meter_hears(halted(), sealed(), 1));
+    stops("meter_node: provision: running", || halted().provision(&grant()));
+    stops("coordinator: hear: running", || {
+        let mut node = coordinator();
+        node.station().halt();
+        coordinator_hears(node, 1);
+    });
+}
+
+#[test]
+fn a_node_without_an_address_stops() {
+    stops("plc_station: send_local: joined", || meter().station().send_local(3, None, &[1], &mut Out::new()));
+    stops("plc_station: put_key: joined", || meter().station().put_key(0, &key()));
+    stops("meter_node: hear: came", || meter_hears(meter(), Path::Up { from: Eui([3; 8]) }, 1));
+}
+
+#[test]
+fn a_coordinator_that_has_not_address_0000_stops() {
+    stops("coordinator: hear: holds", || coordinator_hears(homeless(), 1));
+    stops("coordinator: challenge: holds", || homeless().challenge(Eui([2; 8]), 0, &mut Out::new()));
+    stops("coordinator: tick: holds", || homeless().tick(0));
+    stops("coordinator: allow: holds", || homeless().allow(Eui([2; 8]), &key()));
+    stops("coordinator: depot: holds", || homeless().depot(Eui([2; 8]), &key()));
+    stops("coordinator: rekey: holds", || homeless().rekey(0, &key()));
+    stops("coordinator: activate_self: holds", || homeless().activate_self(0));
+    stops("coordinator: kick: holds", || homeless().kick(Eui([2; 8]), &mut Out::new()));
+    stops("coordinator: give_random: holds", || homeless().give_random(Rand([1; 16])));
+    stops("coordinator: activate: holds", || homeless().activate(Eui([2; 8]), 0, 0, &mut Out::new()));
+}
+
+#[test]
+fn an_index_above_1_stops() {
+    stops("plc_station: put_key: index", || joined().station().put_key(2, &key()));
+    stops("plc_station: activate: index", || joined().station().activate(2));
+    stops("coordinator: rekey: index", || coordinator().rekey(7, &key()));
+    stops("coordinator: activate_self: index", || coordinator().activate_self(2));
+    stops("coordinator: activate: index", || coordinator().activate(Eui([2; 8]), 2, 0, &mut Out::new()));
+}
+
+#[test]
+fn a_grant_without_a_key_at_its_active_index_stops() {
+    let none = Grant { keys: [None; 2], ..grant() };
+    let outside = Grant { active: 7, ..grant() };
+    stops("plc_station: install: grant", || meter().station().install(&none));
+    for wrong in [none, outside] {
+        stops("meter_node: provision: grant", || meter().provision(&wrong));
+    }
+}
+
+#[test]
+fn a_size_or_a_number_out_of_bounds_stops() {
+    stops("plc_station: hear: fits", || station_hears(joined().station(), 382));
+    stops("meter_node: hear: fits", || meter_hears(joined(), sealed(), 382));
+    stops("coordinator: hear: fits", || coordinator_hears(coordinator(), 382));
+    stops("plc_station: send_command: some", || joined().station().send_command(address(0), &[], 0, &mut Out::new()));
+    stops("plc_station: send_command: fits", || joined().station().send_command(address(0), &[1; 375], 0, &mut Out::new()));
+    stops("plc_station: room: fits", || joined().station().room(address(0), 375));
+    stops("plc_station: send_local: code", || joined().station().send_local(2, None, &[1], &mut Out::new()));
+    stops("plc_station: send_local: last_code", || joined().station().send_local(6, None, &[1], &mut Out::new()));
+    stops("plc_station: send_local: some", || joined().station().send_local(3, None, &[], &mut Out::new()));
+    stops("plc_station: send_local: fits", || joined().station().send_local(3, None, &[1; 380], &mut Out::new()));
+    stops("plc_station: send_local: room", || joined().station().send_local(3, None, &[1], &mut full()));
+    stops("plc_station: preset_number: value", || joined().station().preset_number(0));
+}
+
+#[test]
+fn what_a_clause_just_allows_does_not_stop() {
+    station_hears(joined().station(), 381);
+    meter_hears(joined(), sealed(), 381);
+    meter_hears(meter(), Path::Down { from: address(1) }, 400);
+    meter_hears(joined(), Path::Up { from: Eui([3; 8]) }, 400);
+    coordinator_hears(coordinator(), 381);
+    let mut node = joined();
+    let station = node.station();
+    let mut out = Out::new();
+    assert!(station.send_local(3, None, &[1], &mut out).is_ok());
+    assert!(station.send_local(5, None, &[1; 379], &mut out).is_ok());
+    station.preset_number(1).unwrap();
+    for count in [1, 374] {
+        let _ = station.room(address(0), count as u16);
+        let _ = station.send_command(address(0), &vec![1; count], 0, &mut out);
+    }
+    for index in 0..2 {
+        assert!(joined().station().put_key(index, &key()).is_ok());
+        let _ = joined().station().activate(index);
+        let _ = coordinator().rekey(index, &key());
+        let _ = coordinator().activate_self(index);
+        let _ = coordinator().activate(Eui([2; 8]), index, 0, &mut Out::new());
+    }
+}

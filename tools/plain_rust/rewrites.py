@@ -1,0 +1,126 @@
+"""What is written into a file: the few places where the dialect differs from Rust. Each kind is counted, and REASONS says why it is there."""
+import json
+import os
+
+from deletions import drop, drop_space_before
+from lexer import Stop, closing, rust_tokens, solid, step
+
+HERE = os.path.dirname(os.path.abspath(__file__))
+PATCHES = json.load(open(os.path.join(HERE, "patches.json"), encoding="utf-8"))
+REASONS = {
+    "test entry": "Rust passes a test no handle of the runtime: std::test::check makes one",
+    "program entry": "Rust passes main no handle of the runtime: it is made there",
+    "to_vec with an allocator": "Rust's own to_vec of a slice is found before that of a trait, so the trait's has another name",
+    "root lines": "no_std, the name std for the shim over core and alloc, and no warning of what only a contract used",
+    "prelude line": "names that Rattle has everywhere: Vec, String, HostRuntime, AllocGlobal",
+    "patch": "a text of patches.json, with its reason there",
+    "check at the border": "a clause of a public call, which nobody proves of a caller in Rust (border.json)",
+}
+PRELUDE = {"Vec", "String", "Box", "HostRuntime", "AllocGlobal"}
+ROOT = "#![no_std]\n#![allow(unused)]\n#[macro_use]\nextern crate rattle_std as std;\n\n"
+
+
+def insert(ts, i, text):
+    """Writes a text before the place i."""
+    ts[i:i] = rust_tokens(text, True)
+
+
+def entries(ts, tally):
+    """The entries of tests, and of the program."""
+    for i in range(len(ts) - 1, -1, -1):
+        if ts[i].gone or ts[i].text != "fn" or ts[i].kind != "ident":
+            continue
+        name = step(ts, i)
+        opening = step(ts, name)
+        if ts[opening].text != "(":
+            continue
+        close = closing(ts, opening)
+        words = solid(ts[opening + 1 : close])
+        if words[1:] not in ([":", "HostRuntime"], [":", "HostRuntime", ","]):
+            continue
+        body = close
+        while ts[body].gone or ts[body].text != "{":
+            body += 1
+        if solid(ts[max(0, i - 24) : i])[-4:] == ["#", "[", "test", "]"]:
+            tally["test entry"] += 1
+            insert(ts, closing(ts, body) + 1, ")\n}")
+            drop(ts, opening + 1, close)
+            insert(ts, close + 1, f" {{\n    std::test::check(|{words[0]}: HostRuntime|")
+        elif ts[name].text == "main":
+            tally["program entry"] += 1
+            drop(ts, opening + 1, close)
+            insert(ts, body + 1, f"\n    let {words[0]} = HostRuntime::of_process();")
+
+
+def slices(ts, tally):
+    """`.to_vec(alloc)`"""
+    for i in range(len(ts) - 1, -1, -1):
+        if ts[i].gone or ts[i].text != "to_vec" or ts[step(ts, i, -1)].text != ".":
+            continue
+        opening = step(ts, i)
+        if ts[opening].text == "(" and solid(ts[opening + 1 : closing(ts, opening)]):
+            tally["to_vec with an allocator"] += 1
+            ts[i].gone = True
+            insert(ts, i, "to_vec_in")
+
+
+def patches(ts, name, tally):
+    """The texts that no rule covers. Each old text stands in its file exactly once."""
+    for patch in PATCHES:
+        if patch["file"] != name:
+            continue
+        if "append" in patch:
+            ts.extend(rust_tokens("\n\n" + patch["append"], True))
+        else:
+            replace(ts, patch["old"], patch["new"])
+        tally["patch"] += 1
+
+
+def replace(ts, old, new):
+    """Replaces a sequence of tokens."""
+    wanted = [t.text for t in rust_tokens(old) if t.is_solid()]
+    places = [i for i, t in enumerate(ts) if t.is_solid() and not t.gone]
+    found = [k for k in range(len(places) - len(wanted) + 1) if [ts[p].text for p in places[k : k + len(wanted)]] == wanted]
+    if len(found) != 1:
+        raise Stop("a patch that does not fit: " + old)
+    first, last = places[found[0]], places[found[0] + len(wanted) - 1]
+    drop(ts, first, last + 1)
+    insert(ts, first, new)
+
+
+def head(ts, is_root, tally):
+    """The lines of a root, and the line for the dialect's prelude, before the first item."""
+    lines = ""
+    if is_root:
+        lines += ROOT
+        tally["root lines"] += 1
+    if PRELUDE & {t.text for t in ts if t.kind == "ident" and not t.gone}:
+        lines += "use std::dialect::*;\n\n"
+        tally["prelude line"] += 1
+    if not lines:
+        return
+    i = 0
+    while i < len(ts) and (ts[i].gone or not ts[i].is_solid() or is_inner(ts, i)):
+        i = closing(ts, step(ts, step(ts, i))) + 1 if is_inner(ts, i) else i + 1
+    # the comments of the first item stay with it
+    while i > 0 and (ts[i - 1].gone or ts[i - 1].kind == "space" and ts[i - 1].text.count("\n") < 2 or is_outer_comment(ts[i - 1])):
+        i -= 1
+    insert(ts, i, "\n\n" + lines)
+
+
+def is_inner(ts, i):
+    """Whether an attribute of the whole file begins at i."""
+    return not ts[i].gone and ts[i].text == "#" and ts[step(ts, i)].text == "!"
+
+
+def is_outer_comment(t):
+    """Whether it is a comment, and not one of the whole file."""
+    return t.kind == "comment" and not t.text.startswith("//!")
+
+
+def all_of_them(ts, name, is_root, tally):
+    """Every rewrite but the checks at the border."""
+    entries(ts, tally)
+    slices(ts, tally)
+    patches(ts, name, tally)
+    head(ts, is_root, tally)

@@ -1,0 +1,258 @@
+"""Tests of the export, on texts that are written here: python3 tools/plain_rust/tests.py"""
+import collections
+import importlib.machinery
+import importlib.util
+import os
+import re
+import sys
+import tempfile
+import unittest
+
+HERE = os.path.dirname(os.path.abspath(__file__))
+sys.path.insert(0, HERE)
+sys.dont_write_bytecode = True
+import border  # noqa: E402
+import lexer  # noqa: E402
+
+loader = importlib.machinery.SourceFileLoader("export", os.path.join(HERE, "export"))
+export = importlib.util.module_from_spec(importlib.util.spec_from_loader("export", loader))
+loader.exec_module(export)
+
+
+def plain(source, crate="some", is_root=False):
+    """The export of a text, and its counts."""
+    tally = collections.Counter()
+    return export.exported(crate, f"{crate}/src/some.rt", source, is_root, tally)[0], tally
+
+
+def code(source, **more):
+    """The solid tokens of the export."""
+    return lexer.solid(lexer.rust_tokens(plain(source, **more)[0]))
+
+
+def words(text):
+    """The solid tokens of a text in Rust."""
+    return lexer.solid(lexer.rust_tokens(text))
+
+
+def read(path):
+    with open(path, encoding="utf-8") as file:
+        return file.read()
+
+
+class Tokens(unittest.TestCase):
+    def has(self, text, *kinds):
+        self.assertEqual([t.kind for t in lexer.rust_tokens(text) if t.kind != "space"], list(kinds))
+
+    def test_a_lifetime_is_no_char(self):
+        self.has("'a 'b' b'c' '\\'' '\\u{1f}' '_", "lifetime", "char", "char", "char", "char", "lifetime")
+
+    def test_a_quote_in_a_string_does_not_end_it(self):
+        self.has(r'"a\"b" b"x" "\\"', "string", "string", "string")
+
+    def test_a_raw_string_ends_at_its_own_quote(self):
+        self.has('r#"a "quoted" b"# br"c\\"', "string", "string")
+
+    def test_comments_are_nested(self):
+        self.has("/* a /* b */ c */ x // y", "comment", "ident", "comment")
+
+    def test_a_range_is_no_fraction(self):
+        self.assertEqual(words("0..10 1.5 0xff_u8"), ["0", ".", ".", "10", "1.5", "0xff_u8"])
+
+    def test_a_subsequence_keeps_the_order(self):
+        self.assertTrue(lexer.is_subsequence("ace", "abcde"))
+        self.assertFalse(lexer.is_subsequence("ca", "abc"))
+
+
+class Deletions(unittest.TestCase):
+    def test_clauses_are_comments_in_their_place(self):
+        text, tally = plain("fn f(n: u8) -> u8\n    requires small { n ≤ 3 }\n    ensures* one { λ x'. \"}\" ≡ x' }\n{\n    n\n}\n")
+        self.assertEqual(
+            text, "fn f(n: u8) -> u8\n    // requires small { n ≤ 3 }\n    // ensures* one { λ x'. \"}\" ≡ x' }\n{\n    n\n}\n")
+        self.assertEqual((tally["requires"], tally["ensures"], tally["law"]), (1, 1, 0))
+
+    def test_each_line_of_a_clause_is_a_comment(self):
+        self.assertEqual(code("fn f()\n    ensures { a\n        × b }\n{ g() }"), words("fn f() { g() }"))
+
+    def test_a_clause_before_a_semicolon_leaves_it(self):
+        self.assertEqual(code("trait T { fn f(&self) ensures { x }; }"), words("trait T { fn f(&self); }"))
+
+    def test_a_law_is_marked(self):
+        text, tally = plain("pub fn a_law()\n    ensures { Law }\n    ensures more { Law2 }\n{}\n")
+        self.assertEqual(text.count("A law, proved in Rattle"), 1)
+        self.assertEqual(tally["law"], 1)
+
+    def test_a_call_that_does_nothing_is_no_law(self):
+        self.assertEqual(plain("impl T {\n    fn f(&self)\n        ensures { x }\n    {}\n}\n")[1]["law"], 0)
+
+    def test_ghosts_are_gone_with_their_comments(self):
+        source = "struct S {\n    // kept\n    a: u8,\n    /// gone\n    pub ghost held: { T -> U },\n    ghost last: { ◌≡◌ }\n}"
+        self.assertEqual(plain(source)[0], "struct S {\n    // kept\n    a: u8,\n}\n")
+        self.assertEqual(code("impl T for S { ghost view = { λ a. a.b }; fn f() {} }"), words("impl T for S { fn f() {} }"))
+        self.assertEqual(code("ghost use a.b.{◌≡◌, ℕ};\nuse c;"), words("use c;"))
+        self.assertEqual(code("fn f()\n    ghost like: { T }\n    requires { x }\n{ g() }"), words("fn f() { g() }"))
+
+    def test_drop_is_no_bound_and_no_derive(self):
+        self.assertEqual(code("#[derive(Drop)] struct A; #[derive(Clone, Drop)] struct B; #[derive(Drop, Copy)] struct C;"),
+                         words("struct A; #[derive(Clone)] struct B; #[derive(Copy)] struct C;"))
+        self.assertEqual(code("fn f<A: Drop, B: Drop + X, C: Y + Drop>() {}"), words("fn f<A, B: X, C: Y>() {}"))
+        self.assertEqual(code("impl Drop for A { fn f() {} }"), words("impl Drop for A { fn f() {} }"))
+
+    def test_models_hold_no_code(self):
+        self.assertEqual(code("use std::marker::{Model, PhantomData};\nimpl<T> Model for S<T> { ghost Value = { ℕ }; }\nfn f() {}"),
+                         words("use std::marker::PhantomData; fn f() {}"))
+        with self.assertRaises(lexer.Stop):
+            code("impl Model for S { fn f() {} }")
+
+    def test_a_formatter_has_no_writer(self):
+        self.assertEqual(code("fn fmt<W: fmt::Write>(f: &mut fmt::Formatter<W>) {}"), words("fn fmt(f: &mut fmt::Formatter) {}"))
+
+    def test_the_handle_of_an_expect_is_gone(self):
+        self.assertEqual(code('fn f() { a.expect(&rt, "b"); a.expect("c"); }'), words('fn f() { a.expect("b"); a.expect("c"); }'))
+
+    def test_what_is_no_known_form_stops(self):
+        for source in ("fn f() requires x = { y } {}", "ghost x;", "fn f(a: Vec<Drop>) {}", "fn fmt<V: fmt::Write>(f: fmt::Formatter<V>) {}"):
+            with self.assertRaises(lexer.Stop, msg=source):
+                code(source)
+
+
+class Rewrites(unittest.TestCase):
+    def test_a_test_gets_its_handle(self):
+        text = words("use std::dialect::*; #[test] fn a() { std::test::check(|rt: HostRuntime| -> R { b(rt) }) }")
+        self.assertEqual(code("#[test]\nfn a(rt: HostRuntime) -> R { b(rt) }"), text)
+
+    def test_a_root_names_its_std_after_its_own_attributes(self):
+        text, _ = plain("//! What it is.\n#![allow(dead_code)]\n\n/// A thing.\npub struct A;\n", is_root=True)
+        self.assertTrue(text.startswith("//! What it is.\n#![allow(dead_code)]\n\n#![no_std]\n#![allow(unused)]\n"), text)
+        self.assertTrue(text.endswith("extern crate rattle_std as std;\n\n/// A thing.\npub struct A;\n"), text)
+
+    def test_to_vec_is_the_one_with_an_allocator(self):
+        self.assertEqual(code("fn f() { a.to_vec(alloc); a.to_vec(); }"), words("fn f() { a.to_vec_in(alloc); a.to_vec(); }"))
+
+    def test_what_is_written_is_counted(self):
+        _, tally = plain("fn f() { a.to_vec(alloc); }")
+        self.assertEqual((tally["tokens kept"], tally["tokens written"]), (12, 1))
+
+    def test_a_check_at_the_end_finds_what_was_not_counted(self):
+        source = "fn f() { a() }"
+        ts = lexer.tokens(source)
+        export.check(source, ts, source)
+        with self.assertRaises(lexer.Stop):
+            export.check(source, ts, "fn f() { b() }")
+        ts[2].text = "g"
+        with self.assertRaises(lexer.Stop):
+            export.check(source, ts, "fn g() { a() }")
+
+
+class Workspace(unittest.TestCase):
+    def test_a_library_without_a_form_is_named(self):
+        stands_on = {"a": ["b", "hex", "core", "anyhow"], "b": []}
+        self.assertEqual(export.workspace.without_form("a", stands_on), ["anyhow"])
+
+    def test_crates_come_with_what_they_stand_on(self):
+        stands_on = {"low": [], "other": ["low"], "high": ["low", "hex"]}
+        self.assertEqual(export.workspace.closure(["high"], stands_on), ["low", "high"])
+
+
+class Folders(unittest.TestCase):
+    def setUp(self):
+        folder = tempfile.TemporaryDirectory()
+        self.addCleanup(folder.cleanup)
+        self.new, self.old = f"{folder.name}/new", f"{folder.name}/old"
+
+    def write(self, path, text="", when=None):
+        os.makedirs(os.path.dirname(path), exist_ok=True)
+        with open(path, "w", encoding="utf-8") as file:
+            file.write(text)
+        if when is not None:
+            os.utime(path, (when, when))
+
+    def test_only_an_earlier_export_is_written_over(self):
+        self.assertTrue(export.workspace.is_free(self.old))
+        self.write(f"{self.old}/crates/mine.rt")
+        self.assertFalse(export.workspace.is_free(self.old))
+        self.write(f"{self.old}/{export.workspace.COUNTS}")
+        self.assertTrue(export.workspace.is_free(self.old))
+
+    def test_what_is_the_same_stays_and_what_is_no_more_goes(self):
+        for name, text in (("same", "a"), ("changed", "b"), ("added", "c")):
+            self.write(f"{self.new}/crates/c/{name}.rs", text)
+        for name, text in (("same", "a"), ("changed", "a"), ("gone", "d")):
+            self.write(f"{self.old}/crates/c/{name}.rs", text, 7)
+        export.workspace.move_in(self.new, self.old)
+        found = {it: os.stat(f"{self.old}/crates/c/{it}").st_mtime == 7 for it in os.listdir(f"{self.old}/crates/c")}
+        self.assertEqual(found, {"same.rs": True, "changed.rs": False, "added.rs": False})
+
+    def test_a_firmware_that_is_there_is_its_makers(self):
+        self.write(f"{self.new}/firmware/src/flash.rs", "stand-in")
+        self.assertFalse(export.workspace.move_in(self.new, self.old))
+        self.write(f"{self.old}/firmware/src/flash.rs", "mine")
+        self.assertTrue(export.workspace.move_in(self.new, self.old))
+        with open(f"{self.old}/firmware/src/flash.rs", encoding="utf-8") as file:
+            self.assertEqual(file.read(), "mine")
+
+
+class Border(unittest.TestCase):
+    def test_a_bound_is_checked(self):
+        source = "impl S {\n    pub fn f(&self, index: u8)\n        requires index { index ≤ 1 }\n    {\n        g();\n    }\n}\n"
+        text, tally = plain(source, crate="coordinator")
+        self.assertIn('{\n        std::required!(index <= 1, "coordinator: f: index");\n        g();', text)
+        self.assertEqual(tally["check at the border"], 1)
+
+    def test_each_form_of_a_bound(self):
+        for clause, test in (("1 ≤ length body.now", "body.len() >= 1"), ("length body.old ≤ 379", "body.len() <= 379"), ("3 ≤ code", "code >= 3")):
+            self.assertEqual(border.check_of("plc_station", "f", clause), test)
+
+    def test_a_parameter_with_public_fields_is_checked(self):
+        text, tally = plain("impl S { pub fn f(&self, it: &Grant, key: &Key) -> A { g() } }", crate="meter_node")
+        self.assertIn('std::required!(it.keys.get(usize::from(it.active)).is_some_and(Option::is_some), "meter_node: f: it");', text)
+        self.assertEqual(tally["check at the border"], 1)
+
+    def test_a_clause_that_nobody_knows_stops(self):
+        with self.assertRaises(lexer.Stop):
+            code("impl S { pub fn f(&self) requires { Odd self.old } { g() } }", crate="meter_node")
+
+    def test_other_crates_and_inner_calls_are_left(self):
+        inner = "impl S { pub(crate) fn f(&self) requires { Odd self.old } { g() } }"
+        self.assertEqual(plain(inner, crate="meter_node")[1]["check at the border"], 0)
+        self.assertEqual(plain(inner.replace("(crate)", ""), crate="routing_set")[1]["check at the border"], 0)
+
+
+class BorderOfTheNodes(unittest.TestCase):
+    """The checks that the crates of this repository get."""
+
+    @classmethod
+    def setUpClass(cls):
+        cls.checked, cls.unchecked = [], []
+        for crate in border.BORDER["crates"]:
+            for path in export.sources(os.path.join(export.TOP, "crates", crate, "src")):
+                checked, unchecked = border.names(lexer.tokens(read(path)), crate)
+                cls.checked += [f"{crate}: {it}" for it in checked]
+                cls.unchecked += [f"{crate}: {it}" for it in unchecked]
+
+    def test_each_is_broken_by_a_test(self):
+        tested = re.findall(r'stops\("(\w+: \w+: \w+)"', read(os.path.join(HERE, "firmware/tests/border.rs")))
+        self.assertEqual(sorted(tested), sorted(self.checked))
+
+    def test_each_stands_in_the_page(self):
+        rows = re.findall(r"^\| (`\w+::.*`) \| (.*) \|$", read(os.path.join(export.TOP, "docs/IN-YOUR-FIRMWARE.md")), re.MULTILINE)
+        of = {"Station": "plc_station", "Meter": "meter_node", "Coordinator": "coordinator"}
+        said = [f"{of[kind]}: {call}: {clause}" for calls, words in rows for kind, call in re.findall(r"`(\w+)::(\w+)`", calls)
+                for clause in re.findall(r"`(\w+)`", words)]
+        self.assertEqual(sorted(said), sorted(self.checked))
+
+    def test_each_type_with_an_invariant_hides_its_fields_or_is_checked(self):
+        for crate in export.workspace.closure(border.BORDER["crates"], export.workspace.read_crates(export.TOP)):
+            for path in export.sources(os.path.join(export.TOP, "crates", crate, "src")):
+                text = read(path)
+                for name, body in re.findall(r"^impl(?:<.*>)? Model for (\w+).*?\{\n(.*?)^\}", text, re.MULTILINE | re.DOTALL):
+                    fields = re.search(rf"^pub struct {name}\b.*?^\}}|^pub struct {name}\b.*;$", text, re.MULTILINE | re.DOTALL)
+                    if "ghost invariant" in body and fields and re.search(r"\bpub (?!struct|ghost|\()", fields.group(0)):
+                        self.assertIn(name, border.BORDER["types"], path)
+
+    def test_what_is_not_checked_is_that_memory_and_store_agree(self):
+        self.assertEqual({it.split(": ")[2] for it in self.unchecked}, {"agrees"})
+
+
+if __name__ == "__main__":
+    unittest.main()
