@@ -1,6 +1,6 @@
 -- Frames of discovery that are heard, scans, and meters that choose an agent.
-use Rattle.std.proofs.Common.{◌≡◌, ℕ, ◌+◌, ◌<◌, ◌≤◌, Bool, true, false, not, ◌&&◌, ◌||◌, List, [], ◌∷◌, ◌++◌, length, map, Option, Some, None, Result, Ok, Err, refl, sym, ap, subst, ◌∙◌, if◌then◌else◌, arith}
-use Rattle.std.specs.Prelude.{◌==◌, IfSome, is_some, slice_get, slice_set}
+use Rattle.std.proofs.Common.{◌≡◌, ℕ, zero, suc, ◌+◌, ◌<◌, ◌≤◌, Bool, true, false, not, ◌&&◌, ◌||◌, List, [], ◌∷◌, ◌++◌, length, map, Option, Some, None, Result, Ok, Err, refl, sym, ap, subst, ◌∙◌, if◌then◌else◌, arith}
+use Rattle.std.specs.Prelude.{◌==◌, IfSome, is_some, slice_get, slice_set, unwrap_or}
 use Rattle.std.specs.Option.{option_and_then, option_map, option_map_or}
 use Rattle.std.proofs.lemmas.List.{append-nil, length-append}
 use Rattle.std.proofs.lemmas.Option.{get_or_from_slice_get, slice_get_within}
@@ -38,7 +38,7 @@ use Rattle.reach_rules.specs.declared.refusal.ScanRefusal.{ScanRefusal}
 use Rattle.reach_rules.specs.declared.refusal.ScanRefusal.TheVariants as scan_faults
 use Rattle.reach_rules.specs.Beacons.{ChosenAgent, Discovering, begin_scan, choose_agent, choosing_ends, chosen, cost_home, hear_beacon, hear_request, joins_by, takes_beacon, takes_beacons}
 use Rattle.reach_rules.specs.Beacons as beacons
-use Rattle.reach_rules.specs.ReachingNodes.{Beside, Reaching}
+use Rattle.reach_rules.specs.ReachingNodes.{Beside, Reaching, nothing_beside}
 use Rattle.line_rules.specs.declared.event.Answer.{Answer}
 use Rattle.line_rules.specs.declared.event.Answer.TheVariants as said
 use Rattle.line_rules.specs.declared.event.TheConstants.{MAX_EVENTS}
@@ -125,6 +125,35 @@ module _ {A : Type 0} (w new : World) (number : ℕ) (word : A → Answer) (noti
 pub scan_stays : (w : World) (number : ℕ) (frame : Option Discovery) → flies_in w number frame ≡ set_beside number (record (beside_at w number) { scan = (beside_at w number).scan }) (flies_in w number frame)
 scan_stays w number frame = ap (λ bs. record (flies_in w number frame) { beside = bs }) (sym (beside_same w.beside number))
 
+-- # What is said of the node of a number
+
+-- what is said of each memory that the node of a number may hold
+pub by_memory : (nodes : List Node) (number : ℕ) (P : Node → Memory → Type 0) → ((x : Node) (m : Memory) → slice_get nodes number ≡ Some x → x.memory ≡ Some m → P x m)
+    → IfSome (slice_get nodes number) (λ x. IfSome x.memory (λ m. P x m))
+by_memory nodes number P f = by (slice_get nodes number) refl
+  where
+    held : (x : Node) → slice_get nodes number ≡ Some x → (o : Option Memory) → x.memory ≡ o → IfSome o (λ m. P x m)
+    held x at None here = tt
+    held x at (Some m) here = f x m at here
+
+    by : (o : Option Node) → slice_get nodes number ≡ o → IfSome o (λ x. IfSome x.memory (λ m. P x m))
+    by None at = tt
+    by (Some x) at = held x at x.memory refl
+
+-- what is said of the node that is there
+pub at_number : (o : Option Node) (x : Node) (P : Node → Type 0) → o ≡ Some x → IfSome o P → P x
+at_number o x P at h = subst (λ (k : Option Node). IfSome k P) at h
+
+-- the cost home of a node that is not halted
+pub cost_in : (x : Node) (m : Memory) (o : Option ℕ) → x.memory ≡ Some m → o ≡ option_and_then (λ (k : Memory). cost_home x.role k.station) x.memory → o ≡ cost_home x.role m.station
+cost_in x m o here is = is ∙ ap (option_and_then (λ (k : Memory). cost_home x.role k.station)) here
+
+-- what is said of what stands beside a node
+pub beside_has : (bs : List Beside) (number : ℕ) (P : Beside → Type 0) → number < length bs → IfSome (slice_get bs number) P → P (unwrap_or (slice_get bs number) nothing_beside)
+beside_has [] number P within h = absurd (omega (arith, within))
+beside_has (b ∷ bs) zero P within h = h
+beside_has (b ∷ bs) (suc number) P within h = let below : number < length bs = omega (arith, within) in beside_has bs number P below h
+
 -- # Requests
 
 -- the address of a node that is not halted
@@ -192,6 +221,26 @@ beacon_taken_in w new number l pan from cost link b answer here at held t =
       answer_is = at_b.answer_is ∙ ap (λ (d : beacons.Heard). discovery_word d.answer) same;
       world_is = at_b.world_is ∙ ap (λ (d : beacons.Heard). set_beside number (record (beside_at w number) { scan = d.scan }) w) same;
     }
+
+-- a beacon makes no node send
+pub beacon_unsent : (l : StationMemory) (scan : Scanned) (pan from cost link : ℕ) → (hear_beacon l scan pan from cost link).sent ≡ None
+beacon_unsent l scan pan from cost link = by (beacons.is_foreign l pan from) (takes_beacons l scan)
+  where
+    by : (a b : Bool) → (if a then beacons.stays scan (Err drops.NotForMe) else (if b then takes_beacon scan from cost link else beacons.stays scan (Err drops.NotScanning))).sent ≡ None
+    by true b = refl
+    by false true = refl
+    by false false = refl
+
+-- what a beacon leaves once its event counts
+pub beacon_counts : (w v new : World) (number : ℕ) (l : StationMemory) (seq pan from cost link : ℕ) (answer : Answer) (h : Happenings) → IsBounded w → w.events < MAX_EVENTS
+    → HearsBeacon w number l pan from cost link answer v → h ≡ happened v answer → new ≡ ran v
+    → Steps true w (Ok h) new (Ok (has_discovered w number discovery_word (beacon_taken number (Some (discoveries.Beacon seq pan from cost)) link) (hear_beacon l (beside_at w number).scan pan from cost link)))
+beacon_counts w v new number l seq pan from cost link answer h bounds room hears said is =
+    let d = hear_beacon l (beside_at w number).scan pan from cost link in
+    let unsent = beacon_unsent l (beside_at w number).scan pan from cost link in
+    discovery_keeps w new number discovery_word (beacon_taken number (Some (discoveries.Beacon seq pan from cost)) link) d h bounds room d.answer d.scan
+    (λ i. record { answer = d.answer; scan = d.scan; sent = unsent i })
+    (said ∙ (λ i. happened (hears.world_is i) (hears.answer_is i))) (is ∙ ap ran hears.world_is)
 
 -- # Scans
 
