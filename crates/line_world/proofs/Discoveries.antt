@@ -41,7 +41,9 @@ use Rattle.reach_rules.specs.Beacons as beacons
 use Rattle.reach_rules.specs.ReachingNodes.{Beside, Reaching, nothing_beside}
 use Rattle.line_rules.specs.declared.event.Answer.{Answer}
 use Rattle.line_rules.specs.declared.event.Answer.TheVariants as said
+use Rattle.line_rules.specs.declared.event.StepFault.{StepFault}
 use Rattle.line_rules.specs.declared.event.TheConstants.{MAX_EVENTS}
+use Rattle.line_rules.specs.declared.happenings.AgentLine.{AgentLine}
 use Rattle.line_rules.specs.declared.happenings.Happenings.{Happenings}
 use Rattle.line_rules.specs.Answers.{discovery_word, join_word, scan_word}
 use Rattle.line_rules.specs.Further.{agent_line, beacon_taken, beside_after, beside_at, choice_word, choose, chooses_by, discovery_flight, discovery_flights, has_discovered, has_reached, reaches, scan, scanning, scans_by, set_beside, with_beside, without_log}
@@ -49,12 +51,13 @@ use Rattle.line_rules.specs.Steps.{acted, flight_by, happened, identity, psk_of,
 use Rattle.line_rules.specs.Worlds.{Flight, Noticed, Trace, World}
 use Rattle.line_world.specs.Bounds.{IsBounded}
 use Rattle.line_world.specs.Discovering.{HearsBeacon, TakesBeacon, discovers_in, flies_in, joins_in, taken_by}
+use Rattle.line_world.specs.Doings.{Did}
 use Rattle.line_world.specs.Soundness.{AreBelow, IsBelow}
 use Rattle.line_world.specs.Steps.{Steps}
 use Rattle.line_world.proofs.Hearings.{beside_same, set_same}
 use Rattle.line_world.proofs.Orders.{IsMeter, Runs, at_meter}
 use Rattle.line_world.proofs.Settings.{bounded_beside}
-use Rattle.line_world.proofs.Taking.{bounded_by, is_taken_so}
+use Rattle.line_world.proofs.Taking.{IsThere, after, bounded_by, is_taken_so, node_acted}
 use Rattle.line_world.proofs.Taking.{begun as begun_so}
 
 -- # What flies
@@ -139,6 +142,22 @@ by_memory nodes number P f = by (slice_get nodes number) refl
     by : (o : Option Node) → slice_get nodes number ≡ o → IfSome o (λ x. IfSome x.memory (λ m. P x m))
     by None at = tt
     by (Some x) at = held x at x.memory refl
+
+-- what is said of the node of a number, and of a meter and its pair key
+pub by_node : (nodes : List Node) (number : ℕ) (P : Node → Type 0) → ((x : Node) → slice_get nodes number ≡ Some x → P x) → IfSome (slice_get nodes number) P
+by_node nodes number P f = by (slice_get nodes number) refl
+  where
+    by : (o : Option Node) → slice_get nodes number ≡ o → IfSome o P
+    by None at = tt
+    by (Some x) at = f x at
+
+pub by_key : (nodes : List Node) (number : ℕ) (P : Node → Key → Type 0) → ((x : Node) (psk : Key) → slice_get nodes number ≡ Some x → psk_of x ≡ Some psk → P x psk)
+    → IfSome (slice_get nodes number) (λ x. IfSome (psk_of x) (λ psk. P x psk))
+by_key nodes number P f = by_node nodes number (λ x. IfSome (psk_of x) (λ psk. P x psk)) (λ x at. held x at (psk_of x) refl)
+  where
+    held : (x : Node) → slice_get nodes number ≡ Some x → (o : Option Key) → psk_of x ≡ o → IfSome o (λ psk. P x psk)
+    held x at None key = tt
+    held x at (Some psk) key = f x psk at key
 
 -- what is said of the node that is there
 pub at_number : (o : Option Node) (x : Node) (P : Node → Type 0) → o ≡ Some x → IfSome o P → P x
@@ -412,6 +431,77 @@ module _ (w : World) (number : ℕ) (x : Node) (k : ℕ) (psk : Key) (m : Memory
         },
       )) ∙ ap (λ (e : NodeStep (Result ChosenAgent ChooseRefusal)).
       let trace = spoken w (answering choice_word e) in (chosen_so.0, record trace { happened = record trace.happened { agent = agent_line number e.answer } })) (sym same)
+
+-- a meter that is halted is as it was
+pub choice_halted : (w new : World) (number : ℕ) (x : Node) (k : ℕ) (psk : Key) (h : Happenings) → slice_get w.nodes number ≡ Some x → x.memory ≡ None → IsBounded w → w.events < MAX_EVENTS
+    → h ≡ happened w said.Halted → new ≡ ran w → Steps true w (Ok h) new (Ok (chooses_by network w number x k (Some psk)))
+unfolding acts told beside_after
+choice_halted w new number x k psk h at none bounds room is left =
+    let b : Beside = beside_at w number in
+    let plan : Reaching Memory → Plan (Reaching Memory) (Result ChosenAgent ChooseRefusal) = λ y. choose_agent (identity network x psk) y k w.clock in
+    let same : reaches x b (Err choices.Halted) plan ≡ stays x (refusal choices.Halted) =
+    ap (λ (o : Option Memory). option_map_or (λ n. left_by x (carry_out x.store.records x.store.cut (with_beside b plan n))) o (stays x (refusal choices.Halted))) none in
+    let keeps : beside_after x b plan x ≡ b =
+    ap (λ (o : Option Memory). option_map_or (λ (n : Memory). if is_some x.memory then (plan (record { memory = n; beside = b })).memory.beside else without_log b) o b) none in
+    let world : (chooses_by network w number x k (Some psk)).0 ≡ ran w =
+    ap (λ (d : NodeStep (Result ChosenAgent ChooseRefusal)). has_reached network (ran w) number x (Err choices.Halted) plan d) same
+    ∙ ap (λ (c : Beside). set_beside number c (told network (ran w) number (stays x (refusal choices.Halted)))) keeps
+    ∙ (λ i. record (ran w) { nodes = set_same w.nodes number x at i; flights = append-nil w.flights i; made = append-nil w.made i; beside = beside_same w.beside number i }) in
+    let trace = (chooses_by network w number x k (Some psk)).1 in
+    is_taken_so true w new (Ok (chooses_by network w number x k (Some psk))) trace h (λ i. Ok ((world ∙ sym left) i, trace))
+    (is ∙ (λ i. record (happened w (choice_word (sym same i).answer)) { flights = length (sym same i).frames; agent = agent_line number (sym same i).answer }))
+    (subst IsBounded (sym left) (bounded_by w w.clock w.nodes w.flights bounds room (omega arith) refl refl))
+
+-- # The report of a meter that joins by an agent
+
+-- what is said of an event at which a node acted, and an agent with it
+abbrev pub with_agent : Happenings → Option AgentLine → Happenings
+with_agent h agent = record {
+  answer = h.answer;
+  forged = false;
+  up = None;
+  bup = None;
+  agent = agent;
+  path = None;
+  grant = None;
+  took = None;
+  done = None;
+  shown = None;
+  first_flight = h.first_flight;
+  flights = h.flights;
+}
+
+-- the world that a step leaves, and what is said of it
+abbrev world_in : World → Result (World × Trace) StepFault → World
+world_in w (Ok q) = q.0
+world_in w (Err fault) = w
+
+abbrev said_in : Happenings → Result (World × Trace) StepFault → Happenings
+said_in h (Ok q) = q.1.happened
+said_in h (Err fault) = h
+
+pub joins_told : (w new : World) (number : ℕ) (x : Node) (psk : Key) (address total : ℕ) (asked : Result (Unit {0}) JoinRefusal) (out : Out) (nodes : List Node) (agent : Option AgentLine) (h : Happenings)
+    → slice_get w.nodes number ≡ Some x → psk_of x ≡ Some psk
+    → IfSome (slice_get w.nodes number) (λ y. IfSome (psk_of y) (λ key. Did (acts y (Err joins.Halted) (λ k. meters.join (identity network y key) k address w.clock)) w.nodes number asked out nodes))
+    → IsBounded w → w.events < MAX_EVENTS → length out.frames ≤ 24 → length out.tags.made ≤ 2 → agent ≡ agent_line number (chosen (record { address = address; total = total }) asked)
+    → h ≡ record (happened w (join_word asked)) { flights = length out.frames } → new ≡ after (ran w) number nodes out
+    → Steps true w (Ok (with_agent h agent)) new (Ok (joins_in w number x psk address total))
+unfolding told
+joins_told w new number x psk address total asked out nodes agent h at key did bounds room frames tags agent_is is left =
+    let step : Node → NodeStep (Result (Unit {0}) JoinRefusal) = λ y. acts y (Err joins.Halted) (λ k. meters.join (identity network y psk) k address w.clock) in
+    let there : IsThere w number number = record { node = x; at = at; same = refl; within = slice_get_within w.nodes number x at } in
+    let by_all : IfSome (psk_of x) (λ key. Did (acts x (Err joins.Halted) (λ k. meters.join (identity network x key) k address w.clock)) w.nodes number asked out nodes) =
+    at_number _ x (λ y. IfSome (psk_of y) (λ key. Did (acts y (Err joins.Halted) (λ k. meters.join (identity network y key) k address w.clock)) w.nodes number asked out nodes)) at did in
+    let own : Did (step x) w.nodes number asked out nodes =
+    subst (λ (o : Option Key). IfSome o (λ key. Did (acts x (Err joins.Halted) (λ k. meters.join (identity network x key) k address w.clock)) w.nodes number asked out nodes)) key by_all in
+    let s = node_acted true w new there step join_word asked out nodes h bounds room frames tags
+    (subst (λ (o : Option Node). IfSome o (λ y. Did (step y) w.nodes number asked out nodes)) (sym at) own) is left in
+    let world : told network (ran w) number (step x) ≡ new = ap (world_in w) s.gives.taken in
+    let said_so : h ≡ (spoken w (answering join_word (step x))).happened = s.gives.told ∙ sym (ap (said_in h) s.gives.taken) in
+    let agent_so : agent ≡ agent_line number (chosen (record { address = address; total = total }) (step x).answer) =
+    agent_is ∙ ap (λ (r : Result (Unit {0}) JoinRefusal). agent_line number (chosen (record { address = address; total = total }) r)) own.answer_is in
+    let trace = (joins_in w number x psk address total).1 in
+    is_taken_so true w new (Ok (joins_in w number x psk address total)) trace (with_agent h agent) (λ i. Ok (world i, trace)) (λ i. with_agent (said_so i) (agent_so i)) s.bounds
 
 -- the counter of the node of a number is below its limit
 pub below_in : (nodes : List Node) (number : ℕ) (x : Node) (m : Memory) → AreBelow nodes → slice_get nodes number ≡ Some x → x.memory ≡ Some m → m.station.counter.next ≤ m.station.counter.limit

@@ -283,9 +283,9 @@ impl Line {
         if self.nodes.address(number).is_some() {
             return Ok(self.answered(Answer::AlreadyJoined));
         }
-        let Some((address, total)) = self.beside[number].scan.kth(k) else {
+        let Some(agent) = self.beside[number].scan.kth(k) else {
             return Ok(self.answered(Answer::NoBeacon));
         };
-        Ok(self.join_by(number, address, total))
+        Ok(self.join_by(number, agent.0, agent.1))
     }
 }
