@@ -1,13 +1,15 @@
 -- Frames of discovery that are heard, scans, and meters that choose an agent.
-use Rattle.std.proofs.Common.{◌≡◌, ℕ, zero, suc, ◌+◌, ◌<◌, ◌≤◌, Bool, true, false, not, ◌&&◌, ◌||◌, List, [], ◌∷◌, ◌++◌, length, map, Option, Some, None, Result, Ok, Err, refl, sym, ap, subst, ◌∙◌, if◌then◌else◌, arith}
-use Rattle.std.specs.Prelude.{◌==◌, IfSome, is_some, slice_get, slice_set, unwrap_or}
+use Rattle.std.proofs.Common.{◌≡◌, ◌≢◌, ◌%◌, slice_index_or, ℕ, zero, suc, ◌+◌, ◌<◌, ◌≤◌, Bool, true, false, not, ◌&&◌, ◌||◌, List, [], ◌∷◌, ◌++◌, length, map, Option, Some, None, Result, Ok, Err, refl, sym, ap, subst, ◌∙◌, if◌then◌else◌, arith}
+use Rattle.std.specs.Prelude.{◌==◌, nat_eq, nat_lt, IfSome, is_some, slice_get, slice_set, unwrap_or}
 use Rattle.std.specs.Option.{option_and_then, option_map, option_map_or}
+use Rattle.std.proofs.lemmas.Bool.{eq-eqb, ne_eqb, lt-ltb}
 use Rattle.std.proofs.lemmas.List.{append-nil, length-append}
 use Rattle.std.proofs.lemmas.Option.{get_or_from_slice_get, slice_get_within}
 use Rattle.plc_base.specs.declared.address.TheConstants.{PAN}
 use Rattle.plc_base.specs.declared.key.Key.{Key}
 use Rattle.plc_base.specs.declared.out_frame.Out.{Out}
 use Rattle.plc_base.specs.declared.out_frame.OutFrame.{OutFrame}
+use Rattle.plc_base.specs.Fields.{octet}
 use Rattle.plc_base.specs.Grant.{Granted}
 use Rattle.store_tables.specs.Writes.{Written, write}
 use Rattle.store_tables.specs.Writes.{puts_of}
@@ -59,6 +61,23 @@ use Rattle.line_world.proofs.Orders.{IsMeter, Runs, at_meter}
 use Rattle.line_world.proofs.Settings.{bounded_beside}
 use Rattle.line_world.proofs.Taking.{IsThere, after, bounded_by, is_taken_so, node_acted}
 use Rattle.line_world.proofs.Taking.{begun as begun_so}
+
+-- # Octets of discovery
+
+-- octets by the type in their first one
+octets_by : (octets : List ℕ) (first last : Bool) → length octets ≢ 0 → (slice_index_or octets 0 0 % 8 == 0) ≡ first → (slice_index_or octets 0 0 % 8 == 3) ≡ last
+    → beacons.is_discovery octets ≡ (first || last)
+unfolding octet
+octets_by [] first last some zeroth third = absurd (some refl)
+octets_by (a ∷ rest) first last some zeroth third =
+    (let more : nat_lt 0 (length (a ∷ rest)) ≡ true = lt-ltb 0 (length (a ∷ rest)) (omega arith) in rw (more, zeroth, third) refl)
+
+pub first_type : (octets : List ℕ) → length octets ≢ 0 → slice_index_or octets 0 0 % 8 ≡ 0 → nat_eq (slice_index_or octets 0 0 % 8) 0 ≡ beacons.is_discovery octets
+first_type octets some is =
+    eq-eqb _ 0 is ∙ sym (octets_by octets true (slice_index_or octets 0 0 % 8 == 3) some (eq-eqb _ 0 is) refl)
+
+pub other_type : (octets : List ℕ) → length octets ≢ 0 → slice_index_or octets 0 0 % 8 ≢ 0 → nat_eq (slice_index_or octets 0 0 % 8) 3 ≡ beacons.is_discovery octets
+other_type octets some other = sym (octets_by octets false (slice_index_or octets 0 0 % 8 == 3) some (ne_eqb _ 0 other) refl)
 
 -- # What flies
 
