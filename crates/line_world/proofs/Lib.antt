@@ -23,6 +23,7 @@ mod LentReaches
 mod CoordinatorReaching
 mod MeterReaching
 mod ToldReplies
+mod UnaskedReplies
 mod NumberedNodes
 mod Comings
 mod Hearings
