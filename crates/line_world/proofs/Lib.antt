@@ -31,4 +31,5 @@ mod Discoveries
 mod Storable
 mod HeardFurther
 mod Calling
+mod CheckedFrames
 mod Acknowledging
