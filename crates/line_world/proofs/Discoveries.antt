@@ -1,13 +1,15 @@
 -- Frames of discovery that are heard, scans, and meters that choose an agent.
-use Rattle.std.proofs.Common.{◌≡◌, ℕ, ◌+◌, ◌<◌, ◌≤◌, Bool, true, false, not, ◌&&◌, ◌||◌, List, [], ◌∷◌, ◌++◌, length, map, Option, Some, None, Result, Ok, Err, refl, sym, ap, subst, ◌∙◌, if◌then◌else◌, arith}
-use Rattle.std.specs.Prelude.{◌==◌, IfSome, is_some, slice_get, slice_set}
+use Rattle.std.proofs.Common.{◌≡◌, ◌≢◌, ◌%◌, slice_index_or, ℕ, zero, suc, ◌+◌, ◌<◌, ◌≤◌, Bool, true, false, not, ◌&&◌, ◌||◌, List, [], ◌∷◌, ◌++◌, length, map, Option, Some, None, Result, Ok, Err, refl, sym, ap, subst, ◌∙◌, if◌then◌else◌, arith}
+use Rattle.std.specs.Prelude.{◌==◌, nat_eq, nat_lt, IfSome, is_some, slice_get, slice_set, unwrap_or}
 use Rattle.std.specs.Option.{option_and_then, option_map, option_map_or}
+use Rattle.std.proofs.lemmas.Bool.{eq-eqb, ne_eqb, lt-ltb}
 use Rattle.std.proofs.lemmas.List.{append-nil, length-append}
 use Rattle.std.proofs.lemmas.Option.{get_or_from_slice_get, slice_get_within}
 use Rattle.plc_base.specs.declared.address.TheConstants.{PAN}
 use Rattle.plc_base.specs.declared.key.Key.{Key}
 use Rattle.plc_base.specs.declared.out_frame.Out.{Out}
 use Rattle.plc_base.specs.declared.out_frame.OutFrame.{OutFrame}
+use Rattle.plc_base.specs.Fields.{octet}
 use Rattle.plc_base.specs.Grant.{Granted}
 use Rattle.store_tables.specs.Writes.{Written, write}
 use Rattle.store_tables.specs.Writes.{puts_of}
@@ -38,10 +40,12 @@ use Rattle.reach_rules.specs.declared.refusal.ScanRefusal.{ScanRefusal}
 use Rattle.reach_rules.specs.declared.refusal.ScanRefusal.TheVariants as scan_faults
 use Rattle.reach_rules.specs.Beacons.{ChosenAgent, Discovering, begin_scan, choose_agent, choosing_ends, chosen, cost_home, hear_beacon, hear_request, joins_by, takes_beacon, takes_beacons}
 use Rattle.reach_rules.specs.Beacons as beacons
-use Rattle.reach_rules.specs.ReachingNodes.{Beside, Reaching}
+use Rattle.reach_rules.specs.ReachingNodes.{Beside, Reaching, nothing_beside}
 use Rattle.line_rules.specs.declared.event.Answer.{Answer}
 use Rattle.line_rules.specs.declared.event.Answer.TheVariants as said
+use Rattle.line_rules.specs.declared.event.StepFault.{StepFault}
 use Rattle.line_rules.specs.declared.event.TheConstants.{MAX_EVENTS}
+use Rattle.line_rules.specs.declared.happenings.AgentLine.{AgentLine}
 use Rattle.line_rules.specs.declared.happenings.Happenings.{Happenings}
 use Rattle.line_rules.specs.Answers.{discovery_word, join_word, scan_word}
 use Rattle.line_rules.specs.Further.{agent_line, beacon_taken, beside_after, beside_at, choice_word, choose, chooses_by, discovery_flight, discovery_flights, has_discovered, has_reached, reaches, scan, scanning, scans_by, set_beside, with_beside, without_log}
@@ -49,13 +53,31 @@ use Rattle.line_rules.specs.Steps.{acted, flight_by, happened, identity, psk_of,
 use Rattle.line_rules.specs.Worlds.{Flight, Noticed, Trace, World}
 use Rattle.line_world.specs.Bounds.{IsBounded}
 use Rattle.line_world.specs.Discovering.{HearsBeacon, TakesBeacon, discovers_in, flies_in, joins_in, taken_by}
+use Rattle.line_world.specs.Doings.{Did}
 use Rattle.line_world.specs.Soundness.{AreBelow, IsBelow}
 use Rattle.line_world.specs.Steps.{Steps}
 use Rattle.line_world.proofs.Hearings.{beside_same, set_same}
 use Rattle.line_world.proofs.Orders.{IsMeter, Runs, at_meter}
 use Rattle.line_world.proofs.Settings.{bounded_beside}
-use Rattle.line_world.proofs.Taking.{bounded_by, is_taken_so}
+use Rattle.line_world.proofs.Taking.{IsThere, after, bounded_by, is_taken_so, node_acted}
 use Rattle.line_world.proofs.Taking.{begun as begun_so}
+
+-- # Octets of discovery
+
+-- octets by the type in their first one
+octets_by : (octets : List ℕ) (first last : Bool) → length octets ≢ 0 → (slice_index_or octets 0 0 % 8 == 0) ≡ first → (slice_index_or octets 0 0 % 8 == 3) ≡ last
+    → beacons.is_discovery octets ≡ (first || last)
+unfolding octet
+octets_by [] first last some zeroth third = absurd (some refl)
+octets_by (a ∷ rest) first last some zeroth third =
+    (let more : nat_lt 0 (length (a ∷ rest)) ≡ true = lt-ltb 0 (length (a ∷ rest)) (omega arith) in rw (more, zeroth, third) refl)
+
+pub first_type : (octets : List ℕ) → length octets ≢ 0 → slice_index_or octets 0 0 % 8 ≡ 0 → nat_eq (slice_index_or octets 0 0 % 8) 0 ≡ beacons.is_discovery octets
+first_type octets some is =
+    eq-eqb _ 0 is ∙ sym (octets_by octets true (slice_index_or octets 0 0 % 8 == 3) some (eq-eqb _ 0 is) refl)
+
+pub other_type : (octets : List ℕ) → length octets ≢ 0 → slice_index_or octets 0 0 % 8 ≢ 0 → nat_eq (slice_index_or octets 0 0 % 8) 3 ≡ beacons.is_discovery octets
+other_type octets some other = sym (octets_by octets false (slice_index_or octets 0 0 % 8 == 3) some (ne_eqb _ 0 other) refl)
 
 -- # What flies
 
@@ -125,6 +147,51 @@ module _ {A : Type 0} (w new : World) (number : ℕ) (word : A → Answer) (noti
 pub scan_stays : (w : World) (number : ℕ) (frame : Option Discovery) → flies_in w number frame ≡ set_beside number (record (beside_at w number) { scan = (beside_at w number).scan }) (flies_in w number frame)
 scan_stays w number frame = ap (λ bs. record (flies_in w number frame) { beside = bs }) (sym (beside_same w.beside number))
 
+-- # What is said of the node of a number
+
+-- what is said of each memory that the node of a number may hold
+pub by_memory : (nodes : List Node) (number : ℕ) (P : Node → Memory → Type 0) → ((x : Node) (m : Memory) → slice_get nodes number ≡ Some x → x.memory ≡ Some m → P x m)
+    → IfSome (slice_get nodes number) (λ x. IfSome x.memory (λ m. P x m))
+by_memory nodes number P f = by (slice_get nodes number) refl
+  where
+    held : (x : Node) → slice_get nodes number ≡ Some x → (o : Option Memory) → x.memory ≡ o → IfSome o (λ m. P x m)
+    held x at None here = tt
+    held x at (Some m) here = f x m at here
+
+    by : (o : Option Node) → slice_get nodes number ≡ o → IfSome o (λ x. IfSome x.memory (λ m. P x m))
+    by None at = tt
+    by (Some x) at = held x at x.memory refl
+
+-- what is said of the node of a number, and of a meter and its pair key
+pub by_node : (nodes : List Node) (number : ℕ) (P : Node → Type 0) → ((x : Node) → slice_get nodes number ≡ Some x → P x) → IfSome (slice_get nodes number) P
+by_node nodes number P f = by (slice_get nodes number) refl
+  where
+    by : (o : Option Node) → slice_get nodes number ≡ o → IfSome o P
+    by None at = tt
+    by (Some x) at = f x at
+
+pub by_key : (nodes : List Node) (number : ℕ) (P : Node → Key → Type 0) → ((x : Node) (psk : Key) → slice_get nodes number ≡ Some x → psk_of x ≡ Some psk → P x psk)
+    → IfSome (slice_get nodes number) (λ x. IfSome (psk_of x) (λ psk. P x psk))
+by_key nodes number P f = by_node nodes number (λ x. IfSome (psk_of x) (λ psk. P x psk)) (λ x at. held x at (psk_of x) refl)
+  where
+    held : (x : Node) → slice_get nodes number ≡ Some x → (o : Option Key) → psk_of x ≡ o → IfSome o (λ psk. P x psk)
+    held x at None key = tt
+    held x at (Some psk) key = f x psk at key
+
+-- what is said of the node that is there
+pub at_number : (o : Option Node) (x : Node) (P : Node → Type 0) → o ≡ Some x → IfSome o P → P x
+at_number o x P at h = subst (λ (k : Option Node). IfSome k P) at h
+
+-- the cost home of a node that is not halted
+pub cost_in : (x : Node) (m : Memory) (o : Option ℕ) → x.memory ≡ Some m → o ≡ option_and_then (λ (k : Memory). cost_home x.role k.station) x.memory → o ≡ cost_home x.role m.station
+cost_in x m o here is = is ∙ ap (option_and_then (λ (k : Memory). cost_home x.role k.station)) here
+
+-- what is said of what stands beside a node
+pub beside_has : (bs : List Beside) (number : ℕ) (P : Beside → Type 0) → number < length bs → IfSome (slice_get bs number) P → P (unwrap_or (slice_get bs number) nothing_beside)
+beside_has [] number P within h = absurd (omega (arith, within))
+beside_has (b ∷ bs) zero P within h = h
+beside_has (b ∷ bs) (suc number) P within h = let below : number < length bs = omega (arith, within) in beside_has bs number P below h
+
 -- # Requests
 
 -- the address of a node that is not halted
@@ -192,6 +259,26 @@ beacon_taken_in w new number l pan from cost link b answer here at held t =
       answer_is = at_b.answer_is ∙ ap (λ (d : beacons.Heard). discovery_word d.answer) same;
       world_is = at_b.world_is ∙ ap (λ (d : beacons.Heard). set_beside number (record (beside_at w number) { scan = d.scan }) w) same;
     }
+
+-- a beacon makes no node send
+pub beacon_unsent : (l : StationMemory) (scan : Scanned) (pan from cost link : ℕ) → (hear_beacon l scan pan from cost link).sent ≡ None
+beacon_unsent l scan pan from cost link = by (beacons.is_foreign l pan from) (takes_beacons l scan)
+  where
+    by : (a b : Bool) → (if a then beacons.stays scan (Err drops.NotForMe) else (if b then takes_beacon scan from cost link else beacons.stays scan (Err drops.NotScanning))).sent ≡ None
+    by true b = refl
+    by false true = refl
+    by false false = refl
+
+-- what a beacon leaves once its event counts
+pub beacon_counts : (w v new : World) (number : ℕ) (l : StationMemory) (seq pan from cost link : ℕ) (answer : Answer) (h : Happenings) → IsBounded w → w.events < MAX_EVENTS
+    → HearsBeacon w number l pan from cost link answer v → h ≡ happened v answer → new ≡ ran v
+    → Steps true w (Ok h) new (Ok (has_discovered w number discovery_word (beacon_taken number (Some (discoveries.Beacon seq pan from cost)) link) (hear_beacon l (beside_at w number).scan pan from cost link)))
+beacon_counts w v new number l seq pan from cost link answer h bounds room hears said is =
+    let d = hear_beacon l (beside_at w number).scan pan from cost link in
+    let unsent = beacon_unsent l (beside_at w number).scan pan from cost link in
+    discovery_keeps w new number discovery_word (beacon_taken number (Some (discoveries.Beacon seq pan from cost)) link) d h bounds room d.answer d.scan
+    (λ i. record { answer = d.answer; scan = d.scan; sent = unsent i })
+    (said ∙ (λ i. happened (hears.world_is i) (hears.answer_is i))) (is ∙ ap ran hears.world_is)
 
 -- # Scans
 
@@ -363,6 +450,77 @@ module _ (w : World) (number : ℕ) (x : Node) (k : ℕ) (psk : Key) (m : Memory
         },
       )) ∙ ap (λ (e : NodeStep (Result ChosenAgent ChooseRefusal)).
       let trace = spoken w (answering choice_word e) in (chosen_so.0, record trace { happened = record trace.happened { agent = agent_line number e.answer } })) (sym same)
+
+-- a meter that is halted is as it was
+pub choice_halted : (w new : World) (number : ℕ) (x : Node) (k : ℕ) (psk : Key) (h : Happenings) → slice_get w.nodes number ≡ Some x → x.memory ≡ None → IsBounded w → w.events < MAX_EVENTS
+    → h ≡ happened w said.Halted → new ≡ ran w → Steps true w (Ok h) new (Ok (chooses_by network w number x k (Some psk)))
+unfolding acts told beside_after
+choice_halted w new number x k psk h at none bounds room is left =
+    let b : Beside = beside_at w number in
+    let plan : Reaching Memory → Plan (Reaching Memory) (Result ChosenAgent ChooseRefusal) = λ y. choose_agent (identity network x psk) y k w.clock in
+    let same : reaches x b (Err choices.Halted) plan ≡ stays x (refusal choices.Halted) =
+    ap (λ (o : Option Memory). option_map_or (λ n. left_by x (carry_out x.store.records x.store.cut (with_beside b plan n))) o (stays x (refusal choices.Halted))) none in
+    let keeps : beside_after x b plan x ≡ b =
+    ap (λ (o : Option Memory). option_map_or (λ (n : Memory). if is_some x.memory then (plan (record { memory = n; beside = b })).memory.beside else without_log b) o b) none in
+    let world : (chooses_by network w number x k (Some psk)).0 ≡ ran w =
+    ap (λ (d : NodeStep (Result ChosenAgent ChooseRefusal)). has_reached network (ran w) number x (Err choices.Halted) plan d) same
+    ∙ ap (λ (c : Beside). set_beside number c (told network (ran w) number (stays x (refusal choices.Halted)))) keeps
+    ∙ (λ i. record (ran w) { nodes = set_same w.nodes number x at i; flights = append-nil w.flights i; made = append-nil w.made i; beside = beside_same w.beside number i }) in
+    let trace = (chooses_by network w number x k (Some psk)).1 in
+    is_taken_so true w new (Ok (chooses_by network w number x k (Some psk))) trace h (λ i. Ok ((world ∙ sym left) i, trace))
+    (is ∙ (λ i. record (happened w (choice_word (sym same i).answer)) { flights = length (sym same i).frames; agent = agent_line number (sym same i).answer }))
+    (subst IsBounded (sym left) (bounded_by w w.clock w.nodes w.flights bounds room (omega arith) refl refl))
+
+-- # The report of a meter that joins by an agent
+
+-- what is said of an event at which a node acted, and an agent with it
+abbrev pub with_agent : Happenings → Option AgentLine → Happenings
+with_agent h agent = record {
+  answer = h.answer;
+  forged = false;
+  up = None;
+  bup = None;
+  agent = agent;
+  path = None;
+  grant = None;
+  took = None;
+  done = None;
+  shown = None;
+  first_flight = h.first_flight;
+  flights = h.flights;
+}
+
+-- the world that a step leaves, and what is said of it
+abbrev world_in : World → Result (World × Trace) StepFault → World
+world_in w (Ok q) = q.0
+world_in w (Err fault) = w
+
+abbrev said_in : Happenings → Result (World × Trace) StepFault → Happenings
+said_in h (Ok q) = q.1.happened
+said_in h (Err fault) = h
+
+pub joins_told : (w new : World) (number : ℕ) (x : Node) (psk : Key) (address total : ℕ) (asked : Result (Unit {0}) JoinRefusal) (out : Out) (nodes : List Node) (agent : Option AgentLine) (h : Happenings)
+    → slice_get w.nodes number ≡ Some x → psk_of x ≡ Some psk
+    → IfSome (slice_get w.nodes number) (λ y. IfSome (psk_of y) (λ key. Did (acts y (Err joins.Halted) (λ k. meters.join (identity network y key) k address w.clock)) w.nodes number asked out nodes))
+    → IsBounded w → w.events < MAX_EVENTS → length out.frames ≤ 24 → length out.tags.made ≤ 2 → agent ≡ agent_line number (chosen (record { address = address; total = total }) asked)
+    → h ≡ record (happened w (join_word asked)) { flights = length out.frames } → new ≡ after (ran w) number nodes out
+    → Steps true w (Ok (with_agent h agent)) new (Ok (joins_in w number x psk address total))
+unfolding told
+joins_told w new number x psk address total asked out nodes agent h at key did bounds room frames tags agent_is is left =
+    let step : Node → NodeStep (Result (Unit {0}) JoinRefusal) = λ y. acts y (Err joins.Halted) (λ k. meters.join (identity network y psk) k address w.clock) in
+    let there : IsThere w number number = record { node = x; at = at; same = refl; within = slice_get_within w.nodes number x at } in
+    let by_all : IfSome (psk_of x) (λ key. Did (acts x (Err joins.Halted) (λ k. meters.join (identity network x key) k address w.clock)) w.nodes number asked out nodes) =
+    at_number _ x (λ y. IfSome (psk_of y) (λ key. Did (acts y (Err joins.Halted) (λ k. meters.join (identity network y key) k address w.clock)) w.nodes number asked out nodes)) at did in
+    let own : Did (step x) w.nodes number asked out nodes =
+    subst (λ (o : Option Key). IfSome o (λ key. Did (acts x (Err joins.Halted) (λ k. meters.join (identity network x key) k address w.clock)) w.nodes number asked out nodes)) key by_all in
+    let s = node_acted true w new there step join_word asked out nodes h bounds room frames tags
+    (subst (λ (o : Option Node). IfSome o (λ y. Did (step y) w.nodes number asked out nodes)) (sym at) own) is left in
+    let world : told network (ran w) number (step x) ≡ new = ap (world_in w) s.gives.taken in
+    let said_so : h ≡ (spoken w (answering join_word (step x))).happened = s.gives.told ∙ sym (ap (said_in h) s.gives.taken) in
+    let agent_so : agent ≡ agent_line number (chosen (record { address = address; total = total }) (step x).answer) =
+    agent_is ∙ ap (λ (r : Result (Unit {0}) JoinRefusal). agent_line number (chosen (record { address = address; total = total }) r)) own.answer_is in
+    let trace = (joins_in w number x psk address total).1 in
+    is_taken_so true w new (Ok (joins_in w number x psk address total)) trace (with_agent h agent) (λ i. Ok (world i, trace)) (λ i. with_agent (said_so i) (agent_so i)) s.bounds
 
 -- the counter of the node of a number is below its limit
 pub below_in : (nodes : List Node) (number : ℕ) (x : Node) (m : Memory) → AreBelow nodes → slice_get nodes number ≡ Some x → x.memory ≡ Some m → m.station.counter.next ≤ m.station.counter.limit

@@ -160,6 +160,36 @@ impl Line {
         }
     }
 
+    // A node that is not halted hears a frame of discovery over a link of this cost.
+    fn hear_frame(
+        &mut self,
+        node: usize,
+        frame: &Discovery,
+        link: LinkCost,
+    ) -> Happenings<'static>
+        requires room { HasRoom self.old }
+        requires bounds { IsBounded (world_of self.old) }
+        requires beside { length self.old.beside.items ≡ length self.old.nodes }
+        requires events { self.old.events < MAX_EVENTS }
+        requires there { node < length self.old.nodes }
+        requires running { IfSome (slice_get self.old.nodes node) (λ x. IsSome x.memory) }
+        ensures { IfSome (slice_get self.old.nodes node) (λ x. IfSome x.memory (λ m. Steps true (world_of self.old) (Ok result)
+            (world_of self.new) (Ok (discovers_in (world_of self.old) node x.role m.station (Some frame.now) link)))) }
+    {
+        match frame {
+            Discovery::Request { .. } => self.hear_request(node),
+            Discovery::Beacon {
+                pan,
+                from,
+                cost,
+                ..
+            } => {
+                let answer = self.hear_beacon(node, *pan, *from, *cost, link);
+                self.answered(answer)
+            }
+        }
+    }
+
     /// Octets of discovery, read as this frame, come to a node over a link of this cost.
     pub(crate) fn discovered(
         &mut self,
@@ -180,18 +210,7 @@ impl Line {
         }
         match frame {
             None => self.answered(Answer::Malformed),
-            Some(Discovery::Request { .. }) => self.hear_request(node),
-            Some(
-                Discovery::Beacon {
-                    pan,
-                    from,
-                    cost,
-                    ..
-                },
-            ) => {
-                let answer = self.hear_beacon(node, pan, from, cost, link);
-                self.answered(answer)
-            }
+            Some(frame) => self.hear_frame(node, &frame, link),
         }
     }
 
@@ -264,9 +283,9 @@ impl Line {
         if self.nodes.address(number).is_some() {
             return Ok(self.answered(Answer::AlreadyJoined));
         }
-        let Some((address, total)) = self.beside[number].scan.kth(k) else {
+        let Some(agent) = self.beside[number].scan.kth(k) else {
             return Ok(self.answered(Answer::NoBeacon));
         };
-        Ok(self.join_by(number, address, total))
+        Ok(self.join_by(number, agent.0, agent.1))
     }
 }
