@@ -1,27 +1,57 @@
 -- A node hears a command for its neighbours.
-use Rattle.std.proofs.Common.{◌≡◌, ◌<◌, ◌≤◌, ◌∙◌, ℕ, List, length, Option, None, Some, Ok, true, refl, sym, ap, subst, arith}
-use Rattle.std.specs.Prelude.{IfSome, slice_get}
-use Rattle.plc_base.specs.declared.out_frame.Out.{Out}
+use Rattle.std.proofs.Common.{◌≡◌, ◌<◌, ℕ, length, Option, None, Some, Ok, true, sym, subst}
+use Rattle.std.specs.Prelude.{IfSome}
 use Rattle.node_rules.specs.Ciphers.{network}
-use Rattle.node_rules.specs.Frames.{spelled}
 use Rattle.node_rules.specs.Memory.{Node}
 use Rattle.node_rules.specs.NodeSteps.{NodeStep}
-use Rattle.reach_rules.specs.ReachingNodes.{Beside}
+use Rattle.line_rules.specs.declared.happenings.Happenings.{Happenings}
 use Rattle.line_rules.specs.Answers.{Reception}
 use Rattle.line_rules.specs.Further.{beside_at}
 use Rattle.line_rules.specs.Steps.{hears}
-use Rattle.line_rules.specs.Worlds.{World}
-use Rattle.line_rules.proofs.LogSteps.{logged_at, quiet_in}
 use Rattle.line_world.specs.Arrivals.{heard_so as heard_by_command}
 use Rattle.line_world.specs.Lines.{world_of}
-use Rattle.line_world.specs.Reaching.{IsLogOf, command_of}
+use Rattle.line_world.specs.Reaching.{command_of}
 use Rattle.line_world.specs.Receiving.{Received}
 use Rattle.line_world.specs.Steps.{Steps}
-use Rattle.line_world.proofs.Arrivals.{as_many, at_node_told, at_some, in_run_again}
-use Rattle.line_world.proofs.Calling.{beside_found}
-use Rattle.line_world.proofs.Hearings.{command_silent, log_of, was_commanded}
-use Rattle.line_world.proofs.Taking.{many_given}
+use Rattle.line_world.proofs.Arrivals.{at_node_told, at_some}
+use Rattle.line_world.proofs.Calling.{beside_found, command_bounded, command_log, command_room}
+use Rattle.line_world.proofs.Hearings.{was_commanded}
 use Rattle.line_world.proofs.line.Line.commanded.Goals as goal
+
+pub hear_command-commanded-requires-clause-log : goal.hear_command-commanded-requires-clause-log
+hear_command-commanded-requires-clause-log c =
+    let w = world_of c.args.self.now in
+    let number = c.args.node in
+    let x = at_some w.nodes number c.requires.there in
+    let step : Node → NodeStep Reception = λ y. hears network y c.args.got.now c.args.cost c.args.origin.note w.clock in
+    let heard = at_node_told w.nodes number x.0 (λ y. Received (step y) w.nodes number c.hear-told.result c.hear-told.new.out c.hear-told.new.self) x.1 c.hear-told.ensures.received in
+    let within : number < length w.beside = subst (λ (n : ℕ). number < n) (sym c.requires.beside) c.requires.there in
+    let held : c.index_mut.result.now ≡ beside_at w number = beside_found w.beside number c.index_mut.result.now within c.index_mut.ensures.value in
+    command_log w number x.0 c.args.got.now (command_of c.args.command.now) c.args.cost c.args.origin.note c.hear-told.result c.hear-told.new.out c.hear-told.new.self
+    x.1 c.requires.command heard
+    c.index_mut.result.now held c.requires.logs
+
+pub hear_command-commanded-requires-clause-room : goal.hear_command-commanded-requires-clause-room
+hear_command-commanded-requires-clause-room c =
+    let w = world_of c.args.self.now in
+    let number = c.args.node in
+    let x = at_some w.nodes number c.requires.there in
+    let step : Node → NodeStep Reception = λ y. hears network y c.args.got.now c.args.cost c.args.origin.note w.clock in
+    let heard = at_node_told w.nodes number x.0 (λ y. Received (step y) w.nodes number c.hear-told.result c.hear-told.new.out c.hear-told.new.self) x.1 c.hear-told.ensures.received in
+    command_room w number x.0 c.args.got.now (command_of c.args.command.now) c.args.cost c.args.origin.note c.hear-told.result c.hear-told.new.out c.hear-told.new.self
+    x.1 c.requires.command heard
+
+pub received-happened-requires-clause-bounds : goal.received-happened-requires-clause-bounds
+received-happened-requires-clause-bounds c =
+    let w = world_of c.args.self.now in
+    let number = c.args.node in
+    let x = at_some w.nodes number c.requires.there in
+    let step : Node → NodeStep Reception = λ y. hears network y c.args.got.now c.args.cost c.args.origin.note w.clock in
+    let heard = at_node_told w.nodes number x.0 (λ y. Received (step y) w.nodes number c.hear-told.result c.hear-told.new.out c.hear-told.new.self) x.1 c.hear-told.ensures.received in
+    command_bounded w number x.0 c.args.got.now (command_of c.args.command.now) c.args.cost c.args.origin.note c.hear-told.result c.hear-told.new.out c.hear-told.new.self
+    x.1 c.requires.command heard
+    c.index_mut.result.now c.hear_command-commanded.new.beside c.hear_command-commanded.result c.hear_command-commanded.new.out c.hear_command-commanded.new.self _
+    c.hear_command-commanded.ensures c.requires.bounds
 
 pub returns : goal.returns
 returns c =
@@ -33,9 +63,25 @@ returns c =
     let within : number < length w.beside = subst (λ (n : ℕ). number < n) (sym c.requires.beside) c.requires.there in
     let held : c.index_mut.result.now ≡ beside_at w number = beside_found w.beside number c.index_mut.result.now within c.index_mut.ensures.value in
     let done = c.hear_command-commanded.result in
-    subst (λ (o : Option Node). IfSome o (λ y. Steps true w (Ok _) (world_of c.received-happened.new.self) (Ok (heard_by_command network w number y c.args.got.now c.args.origin c.args.cost (Some (command_of c.args.command.now)))))) (sym x.1)
+    let heard_it = c.received-happened.result in
+    let h : Happenings =
+    record {
+      answer = done.answer;
+      forged = c.is_forged-forged.result;
+      up = heard_it.up;
+      bup = done.bup;
+      agent = None;
+      path = done.path;
+      grant = None;
+      took = heard_it.took;
+      done = heard_it.done;
+      shown = None;
+      first_flight = heard_it.first_flight;
+      flights = heard_it.flights;
+    } in
+    subst (λ (o : Option Node). IfSome o (λ y. Steps true w (Ok h) (world_of c.received-happened.new.self) (Ok (heard_by_command network w number y c.args.got.now c.args.origin c.args.cost (Some (command_of c.args.command.now)))))) (sym x.1)
     (was_commanded w _ number x.0 c.args.got.now (command_of c.args.command.now) c.args.origin c.args.cost c.hear-told.result c.hear-told.new.out c.hear_command-commanded.new.out
-    c.hear-told.new.self c.hear_command-commanded.new.self c.is_forged-forged.result done c.index_mut.result.now c.hear_command-commanded.new.beside _
+    c.hear-told.new.self c.hear_command-commanded.new.self c.is_forged-forged.result done c.index_mut.result.now c.hear_command-commanded.new.beside h
     c.requires.bounds c.requires.events c.received-happened.ensures.frames c.received-happened.ensures.tags x.1 c.requires.command heard held c.hear_command-commanded.ensures c.is_forged-forged.ensures
     (λ i. record (c.received-happened.ensures.told i) {
       answer = done.answer;

@@ -28,7 +28,7 @@ returns-in-Some c =
 pub returns : goal.returns
 returns c =
     let w = world_of c.args.self.now in
-    let none = sym (ap (λ (u : Option Unit). command_on c.args.got.now.path u) (sym c.unit_of-unit.ensures)) ∙ sym c.in_default.ensures in
+    let none = ap (λ (u : Option Unit). command_on c.args.got.now.path u) (sym c.unit_of-unit.ensures) ∙ sym c.in_default.ensures in
     named_so w _ c.args.node c.heard.result
     (λ x. hears_so network w c.args.node x c.args.got.now c.args.origin c.args.cost)
     (λ x. heard_further_so network w c.args.node x c.args.got.now c.args.origin c.args.cost)
