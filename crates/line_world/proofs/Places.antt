@@ -130,22 +130,22 @@ there_is (x ∷ xs) zero h = (x, refl)
 there_is (x ∷ xs) (suc p) h = let less : p < length xs = omega (arith, h) in there_is xs p less
 
 -- what was done up to a place
-abbrev pub UpTo : (Node → Node) → List Node → ℕ → List Node → Type 0
+abbrev pub UpTo : {A : Type 0} → (A → A) → List A → ℕ → List A → Type 0
 UpTo f xs p ys = ys ≡ map f (take p xs) ++ drop p xs
 
-pub up_to_next : (f : Node → Node) (xs ys zs : List Node) (p : ℕ) → UpTo f xs p ys → p < length ys → IfSome (slice_get ys p) (λ x. zs ≡ slice_set ys p (f x)) → UpTo f xs (p + 1) zs
-up_to_next f xs ys zs p so_far within h =
+pub up_to_next : {A : Type 0} (f : A → A) (xs ys zs : List A) (p : ℕ) → UpTo f xs p ys → p < length ys → IfSome (slice_get ys p) (λ x. zs ≡ slice_set ys p (f x)) → UpTo f xs (p + 1) zs
+up_to_next {A} f xs ys zs p so_far within h =
     let x = there_is ys p within in
-    let got : slice_get (map f (take p xs) ++ drop p xs) p ≡ Some x.0 = sym (ap (λ (k : List Node). slice_get k p) so_far) ∙ x.1 in
-    let done : zs ≡ slice_set ys p (f x.0) = subst (λ (o : Option Node). IfSome o (λ x. zs ≡ slice_set ys p (f x))) x.1 h in
+    let got : slice_get (map f (take p xs) ++ drop p xs) p ≡ Some x.0 = sym (ap (λ (k : List A). slice_get k p) so_far) ∙ x.1 in
+    let done : zs ≡ slice_set ys p (f x.0) = subst (λ (o : Option A). IfSome o (λ x. zs ≡ slice_set ys p (f x))) x.1 h in
     let next : suc p ≡ p + 1 = omega arith in
-    done ∙ ap (λ (k : List Node). slice_set k p (f x.0)) so_far ∙ map_step f xs p x.0 got ∙ ap (λ (n : ℕ). map f (take n xs) ++ drop n xs) next
+    done ∙ ap (λ (k : List A). slice_set k p (f x.0)) so_far ∙ map_step f xs p x.0 got ∙ ap (λ (n : ℕ). map f (take n xs) ++ drop n xs) next
 
-pub up_to_end : (f : Node → Node) (xs ys : List Node) (p : ℕ) → UpTo f xs p ys → length xs ≤ p → ys ≡ map f xs
+pub up_to_end : {A : Type 0} (f : A → A) (xs ys : List A) (p : ℕ) → UpTo f xs p ys → length xs ≤ p → ys ≡ map f xs
 up_to_end f xs ys p so_far past = so_far ∙ map_whole f xs p past
 
-pub up_to_long : (f : Node → Node) (xs ys : List Node) (p : ℕ) → UpTo f xs p ys → length ys ≡ length xs
-up_to_long f xs ys p so_far = ap (λ (k : List Node). length k) so_far ∙ map_length f xs p
+pub up_to_long : {A : Type 0} (f : A → A) (xs ys : List A) (p : ℕ) → UpTo f xs p ys → length ys ≡ length xs
+up_to_long {A} f xs ys p so_far = ap (λ (k : List A). length k) so_far ∙ map_length f xs p
 
 -- # The first that passes
 

@@ -1,6 +1,6 @@
 //! What a node of the line holds beside its memory.
 ghost use Rattle.std.specs.Prelude.{◌≡◌};
-ghost use Rattle.reach_rules.specs.ReachingNodes.{nothing_beside};
+ghost use Rattle.reach_rules.specs.ReachingNodes.{nothing_beside, tick_beside};
 
 use broadcast_log::BroadcastLog;
 use neighbour_checks::Checks;
@@ -36,5 +36,12 @@ impl Beside {
             log: BroadcastLog::new(),
             scan: Scan::new(),
         }
+    }
+
+    /// Neighbours that have been listed for long enough are let go, and those that have not acknowledged in time are listed.
+    pub(crate) fn tick(&mut self, now: u64)
+        ensures { self.new ≡ tick_beside now self.old }
+    {
+        self.checks.tick(now);
     }
 }

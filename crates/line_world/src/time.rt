@@ -37,13 +37,13 @@ impl Line {
         Ok(self.answered(Answer::Ticked))
     }
 
-    // Neighbours that have been listed for long enough are let go, and those that have not acknowledged in time are listed.
+    // What each node holds beside its memory is told the time.
     fn tick_beside(&mut self)
         ensures { world_of self.new ≡ record (world_of self.old) { beside = map (tick_beside self.old.clock) self.old.beside.items } }
     {
         let now = self.clock;
-        for beside in &mut self.beside {
-            beside.checks.tick(now);
+        for place in 0..self.beside.len() {
+            self.beside[place].tick(now);
         }
     }
 
