@@ -1,5 +1,5 @@
 -- The words of answers have no line feed.
-use Rattle.std.proofs.Common.{◌≡◌, ◌&&◌, Bool, true, refl}
+use Rattle.std.proofs.Common.{◌≡◌, true, refl}
 use Rattle.line_rules.specs.declared.event.Answer.{Answer}
 use Rattle.line_rules.specs.declared.event.Answer.TheVariants as answers
 use Rattle.line_script.specs.AnswerWords.{answer_word, verdict_word}

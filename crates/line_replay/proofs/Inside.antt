@@ -1,5 +1,5 @@
 -- Texts within a line: what has no line feed.
-use Rattle.std.proofs.Common.{◌≡◌, ℕ, zero, suc, ◌+◌, ◌/◌, ◌%◌, ◌<◌, ◌==◌, ◌&&◌, Bool, true, false, not, cond, nat_lt, List, [], ◌∷◌, ◌++◌, slice_index, if◌then◌else◌, refl, subst, sym, arith}
+use Rattle.std.proofs.Common.{◌≡◌, ℕ, zero, suc, ◌+◌, ◌/◌, ◌%◌, ◌<◌, ◌==◌, ◌&&◌, Bool, true, false, not, List, [], ◌∷◌, ◌++◌, slice_index, if◌then◌else◌, refl, subst, sym, arith}
 use Rattle.std.specs.List.{list_all}
 use Rattle.std.specs.Fmt.{decimal, digits, digits_onto, digit_glyph}
 use Rattle.std.proofs.lemmas.Bool.{lt-ltb, ne_eqb}
@@ -12,7 +12,8 @@ IsInside (c ∷ cs) = ((c == 10) ≡ false) × IsInside cs
 abbrev pub is_inside : List ℕ → Bool
 is_inside text = list_all (λ c. not (c == 10)) text
 
-inside_by : (b : Bool) (c : ℕ) (cs : List ℕ) → (c == 10) ≡ b → (not b && is_inside cs) ≡ true → (is_inside cs ≡ true → IsInside cs) → IsInside (c ∷ cs)
+inside_by : (b : Bool) (c : ℕ) (cs : List ℕ) → (c == 10) ≡ b → (not b && is_inside cs) ≡ true
+    → (is_inside cs ≡ true → IsInside cs) → IsInside (c ∷ cs)
 inside_by false c cs is all more = (is, more all)
 inside_by true c cs is all more = absurd (let no : false ≡ true → ⊥ = λ e. cc in no all)
 
@@ -39,16 +40,18 @@ module _ (P : List ℕ → Type 0) (more : (d : ℕ) (acc : List ℕ) → d < 10
   onto_has zero n acc is = is
   onto_has (suc k) n acc is =
       let digit : n % 10 < 10 = omega arith in
-      let front : P (digit_glyph false (n % 10) ∷ acc) = subst (λ c. P (c ∷ acc)) (sym (glyph_is (n % 10) digit)) (more (n % 10) acc digit is) in
-      choice P (n / 10 == 0) (digit_glyph false (n % 10) ∷ acc) (digits_onto k 10 false (n / 10) (digit_glyph false (n % 10) ∷ acc)) front (onto_has k (n / 10) (digit_glyph false (n % 10) ∷ acc) front)
+      let first = digit_glyph false (n % 10) ∷ acc in
+      let has : P first = subst (λ c. P (c ∷ acc)) (sym (glyph_is (n % 10) digit)) (more (n % 10) acc digit is) in
+      choice P (n / 10 == 0) first (digits_onto k 10 false (n / 10) first) has (onto_has k (n / 10) first has)
 
   -- what holds of each single digit, and of one more digit in front, holds of a number in decimal
   pub decimal_has : ((d : ℕ) → d < 10 → P ((48 + d) ∷ [])) → (n : ℕ) → P (decimal n)
   unfolding digits
   decimal_has one n =
       let digit : n % 10 < 10 = omega arith in
-      let front : P (digit_glyph false (n % 10) ∷ []) = subst (λ c. P (c ∷ [])) (sym (glyph_is (n % 10) digit)) (one (n % 10) digit) in
-      choice P (n / 10 == 0) (digit_glyph false (n % 10) ∷ []) (digits_onto 63 10 false (n / 10) (digit_glyph false (n % 10) ∷ [])) front (onto_has 63 (n / 10) (digit_glyph false (n % 10) ∷ []) front)
+      let first = digit_glyph false (n % 10) ∷ [] in
+      let has : P first = subst (λ c. P (c ∷ [])) (sym (glyph_is (n % 10) digit)) (one (n % 10) digit) in
+      choice P (n / 10 == 0) first (digits_onto 63 10 false (n / 10) first) has (onto_has 63 (n / 10) first has)
 
 digit_inside : (d : ℕ) (acc : List ℕ) → d < 10 → IsInside acc → IsInside ((48 + d) ∷ acc)
 digit_inside d acc digit is = (ne_eqb (48 + d) 10 (λ e. omega (arith, e)), is)

@@ -4,7 +4,7 @@ use Rattle.std.proofs.lemmas.List.{append-nil}
 use Rattle.line_driver.specs.Lines.{Line, lines}
 use Rattle.line_rules.specs.Worlds.{World, Flight, flight_at, start}
 use Rattle.line_rules.specs.Runs.{Entry}
-use Rattle.line_script.specs.Texts.{happened_text, bad_text, end_text}
+use Rattle.line_script.specs.Texts.{happened_text}
 use Rattle.line_replay.specs.Texts.{fly_by, flight_text, flies_text, sent_text, totals}
 use Rattle.line_replay.specs.Replay.{Taking, Skipped, Taken, Refused, taking, without_flights, report, entry_text, entries, entries_text, last_by, last_from, last_text}
 use Rattle.line_replay.proofs.ReportLines.{IsKept, none_kept, IsLeftOut, happened_kept, bad_kept, end_kept, fly_left_out}
@@ -54,7 +54,8 @@ entries_quieted (x ∷ xs) rest =
 
 -- ---- the last line
 
-last_by_kept : (w : World) (number : ℕ) (t : Taking) (rest : World → List ℕ) → ((next : World) → IsKept (rest next)) → IsKept (last_by w number t rest)
+last_by_kept : (w : World) (number : ℕ) (t : Taking) (rest : World → List ℕ) → ((next : World) → IsKept (rest next))
+    → IsKept (last_by w number t rest)
 last_by_kept w number Skipped rest all = all w
 last_by_kept w number (Taken entry) rest all = all entry.after
 last_by_kept w number (Refused reason) rest all = bad_kept number reason

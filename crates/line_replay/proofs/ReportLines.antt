@@ -1,5 +1,5 @@
 -- The lines of a report: each but a flight's is kept in a quiet report.
-use Rattle.std.proofs.Common.{◌≡◌, ℕ, suc, ◌+◌, ◌<◌, ◌≤◌, ◌==◌, Bool, true, false, not, List, [], ◌∷◌, ◌++◌, codes, Option, Some, None, if◌then◌else◌, nat_eq, refl, sym, ◌∙◌, ap, append_assoc, arith}
+use Rattle.std.proofs.Common.{◌≡◌, ℕ, ◌+◌, ◌<◌, ◌==◌, Bool, true, false, not, List, [], ◌∷◌, ◌++◌, codes, Option, Some, None, if◌then◌else◌, refl, sym, ◌∙◌, ap, append_assoc, arith}
 use Rattle.std.specs.Fmt.{decimal}
 use Rattle.std.proofs.lemmas.Bool.{ne_eqb}
 use Rattle.hex.specs.Hex.{encode_lower}
@@ -42,7 +42,8 @@ none_kept = record { kept = λ rest. refl }
 
 pub kept_then : (a : List ℕ) {b : List ℕ} → IsKept a → IsKept b → IsKept (a ++ b)
 kept_then a {b} ka kb = record {
-  kept = λ rest. ap without_flights (append_assoc a b rest) ∙ ka.kept (b ++ rest) ∙ ap (λ l. a ++ l) (kb.kept rest) ∙ sym (append_assoc a b (without_flights rest))
+  kept = λ rest.
+      ap without_flights (append_assoc a b rest) ∙ ka.kept (b ++ rest) ∙ ap (λ l. a ++ l) (kb.kept rest) ∙ sym (append_assoc a b (without_flights rest))
 }
 
 -- ---- one line
