@@ -1,86 +1,82 @@
--- The quiet report is the other one without the lines of the flights.
-use Rattle.std.proofs.Common.{◌≡◌, ℕ, zero, suc, ◌+◌, ◌-◌, Bool, true, false, List, [], ◌∷◌, ◌++◌, length, Option, Some, None, refl, sym, ◌∙◌, ap, append_assoc}
+-- The quiet report is the full one without the lines of the flights.
+use Rattle.std.proofs.Common.{◌≡◌, ℕ, zero, suc, ◌+◌, ◌-◌, Bool, true, false, List, [], ◌∷◌, ◌++◌, length, codes, Option, Some, None, refl, sym, ◌∙◌, ap, append_assoc}
 use Rattle.std.proofs.lemmas.List.{append-nil}
-use Rattle.line_rules.specs.Worlds.{World, Flight, flight_at}
+use Rattle.line_driver.specs.Lines.{Line, lines}
+use Rattle.line_rules.specs.Worlds.{World, Flight, flight_at, start}
 use Rattle.line_rules.specs.Runs.{Entry}
 use Rattle.line_script.specs.Texts.{happened_text}
-use Rattle.line_replay.specs.Texts.{fly_by, flight_text, flies_text, sent_text}
-use Rattle.line_replay.specs.Replay.{Piece, Fly, Other, full_text, quiet_text, IsQuieted, report, entry_text, entries, entries_text, last_text}
+use Rattle.line_replay.specs.Texts.{fly_by, flight_text, flies_text, sent_text, totals}
+use Rattle.line_replay.specs.Replay.{Taking, Skipped, Taken, Refused, taking, without_flights, report, entry_text, entries, entries_text, last_by, last_from, last_text}
+use Rattle.line_replay.proofs.ReportLines.{IsKept, none_kept, IsLeftOut, happened_kept, bad_kept, end_kept, fly_left_out}
 use Rattle.line_replay.proofs.Running.{report_by_entries}
 
--- ---- the pieces of a report
+-- lines of flights alone are left out, others are kept
+worked_report : without_flights (codes "1 ok Sent\nfly 1 0 ff\n\nfly\nfly 2 1 00\nend 1 2 1 0 0\n") ≡ codes "1 ok Sent\n\nfly\nend 1 2 1 0 0\n"
+worked_report = refl
 
-abbrev fly_pieces : ℕ → Option Flight → List Piece
-fly_pieces number None = []
-fly_pieces number (Some f) = Fly number f ∷ []
+-- ---- the lines of flights
 
-abbrev flies_pieces : World → ℕ → ℕ → List Piece
-flies_pieces w first zero = []
-flies_pieces w first (suc count) = flies_pieces w first count ++ fly_pieces (first + count) (flight_at w (first + count))
+none_left_out : IsLeftOut []
+none_left_out = record { left_out = λ rest. refl }
 
-abbrev entry_pieces : Entry → List Piece
-entry_pieces x = Other (happened_text x.number x.event x.trace.happened) ∷ flies_pieces x.after x.trace.happened.first_flight (length x.after.flights + 1 - x.trace.happened.first_flight)
+left_out_then : (a : List ℕ) {b : List ℕ} → IsLeftOut a → IsLeftOut b → IsLeftOut (a ++ b)
+left_out_then a {b} la lb = record { left_out = λ rest. ap without_flights (append_assoc a b rest) ∙ la.left_out (b ++ rest) ∙ lb.left_out rest }
 
-abbrev entries_pieces : List Entry → List Piece
-entries_pieces [] = []
-entries_pieces (x ∷ xs) = entry_pieces x ++ entries_pieces xs
+fly_out : (number : ℕ) (o : Option Flight) → IsLeftOut (fly_by number o)
+fly_out number None = none_left_out
+fly_out number (Some f) = fly_left_out number f.from f.octets
 
--- ---- their texts
-
-full_append : (p q : List Piece) → full_text (p ++ q) ≡ full_text p ++ full_text q
-full_append [] q = refl
-full_append (Fly number f ∷ p) q = ap (λ l. fly_by number (Some f) ++ l) (full_append p q) ∙ sym (append_assoc (fly_by number (Some f)) (full_text p) (full_text q))
-full_append (Other text ∷ p) q = ap (λ l. text ++ l) (full_append p q) ∙ sym (append_assoc text (full_text p) (full_text q))
-
-quiet_append : (p q : List Piece) → quiet_text (p ++ q) ≡ quiet_text p ++ quiet_text q
-quiet_append [] q = refl
-quiet_append (Fly number f ∷ p) q = quiet_append p q
-quiet_append (Other text ∷ p) q = ap (λ l. text ++ l) (quiet_append p q) ∙ sym (append_assoc text (quiet_text p) (quiet_text q))
-
-full_fly : (number : ℕ) (o : Option Flight) → full_text (fly_pieces number o) ≡ fly_by number o
-full_fly number None = refl
-full_fly number (Some f) = append-nil (fly_by number (Some f))
-
-quiet_fly : (number : ℕ) (o : Option Flight) → quiet_text (fly_pieces number o) ≡ []
-quiet_fly number None = refl
-quiet_fly number (Some f) = refl
-
-full_flies : (w : World) (first count : ℕ) → full_text (flies_pieces w first count) ≡ flies_text w first count
+flies_out : (w : World) (first count : ℕ) → IsLeftOut (flies_text w first count)
 unfolding flies_text flight_text
-full_flies w first zero = refl
-full_flies w first (suc count) =
-    let flight = flight_at w (first + count) in
-    rw (full_append (flies_pieces w first count) (fly_pieces (first + count) flight)) (rw (full_flies w first count) (ap (λ l. flies_text w first count ++ l) (full_fly (first + count) flight)))
+flies_out w first zero = none_left_out
+flies_out w first (suc count) = left_out_then (flies_text w first count) (flies_out w first count) (fly_out (first + count) (flight_at w (first + count)))
 
-quiet_flies : (w : World) (first count : ℕ) → quiet_text (flies_pieces w first count) ≡ []
-quiet_flies w first zero = refl
-quiet_flies w first (suc count) =
-    let flight = flight_at w (first + count) in
-    rw (quiet_append (flies_pieces w first count) (fly_pieces (first + count) flight)) (rw (quiet_flies w first count) (quiet_fly (first + count) flight))
+-- ---- the lines of entries
 
-full_entry : (x : Entry) → full_text (entry_pieces x) ≡ entry_text false x
+entry_quieted : (x : Entry) (rest : List ℕ) → without_flights (entry_text false x ++ rest) ≡ entry_text true x ++ without_flights rest
 unfolding sent_text
-full_entry x = ap (λ l. happened_text x.number x.event x.trace.happened ++ l) (full_flies x.after x.trace.happened.first_flight (length x.after.flights + 1 - x.trace.happened.first_flight))
+entry_quieted x rest =
+    let lines = happened_text x.number x.event x.trace.happened in
+    let first = x.trace.happened.first_flight in
+    let flies = flies_text x.after first (length x.after.flights + 1 - first) in
+    ap without_flights (append_assoc lines flies rest)
+    ∙ (happened_kept x.number x.event x.trace.happened).kept (flies ++ rest)
+    ∙ ap (λ l. lines ++ l) ((flies_out x.after first (length x.after.flights + 1 - first)).left_out rest)
+    ∙ ap (λ l. l ++ without_flights rest) (sym (append-nil lines))
 
-quiet_entry : (x : Entry) → quiet_text (entry_pieces x) ≡ entry_text true x
-unfolding sent_text
-quiet_entry x = ap (λ l. happened_text x.number x.event x.trace.happened ++ l) (quiet_flies x.after x.trace.happened.first_flight (length x.after.flights + 1 - x.trace.happened.first_flight))
+entries_quieted : (xs : List Entry) (rest : List ℕ) → without_flights (entries_text false xs ++ rest) ≡ entries_text true xs ++ without_flights rest
+entries_quieted [] rest = refl
+entries_quieted (x ∷ xs) rest =
+    ap without_flights (append_assoc (entry_text false x) (entries_text false xs) rest)
+    ∙ entry_quieted x (entries_text false xs ++ rest)
+    ∙ ap (λ l. entry_text true x ++ l) (entries_quieted xs rest)
+    ∙ sym (append_assoc (entry_text true x) (entries_text true xs) (without_flights rest))
 
-full_entries : (xs : List Entry) → full_text (entries_pieces xs) ≡ entries_text false xs
-full_entries [] = refl
-full_entries (x ∷ xs) = rw (full_append (entry_pieces x) (entries_pieces xs)) (rw (full_entry x) (ap (λ l. entry_text false x ++ l) (full_entries xs)))
+-- ---- the last line
 
-quiet_entries : (xs : List Entry) → quiet_text (entries_pieces xs) ≡ entries_text true xs
-quiet_entries [] = refl
-quiet_entries (x ∷ xs) = rw (quiet_append (entry_pieces x) (entries_pieces xs)) (rw (quiet_entry x) (ap (λ l. entry_text true x ++ l) (quiet_entries xs)))
+last_by_kept : (w : World) (number : ℕ) (t : Taking) (rest : World → List ℕ) → ((next : World) → IsKept (rest next))
+    → IsKept (last_by w number t rest)
+last_by_kept w number Skipped rest all = all w
+last_by_kept w number (Taken entry) rest all = all entry.after
+last_by_kept w number (Refused reason) rest all = bad_kept number reason
+
+last_kept : (ls : List Line) (ended : Bool) (w : World) → IsKept (last_from w ls ended)
+last_kept [] true w = end_kept (totals w)
+last_kept [] false w = none_kept
+last_kept (line ∷ ls) ended w = last_by_kept w line.number (taking w line.content) (λ next. last_from next ls ended) (last_kept ls ended)
+
+last_quieted : (octets : List ℕ) (ended : Bool) → without_flights (last_text octets ended) ≡ last_text octets ended
+last_quieted octets ended =
+    let last = last_text octets ended in
+    ap without_flights (sym (append-nil last)) ∙ (last_kept (lines octets ended) ended start).kept [] ∙ append-nil last
 
 -- ---- the report
 
-pub report_quieted : (octets : List ℕ) (ended : Bool) → IsQuieted (report false octets ended) (report true octets ended)
+pub report_quieted : (octets : List ℕ) (ended : Bool) → report true octets ended ≡ without_flights (report false octets ended)
 report_quieted octets ended =
     let run = entries octets ended in
-    let last = last_text octets ended in record {
-      pieces = entries_pieces run ++ Other last ∷ [];
-      full_is = sym (full_append (entries_pieces run) (Other last ∷ []) ∙ (ap (λ l. l ++ (last ++ [])) (full_entries run) ∙ (ap (λ l. entries_text false run ++ l) (append-nil last) ∙ sym (report_by_entries false octets ended))));
-      quiet_is = sym (quiet_append (entries_pieces run) (Other last ∷ []) ∙ (ap (λ l. l ++ (last ++ [])) (quiet_entries run) ∙ (ap (λ l. entries_text true run ++ l) (append-nil last) ∙ sym (report_by_entries true octets ended))));
-    }
+    let last = last_text octets ended in
+    report_by_entries true octets ended
+    ∙ ap (λ l. entries_text true run ++ l) (sym (last_quieted octets ended))
+    ∙ sym (entries_quieted run last)
+    ∙ ap without_flights (sym (report_by_entries false octets ended))

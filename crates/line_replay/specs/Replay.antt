@@ -1,5 +1,6 @@
 -- What a script does, line by line, and its report.
-use Rattle.std.specs.Prelude.{◌≡◌, Some, ℕ, ◌+◌, Bool, List, [], ◌∷◌, ◌++◌, if◌then◌else◌, nat_lt, Ok, Err}
+use Rattle.std.specs.Prelude.{ℕ, ◌+◌, ◌==◌, Bool, not, List, [], ◌∷◌, ◌++◌, codes, if◌then◌else◌, nat_eq, nat_lt, Ok, Err}
+use Rattle.std.specs.List.{starts_with}
 use Rattle.line_driver.specs.Lines.{Content, Text, Long, TooMuch, Line, lines}
 use Rattle.line_driver.specs.Clauses.{IsStop}
 use Rattle.line_driver.specs.Outcomes.{Turn, Skips, Takes, Stops, Outcome, outcome as outcome_of}
@@ -7,7 +8,7 @@ use Rattle.line_rules.specs.declared.event.Event.{Event}
 use Rattle.line_rules.specs.declared.event.StepFault.TheVariants as faults
 use Rattle.line_rules.specs.declared.event.TheConstants.{MAX_EVENTS}
 use Rattle.node_rules.specs.Ciphers.{network}
-use Rattle.line_rules.specs.Worlds.{World, Flight, start}
+use Rattle.line_rules.specs.Worlds.{World, start}
 use Rattle.line_rules.specs.Steps.{Step}
 use Rattle.line_rules.specs.Further.{line_step}
 use Rattle.line_rules.specs.Runs.{Entry}
@@ -17,7 +18,7 @@ use Rattle.line_script.specs.declared.report.Reason.{Reason}
 use Rattle.line_script.specs.declared.report.Reason.TheVariants as reasons
 use Rattle.line_script.specs.Readings.{reading}
 use Rattle.line_script.specs.Texts.{happened_text, bad_text, end_text}
-use Rattle.line_replay.specs.Texts.{fly_by, sent_text, totals}
+use Rattle.line_replay.specs.Texts.{sent_text, totals}
 
 -- What a line does: nothing, or it is an event that is taken, or it is bad.
 pub data Taking : Type 0 where
@@ -89,27 +90,20 @@ report quiet octets ended = (outcome quiet octets ended).text
 
 -- ---- the quiet report
 
--- A piece of a report: the line of a flight, or lines of another kind.
-pub data Piece : Type 0 where
-  Fly : (number : ℕ) (flight : Flight) → Piece
-  Other : (text : List ℕ) → Piece
+-- whether a text begins with the line of a flight
+abbrev pub is_fly : List ℕ → Bool
+is_fly text = starts_with nat_eq text (codes "fly ")
 
-abbrev pub full_text : List Piece → List ℕ
-full_text [] = []
-full_text (Fly number flight ∷ pieces) = fly_by number (Some flight) ++ full_text pieces
-full_text (Other text ∷ pieces) = text ++ full_text pieces
+-- what is left of the rest of a line, which is kept or not, and of the lines after it
+abbrev pub rest_without : Bool → List ℕ → List ℕ
+rest_without keeps [] = []
+rest_without keeps (c ∷ cs) =
+    let more = rest_without (if c == 10 then not (is_fly cs) else keeps) cs in
+    if keeps then c ∷ more else more
 
--- the same without the lines of the flights
-abbrev pub quiet_text : List Piece → List ℕ
-quiet_text [] = []
-quiet_text (Fly number flight ∷ pieces) = quiet_text pieces
-quiet_text (Other text ∷ pieces) = text ++ quiet_text pieces
-
--- A text, and the one that lacks its lines of flights and nothing else.
-pub record IsQuieted (full quiet : List ℕ) : Type 0 where
-  pub pieces : List Piece
-  pub full_is : full ≡ full_text pieces
-  pub quiet_is : quiet ≡ quiet_text pieces
+-- a text without its lines that begin with "fly "
+abbrev pub without_flights : List ℕ → List ℕ
+without_flights text = rest_without (not (is_fly text)) text
 
 -- whether a world has seen a forged event
 abbrev pub is_forged : Playing → Bool
