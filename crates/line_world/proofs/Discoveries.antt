@@ -270,10 +270,10 @@ beacon_unsent l scan pan from cost link = by (beacons.is_foreign l pan from) (ta
     by false false = refl
 
 -- what a beacon leaves once its event counts
-pub beacon_counts : (w v new : World) (number : ℕ) (l : StationMemory) (seq pan from cost link : ℕ) (answer : Answer) (h : Happenings) → IsBounded w → w.events < MAX_EVENTS
-    → HearsBeacon w number l pan from cost link answer v → h ≡ happened v answer → new ≡ ran v
+pub beacon_counts : (w v new : World) (number : ℕ) (l : StationMemory) (seq pan from cost link : ℕ) (word : Answer) (h : Happenings) → IsBounded w → w.events < MAX_EVENTS
+    → HearsBeacon w number l pan from cost link word v → h ≡ happened v word → new ≡ ran v
     → Steps true w (Ok h) new (Ok (has_discovered w number discovery_word (beacon_taken number (Some (discoveries.Beacon seq pan from cost)) link) (hear_beacon l (beside_at w number).scan pan from cost link)))
-beacon_counts w v new number l seq pan from cost link answer h bounds room hears said is =
+beacon_counts w v new number l seq pan from cost link word h bounds room hears said is =
     let d = hear_beacon l (beside_at w number).scan pan from cost link in
     let unsent = beacon_unsent l (beside_at w number).scan pan from cost link in
     discovery_keeps w new number discovery_word (beacon_taken number (Some (discoveries.Beacon seq pan from cost)) link) d h bounds room d.answer d.scan

@@ -1,12 +1,11 @@
 -- A meter begins to join by an agent that it heard.
-use Rattle.std.proofs.Common.{rules, ◌≡◌, ◌∙◌, ◌<◌, ℕ, Bool, true, false, not, List, length, Option, Some, None, Ok, Err, refl, sym, ap, subst}
+use Rattle.std.proofs.Common.{rules, ◌≡◌, ◌∙◌, ◌<◌, ℕ, true, false, not, List, length, Option, Some, Ok, Err, sym, ap, subst}
 use Rattle.std.specs.Prelude.{IfSome, is_ok, is_some, slice_get}
 use Rattle.std.proofs.lemmas.Result.{err_from_is_err_and}
 use Rattle.plc_base.specs.declared.key.Key.{Key}
 use Rattle.pan_discovery.specs.Agents.{kth_of}
 use Rattle.node_rules.specs.Ciphers.{network}
-use Rattle.node_rules.specs.Memory.{Memory, Node, node_address}
-use Rattle.node_rules.specs.Meters as meters
+use Rattle.node_rules.specs.Memory.{Node, node_address}
 use Rattle.reach_rules.specs.declared.refusal.ChooseRefusal.TheVariants as choices
 use Rattle.reach_rules.specs.ReachingNodes.{Beside}
 use Rattle.line_rules.specs.declared.event.StepFault.{StepFault}
