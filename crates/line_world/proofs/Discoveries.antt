@@ -1,6 +1,6 @@
 -- Frames of discovery that are heard, scans, and meters that choose an agent.
-use Rattle.std.proofs.Common.{◌≡◌, ◌≢◌, ◌%◌, slice_index_or, ℕ, zero, suc, ◌+◌, ◌<◌, ◌≤◌, Bool, true, false, not, ◌&&◌, ◌||◌, List, [], ◌∷◌, ◌++◌, length, map, Option, Some, None, Result, Ok, Err, refl, sym, ap, subst, ◌∙◌, if◌then◌else◌, arith}
-use Rattle.std.specs.Prelude.{◌==◌, nat_eq, nat_lt, IfSome, is_some, slice_get, slice_set, unwrap_or}
+use Rattle.std.proofs.Common.{◌≡◌, ◌≢◌, ◌%◌, slice_index_or, ℕ, zero, suc, ◌<◌, ◌≤◌, Bool, true, false, not, ◌&&◌, ◌||◌, List, [], ◌∷◌, ◌++◌, length, map, Option, Some, None, Result, Ok, Err, refl, sym, ap, subst, ◌∙◌, if◌then◌else◌, arith}
+use Rattle.std.specs.Prelude.{◌==◌, nat_eq, nat_lt, IfSome, is_some, slice_get, unwrap_or}
 use Rattle.std.specs.Option.{option_and_then, option_map, option_map_or}
 use Rattle.std.proofs.lemmas.Bool.{eq-eqb, ne_eqb, lt-ltb}
 use Rattle.std.proofs.lemmas.List.{append-nil, length-append}
@@ -36,7 +36,6 @@ use Rattle.reach_rules.specs.declared.heard.DiscoveryHeard.TheVariants as discov
 use Rattle.reach_rules.specs.declared.refusal.ChooseRefusal.{ChooseRefusal}
 use Rattle.reach_rules.specs.declared.refusal.ChooseRefusal.TheVariants as choices
 use Rattle.reach_rules.specs.declared.refusal.DiscoveryDropped.TheVariants as drops
-use Rattle.reach_rules.specs.declared.refusal.ScanRefusal.{ScanRefusal}
 use Rattle.reach_rules.specs.declared.refusal.ScanRefusal.TheVariants as scan_faults
 use Rattle.reach_rules.specs.Beacons.{ChosenAgent, Discovering, begin_scan, choose_agent, choosing_ends, chosen, cost_home, hear_beacon, hear_request, joins_by, takes_beacon, takes_beacons}
 use Rattle.reach_rules.specs.Beacons as beacons
@@ -47,12 +46,12 @@ use Rattle.line_rules.specs.declared.event.StepFault.{StepFault}
 use Rattle.line_rules.specs.declared.event.TheConstants.{MAX_EVENTS}
 use Rattle.line_rules.specs.declared.happenings.AgentLine.{AgentLine}
 use Rattle.line_rules.specs.declared.happenings.Happenings.{Happenings}
-use Rattle.line_rules.specs.Answers.{discovery_word, join_word, scan_word}
+use Rattle.line_rules.specs.Answers.{discovery_word, join_word}
 use Rattle.line_rules.specs.Further.{agent_line, beacon_taken, beside_after, beside_at, choice_word, choose, chooses_by, discovery_flight, discovery_flights, has_discovered, has_reached, reaches, scan, scanning, scans_by, set_beside, with_beside, without_log}
-use Rattle.line_rules.specs.Steps.{acted, flight_by, happened, identity, psk_of, ran, spoken, told, trace_of}
-use Rattle.line_rules.specs.Worlds.{Flight, Noticed, Trace, World}
+use Rattle.line_rules.specs.Steps.{flight_by, happened, identity, psk_of, ran, spoken, told}
+use Rattle.line_rules.specs.Worlds.{Noticed, Trace, World}
 use Rattle.line_world.specs.Bounds.{IsBounded}
-use Rattle.line_world.specs.Discovering.{HearsBeacon, TakesBeacon, discovers_in, flies_in, joins_in, taken_by}
+use Rattle.line_world.specs.Discovering.{HearsBeacon, TakesBeacon, flies_in, joins_in, taken_by}
 use Rattle.line_world.specs.Doings.{Did}
 use Rattle.line_world.specs.Soundness.{AreBelow, IsBelow}
 use Rattle.line_world.specs.Steps.{Steps}
