@@ -1,5 +1,5 @@
 -- An acknowledgement goes out, if one is due, and a reply that was sent begins a check.
-use Rattle.std.proofs.Common.{◌≡◌, ℕ, Bool, true, false, List, Option, Some, None, Result, Ok, Err, refl, sym, ap, subst, ◌∙◌, if◌then◌else◌, length}
+use Rattle.std.proofs.Common.{◌≡◌, ℕ, Bool, true, false, List, Option, Some, None, Result, Err, refl, sym, ap, subst, ◌∙◌, if◌then◌else◌, length}
 use Rattle.std.specs.Prelude.{IfSome, is_some, nat_lt, slice_get, slice_set}
 use Rattle.std.specs.Option.{option_map_or}
 use Rattle.plc_base.specs.declared.out_frame.Out.{Out}
@@ -9,7 +9,7 @@ use Rattle.neighbour_checks.specs.Neighbours.{Neighbours, sent_after}
 use Rattle.node_rules.specs.declared.heard.Reply.{Reply}
 use Rattle.node_rules.specs.declared.refusal.LocalRefusal.{LocalRefusal}
 use Rattle.node_rules.specs.declared.refusal.LocalRefusal.TheVariants as locals
-use Rattle.node_rules.specs.Drafts.{alone, counters_left, empty_draft, goes, refused, sealed, sealing}
+use Rattle.node_rules.specs.Drafts.{alone, counters_left, refused, sealed, sealing}
 use Rattle.node_rules.specs.Memory.{Memory, Node}
 use Rattle.node_rules.specs.MemoryDrafts.{in_memory, with_station}
 use Rattle.node_rules.specs.Neighbours.{local_draft, local_ends}

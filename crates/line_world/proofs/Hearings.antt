@@ -1,10 +1,10 @@
 -- What further reach adds to a frame that a node heard: commands for the neighbours, checks, and requests that are not believed.
-use Rattle.std.proofs.Common.{◌≡◌, ◌≢◌, ⊎_elim, ℕ, zero, suc, ◌+◌, ◌<◌, ◌≤◌, Bool, true, false, ◌||◌, ◌&&◌, List, [], ◌∷◌, ◌++◌, length, map, Option, Some, None, Result, Ok, Err, refl, sym, ap, subst, ◌∙◌, if◌then◌else◌, append_assoc, arith}
+use Rattle.std.proofs.Common.{◌≡◌, ◌≢◌, ℕ, zero, suc, ◌+◌, ◌<◌, ◌≤◌, Bool, true, false, ◌||◌, ◌&&◌, List, [], ◌∷◌, ◌++◌, length, map, Option, Some, None, Result, Ok, Err, refl, sym, ap, subst, ◌∙◌, if◌then◌else◌, append_assoc, arith}
 use mathlib.Core.List.{map-append}
-use Rattle.std.specs.Prelude.{◌==◌, All, IfNone, IfSome, IsSome, is_some, nat_lt, slice_get, slice_set, unwrap_or}
+use Rattle.std.specs.Prelude.{◌==◌, All, IfSome, IsSome, is_some, nat_lt, slice_get, slice_set, unwrap_or}
 use Rattle.std.specs.List.{list_any}
 use Rattle.std.specs.Option.{option_and_then, option_map, option_map_or}
-use Rattle.std.proofs.lemmas.List.{append-nil, length-append, length-set, set-set}
+use Rattle.std.proofs.lemmas.List.{append-nil, length-append, length-set}
 use Rattle.std.proofs.lemmas.List.Elements.{All-nil}
 use Rattle.std.proofs.lemmas.Option.{none-some, same_Some, slice_get_within}
 use Rattle.store_tables.proofs.SlotTables.{slice_get-set}
@@ -65,16 +65,16 @@ use Rattle.line_rules.specs.declared.event.TheConstants.{MAX_EVENTS}
 use Rattle.line_rules.specs.declared.happenings.Happenings.{Happenings}
 use Rattle.line_rules.specs.Answers.{CompletedJoining, Reception, command_word, coordinator_reception, meter_reception, only, station_reception}
 use Rattle.line_rules.specs.Further.{acknowledged, acknowledged_if, acknowledging, adds_frames, beside_after, beside_at, broadcast_up, command_trace, due, due_of, has_reached, is_dropped, is_reply_taken, path_line, reaches, sends_nothing, set_beside, with_check}
-use Rattle.line_rules.specs.Logs.{AreLogged, LogIn, LogsKept}
-use Rattle.line_rules.specs.Steps.{done_by, flight_by, handed_by, happened, hears, identity, number_if, number_of, ran, received, reception_trace, told}
+use Rattle.line_rules.specs.Logs.{LogIn}
+use Rattle.line_rules.specs.Steps.{done_by, flight_by, handed_by, happened, hears, identity, number_if, number_of, received, told}
 use Rattle.line_rules.specs.Worlds.{Pairing, Trace, World, is_forged_tag}
-use Rattle.line_rules.proofs.LogSteps.{NodeIn, Quiet, acts_quiet, log_at, logged_at, quiet_in}
+use Rattle.line_rules.proofs.LogSteps.{NodeIn, Quiet, acts_quiet}
 use Rattle.line_world.specs.declared.nodes.command.Commanded.{Commanded}
 use Rattle.line_world.specs.declared.nodes.reception.Reception as telling
-use Rattle.line_world.specs.Arrivals.{Acknowledges, acknowledging_if, checked_so, done_in, handed_in, hears_so, in_run, left_of, said_of, taker_in, unbelieved_so, with_check_of}
+use Rattle.line_world.specs.Arrivals.{Acknowledges, acknowledging_if, checked_so, done_in, in_run, left_of, said_of, unbelieved_so, with_check_of}
 use Rattle.line_world.specs.Arrivals.{heard_so as heard_by_command}
 use Rattle.line_world.specs.Bounds.{IsBounded}
-use Rattle.line_world.specs.Doings.{Did, given_by}
+use Rattle.line_world.specs.Doings.{given_by}
 use Rattle.line_world.specs.Reaching.{DidAfter, IsLogOf, ReachedCommand, given_after}
 use Rattle.line_world.specs.Receiving.{Received, handed_up}
 use Rattle.line_world.specs.Steps.{Steps}

@@ -1,5 +1,5 @@
 -- A frame without a route message makes no node send a route reply.
-use Rattle.std.proofs.Common.{◌≡◌, ℕ, ◌+◌, Bool, true, false, List, [], ◌∷◌, ◌++◌, Option, Some, None, Result, Ok, Err, refl, sym, ap, subst, ◌∙◌}
+use Rattle.std.proofs.Common.{◌≡◌, ℕ, ◌+◌, Bool, true, false, List, [], ◌∷◌, ◌++◌, Option, Some, None, Result, Err, refl, sym, ap, subst, ◌∙◌}
 use Rattle.std.specs.Prelude.{◌==◌, if◌then◌else◌, is_some}
 use Rattle.std.specs.Option.{option_and_then, option_map, option_map_or}
 use Rattle.plc_base.specs.declared.address.Eui.{Eui}
@@ -30,9 +30,6 @@ use Rattle.eap_psk.specs.declared.server.Server.{Server}
 use Rattle.eap_psk.specs.Sessions.{identifier_of, peer_for, rand_p_in}
 use Rattle.node_rules.specs.declared.heard.Accepted.{Accepted}
 use Rattle.node_rules.specs.declared.heard.Heard.{Heard}
-use Rattle.node_rules.specs.declared.heard.Heard.TheVariants as heard
-use Rattle.node_rules.specs.declared.heard.CoordinatorHeard.{CoordinatorHeard}
-use Rattle.node_rules.specs.declared.heard.MeterHeard.{MeterHeard}
 use Rattle.node_rules.specs.declared.heard.MeterHeard.TheVariants as meter_words
 use Rattle.node_rules.specs.declared.heard.Path.{Path}
 use Rattle.node_rules.specs.declared.heard.Path.TheVariants as paths
@@ -50,7 +47,7 @@ use Rattle.node_rules.specs.Hearing as stations
 use Rattle.node_rules.specs.Hearing.{dropped}
 use Rattle.node_rules.specs.Joining.{command_of, message, server_for}
 use Rattle.node_rules.specs.Memory.{ByAgent, ByCommand, Coordinator, CoordinatorSession, Course, Memory, Meter, MeterSession, Node, Role, StationMemory, address_of, next_hop}
-use Rattle.node_rules.specs.MemoryDrafts.{Unread, goes_down, goes_up, in_memory, is_commanded, oldest, on_station, packet_fault, station_part, unread, with_memory_by, with_pair_tags, with_station}
+use Rattle.node_rules.specs.MemoryDrafts.{Unread, goes_down, goes_up, in_memory, is_commanded, oldest, on_station, packet_fault, station_part, unread, with_memory_by, with_pair_tags}
 use Rattle.node_rules.specs.Meters as meters
 use Rattle.node_rules.specs.NodeSteps.{NodeStep, acts, answering, left_by, stays}
 use Rattle.node_rules.specs.Plans.{Plan, carry_out, finished, halted as cut_off, resting}

@@ -1,5 +1,5 @@
 -- A node hears a frame where neighbours are checked.
-use Rattle.std.proofs.Common.{◌≡◌, ◌<◌, ℕ, List, length, true, false, refl, sym, ap, subst, ◌∙◌}
+use Rattle.std.proofs.Common.{◌≡◌, ◌<◌, ◌∙◌, ℕ, List, length, sym, ap, subst}
 use Rattle.std.specs.Prelude.{IfSome, slice_get}
 use Rattle.plc_base.specs.declared.out_frame.Out.{Out}
 use Rattle.reach_rules.specs.ReachingNodes.{Beside}
