@@ -4,10 +4,10 @@ use Rattle.std.specs.Prelude.{IfSome, is_ok, slice_get}
 use Rattle.std.proofs.lemmas.Result.{err_from_is_err_and}
 use Rattle.node_rules.specs.Ciphers.{network}
 use Rattle.node_rules.specs.MemoryDrafts.{in_memory}
-use Rattle.node_rules.specs.Memory.{Node}
+use Rattle.node_rules.specs.Memory.{Memory, Node}
 use Rattle.reach_rules.specs.declared.refusal.BroadcastRefusal.TheVariants as broadcasts
 use Rattle.reach_rules.specs.Broadcasts.{broadcast}
-use Rattle.reach_rules.specs.ReachingNodes.{Beside}
+use Rattle.reach_rules.specs.ReachingNodes.{Beside, Reaching}
 use Rattle.line_rules.specs.declared.event.StepFault.{StepFault}
 use Rattle.line_rules.specs.Answers.{broadcast_word}
 use Rattle.line_rules.specs.Further.{bcast, beside_at, broadcast_sent, reaches}
@@ -64,7 +64,7 @@ returns c =
     let within : number < length kept.beside =
     subst (λ (it : World). number < length it.beside) (sym same) (subst (λ (n : ℕ). number < n) (sym c.requires.beside) (is_there w c.args.node number c.in_ok-number.ensures).within) in
     let held : c.index_mut.result.now ≡ beside_at kept number = beside_found kept.beside number c.index_mut.result.now within c.index_mut.ensures.value in
-    let plan = λ y. broadcast in_memory y c.args.datagram.now in
+    let plan = λ (y : Reaching Memory). broadcast in_memory y c.args.datagram.now in
     let did = subst (λ (b : Beside). IfSome (slice_get kept.nodes number) (λ (y : Node). ReachedFirst y b (Err broadcasts.Halted) plan kept.nodes number c.broadcast-sent.result c.broadcast-sent.new.out
     c.broadcast-sent.new.self c.broadcast-sent.new.beside)) held c.broadcast-sent.ensures in
     reserved kept w (λ it. bcast network it c.args.node c.args.datagram.now) same

@@ -4,10 +4,10 @@ use Rattle.std.specs.Prelude.{IfSome, is_ok, slice_get}
 use Rattle.std.proofs.lemmas.Result.{err_from_is_err_and}
 use Rattle.node_rules.specs.Ciphers.{network}
 use Rattle.node_rules.specs.MemoryDrafts.{in_memory}
-use Rattle.node_rules.specs.Memory.{Node, node_address}
+use Rattle.node_rules.specs.Memory.{Memory, Node, node_address}
 use Rattle.reach_rules.specs.declared.refusal.AskRefusal.TheVariants as asks
 use Rattle.reach_rules.specs.PathAsking.{ask_path}
-use Rattle.reach_rules.specs.ReachingNodes.{Beside}
+use Rattle.reach_rules.specs.ReachingNodes.{Beside, Reaching}
 use Rattle.line_rules.specs.declared.event.StepFault.{StepFault}
 use Rattle.line_rules.specs.Answers.{ask_word}
 use Rattle.line_rules.specs.Further.{asked, asks_by, beside_at, path, reaches}
@@ -79,7 +79,7 @@ returns c =
     let within : number < length kept.beside =
     subst (λ (it : World). number < length it.beside) (sym same) (subst (λ (n : ℕ). number < n) (sym c.requires.beside) (is_there w c.args.from number c.in_ok-from.ensures).within) in
     let held : c.index_mut.result.now ≡ beside_at kept number = beside_found kept.beside number c.index_mut.result.now within c.index_mut.ensures.value in
-    let plan = λ y. ask_path in_memory y target in
+    let plan = λ (y : Reaching Memory). ask_path in_memory y target in
     let did = subst (λ (b : Beside). IfSome (slice_get kept.nodes number) (λ (y : Node). ReachedFirst y b (Err asks.Halted) plan kept.nodes number c.ask-asked.result c.ask-asked.new.out
     c.ask-asked.new.self c.ask-asked.new.beside)) held c.ask-asked.ensures in
     taking (addressed (is_there w c.args.to c.in_ok-to.to c.in_ok-to.ensures) target c.in-Some.ensures)
