@@ -1,6 +1,6 @@
 -- Frames of discovery that are heard, scans, and meters that choose an agent.
-use Rattle.std.proofs.Common.{◌≡◌, ◌≢◌, ◌%◌, slice_index_or, ℕ, zero, suc, ◌+◌, ◌<◌, ◌≤◌, Bool, true, false, not, ◌&&◌, ◌||◌, List, [], ◌∷◌, ◌++◌, length, map, Option, Some, None, Result, Ok, Err, refl, sym, ap, subst, ◌∙◌, if◌then◌else◌, arith}
-use Rattle.std.specs.Prelude.{◌==◌, nat_eq, nat_lt, IfSome, is_some, slice_get, slice_set, unwrap_or}
+use Rattle.std.proofs.Common.{◌≡◌, ◌≢◌, ◌%◌, slice_index_or, ℕ, zero, suc, ◌<◌, ◌≤◌, Bool, true, false, not, ◌&&◌, ◌||◌, List, [], ◌∷◌, ◌++◌, length, map, Option, Some, None, Result, Ok, Err, refl, sym, ap, subst, ◌∙◌, if◌then◌else◌, arith}
+use Rattle.std.specs.Prelude.{◌==◌, nat_eq, nat_lt, IfSome, is_some, slice_get, unwrap_or}
 use Rattle.std.specs.Option.{option_and_then, option_map, option_map_or}
 use Rattle.std.proofs.lemmas.Bool.{eq-eqb, ne_eqb, lt-ltb}
 use Rattle.std.proofs.lemmas.List.{append-nil, length-append}
@@ -36,7 +36,6 @@ use Rattle.reach_rules.specs.declared.heard.DiscoveryHeard.TheVariants as discov
 use Rattle.reach_rules.specs.declared.refusal.ChooseRefusal.{ChooseRefusal}
 use Rattle.reach_rules.specs.declared.refusal.ChooseRefusal.TheVariants as choices
 use Rattle.reach_rules.specs.declared.refusal.DiscoveryDropped.TheVariants as drops
-use Rattle.reach_rules.specs.declared.refusal.ScanRefusal.{ScanRefusal}
 use Rattle.reach_rules.specs.declared.refusal.ScanRefusal.TheVariants as scan_faults
 use Rattle.reach_rules.specs.Beacons.{ChosenAgent, Discovering, begin_scan, choose_agent, choosing_ends, chosen, cost_home, hear_beacon, hear_request, joins_by, takes_beacon, takes_beacons}
 use Rattle.reach_rules.specs.Beacons as beacons
@@ -47,12 +46,12 @@ use Rattle.line_rules.specs.declared.event.StepFault.{StepFault}
 use Rattle.line_rules.specs.declared.event.TheConstants.{MAX_EVENTS}
 use Rattle.line_rules.specs.declared.happenings.AgentLine.{AgentLine}
 use Rattle.line_rules.specs.declared.happenings.Happenings.{Happenings}
-use Rattle.line_rules.specs.Answers.{discovery_word, join_word, scan_word}
+use Rattle.line_rules.specs.Answers.{discovery_word, join_word}
 use Rattle.line_rules.specs.Further.{agent_line, beacon_taken, beside_after, beside_at, choice_word, choose, chooses_by, discovery_flight, discovery_flights, has_discovered, has_reached, reaches, scan, scanning, scans_by, set_beside, with_beside, without_log}
-use Rattle.line_rules.specs.Steps.{acted, flight_by, happened, identity, psk_of, ran, spoken, told, trace_of}
-use Rattle.line_rules.specs.Worlds.{Flight, Noticed, Trace, World}
+use Rattle.line_rules.specs.Steps.{flight_by, happened, identity, psk_of, ran, spoken, told}
+use Rattle.line_rules.specs.Worlds.{Noticed, Trace, World}
 use Rattle.line_world.specs.Bounds.{IsBounded}
-use Rattle.line_world.specs.Discovering.{HearsBeacon, TakesBeacon, discovers_in, flies_in, joins_in, taken_by}
+use Rattle.line_world.specs.Discovering.{HearsBeacon, TakesBeacon, flies_in, joins_in, taken_by}
 use Rattle.line_world.specs.Doings.{Did}
 use Rattle.line_world.specs.Soundness.{AreBelow, IsBelow}
 use Rattle.line_world.specs.Steps.{Steps}
@@ -270,10 +269,10 @@ beacon_unsent l scan pan from cost link = by (beacons.is_foreign l pan from) (ta
     by false false = refl
 
 -- what a beacon leaves once its event counts
-pub beacon_counts : (w v new : World) (number : ℕ) (l : StationMemory) (seq pan from cost link : ℕ) (answer : Answer) (h : Happenings) → IsBounded w → w.events < MAX_EVENTS
-    → HearsBeacon w number l pan from cost link answer v → h ≡ happened v answer → new ≡ ran v
+pub beacon_counts : (w v new : World) (number : ℕ) (l : StationMemory) (seq pan from cost link : ℕ) (word : Answer) (h : Happenings) → IsBounded w → w.events < MAX_EVENTS
+    → HearsBeacon w number l pan from cost link word v → h ≡ happened v word → new ≡ ran v
     → Steps true w (Ok h) new (Ok (has_discovered w number discovery_word (beacon_taken number (Some (discoveries.Beacon seq pan from cost)) link) (hear_beacon l (beside_at w number).scan pan from cost link)))
-beacon_counts w v new number l seq pan from cost link answer h bounds room hears said is =
+beacon_counts w v new number l seq pan from cost link word h bounds room hears said is =
     let d = hear_beacon l (beside_at w number).scan pan from cost link in
     let unsent = beacon_unsent l (beside_at w number).scan pan from cost link in
     discovery_keeps w new number discovery_word (beacon_taken number (Some (discoveries.Beacon seq pan from cost)) link) d h bounds room d.answer d.scan

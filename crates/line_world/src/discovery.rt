@@ -161,12 +161,7 @@ impl Line {
     }
 
     // A node that is not halted hears a frame of discovery over a link of this cost.
-    fn hear_frame(
-        &mut self,
-        node: usize,
-        frame: &Discovery,
-        link: LinkCost,
-    ) -> Happenings<'static>
+    fn hear_frame(&mut self, node: usize, frame: &Discovery, link: LinkCost) -> Happenings<'static>
         requires room { HasRoom self.old }
         requires bounds { IsBounded (world_of self.old) }
         requires beside { length self.old.beside.items ≡ length self.old.nodes }

@@ -1,5 +1,5 @@
 -- A frame of discovery is heard by a node that is not halted.
-use Rattle.std.proofs.Common.{◌≡◌, ℕ, true, Option, Some, Ok, sym, ap, subst}
+use Rattle.std.proofs.Common.{ℕ, true, Option, Some, Ok, sym, ap, subst}
 use Rattle.std.specs.Prelude.{IfSome}
 use Rattle.pan_discovery.specs.declared.message.Discovery.{Discovery}
 use Rattle.pan_discovery.specs.declared.message.Discovery.TheVariants as discoveries

@@ -12,7 +12,6 @@ use Rattle.reach_rules.specs.Beacons.{cost_home, hear_request}
 use Rattle.line_rules.specs.Answers.{discovery_word}
 use Rattle.line_rules.specs.Further.{beacon_taken, beside_at}
 use Rattle.line_rules.specs.Steps.{ran}
-use Rattle.line_rules.specs.Worlds.{World}
 use Rattle.line_world.specs.Discovering.{discovers_in, flies_in}
 use Rattle.line_world.specs.Lines.{world_of}
 use Rattle.line_world.specs.Steps.{Steps}
