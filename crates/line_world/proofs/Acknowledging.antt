@@ -1,6 +1,6 @@
 -- An acknowledgement goes out, if one is due, and a reply that was sent begins a check.
-use Rattle.std.proofs.Common.{◌≡◌, ℕ, Bool, true, false, Option, Some, None, Result, Ok, Err, refl, sym, ap, ◌∙◌, if◌then◌else◌, length}
-use Rattle.std.specs.Prelude.{is_some, nat_lt, slice_get, slice_set}
+use Rattle.std.proofs.Common.{◌≡◌, ℕ, Bool, true, false, List, Option, Some, None, Result, Ok, Err, refl, sym, ap, subst, ◌∙◌, if◌then◌else◌, length}
+use Rattle.std.specs.Prelude.{IfSome, is_some, nat_lt, slice_get, slice_set}
 use Rattle.std.specs.Option.{option_map_or}
 use Rattle.plc_base.specs.declared.out_frame.Out.{Out}
 use Rattle.store_tables.specs.Writes.{Written, write}
@@ -62,7 +62,7 @@ none_due w number x out at = record {
 }
 
 -- one was sent
-pub one_due : (w new : World) (number : ℕ) (x : Node) (reply : Reply) (answer : Result (Unit {0}) LocalRefusal) (before out : Out) (nodes : _) (done : Bool) → done ≡ is_stored answer
+pub one_due : (w new : World) (number : ℕ) (x : Node) (reply : Reply) (answer : Result (Unit {0}) LocalRefusal) (before out : Out) (nodes : List Node) (done : Bool) → done ≡ is_stored answer
     → DidAfter (acknowledging x reply) w.nodes number answer before out nodes → new ≡ record w { nodes = nodes } → Acknowledges w number x (Some reply) before done out new
 one_due w new number x reply answer before out nodes done is did left = record {
   world_is = left ∙ ap (λ ns. record w { nodes = ns }) did.nodes_are;
@@ -70,6 +70,23 @@ one_due w new number x reply answer before out nodes done is did left = record {
   out_is = did.out_is;
   kept = tt;
 }
+
+-- the same of the node of a number, if there is one
+pub none_due_at : (w : World) (number : ℕ) (due : Option Reply) (out : Out) → due ≡ None → IfSome (slice_get w.nodes number) (λ x. Acknowledges w number x due out true out w)
+none_due_at w number due out none = by (slice_get w.nodes number) refl
+  where
+    by : (o : Option Node) → slice_get w.nodes number ≡ o → IfSome o (λ x. Acknowledges w number x due out true out w)
+    by None at = tt
+    by (Some x) at = subst (λ (d : Option Reply). Acknowledges w number x d out true out w) (sym none) (none_due w number x out at)
+
+pub one_due_at : (w new : World) (number : ℕ) (due : Option Reply) (reply : Reply) (answer : Result (Unit {0}) LocalRefusal) (before out : Out) (nodes : List Node) (done : Bool) → due ≡ Some reply → done ≡ is_stored answer
+    → IfSome (slice_get w.nodes number) (λ x. DidAfter (acknowledging x reply) w.nodes number answer before out nodes) → new ≡ record w { nodes = nodes }
+    → IfSome (slice_get w.nodes number) (λ x. Acknowledges w number x due before done out new)
+one_due_at w new number due reply answer before out nodes done one is did left = by (slice_get w.nodes number) did
+  where
+    by : (o : Option Node) → IfSome o (λ x. DidAfter (acknowledging x reply) w.nodes number answer before out nodes) → IfSome o (λ x. Acknowledges w number x due before done out new)
+    by None d = tt
+    by (Some x) d = subst (λ (q : Option Reply). Acknowledges w number x q before done out new) (sym one) (one_due w new number x reply answer before out nodes done is d left)
 
 -- no reply was sent
 pub no_check : (w : World) (number : ℕ) → w ≡ with_check_of w number None

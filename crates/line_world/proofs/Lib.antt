@@ -23,6 +23,7 @@ mod LentReaches
 mod CoordinatorReaching
 mod MeterReaching
 mod ToldReplies
+mod UnaskedReplies
 mod NumberedNodes
 mod Comings
 mod Hearings
@@ -30,4 +31,5 @@ mod Discoveries
 mod Storable
 mod HeardFurther
 mod Calling
+mod CheckedFrames
 mod Acknowledging

@@ -16,9 +16,10 @@ returns-then-is_unbelieved c =
     let w = world_of c.args.self.now in
     let got = c.args.got.now in
     let within : c.args.node < length w.beside = subst (λ (n : ℕ). c.args.node < n) (sym c.requires.beside) c.requires.there in
-    let held : c.index.result.now ≡ beside_at w c.args.node = beside_found w.beside c.args.node c.index.result.now within c.index.ensures in
+    let b = c.behind-self.inside in
+    let held : (record { checks = b.checks; log = b.log; scan = b.scan }) ≡ beside_at w c.args.node = c.behind-self.view_is ∙ beside_found w.beside c.args.node c.index.result.now within c.index.ensures in
     let is : is_unbelieved (beside_at w c.args.node).checks got.path (message_of got) ≡ true =
-    sym (c.if-is_unbelieved.ensures ∙ ap (λ (b : Beside). is_unbelieved b.checks got.path c.args.message.now) held
+    sym (c.if-is_unbelieved.ensures ∙ ap (λ (k : Beside). is_unbelieved k.checks got.path c.args.message.now) held
     ∙ ap (λ (m : Option Message). is_unbelieved (beside_at w c.args.node).checks got.path m) c.requires.message) in
     named_so w _ c.args.node c.unbelieved.result
     (λ x. unbelieved_so network w c.args.node x c.args.origin)
@@ -30,9 +31,10 @@ returns c =
     let w = world_of c.args.self.now in
     let got = c.args.got.now in
     let within : c.args.node < length w.beside = subst (λ (n : ℕ). c.args.node < n) (sym c.requires.beside) c.requires.there in
-    let held : c.index.result.now ≡ beside_at w c.args.node = beside_found w.beside c.args.node c.index.result.now within c.index.ensures in
+    let b = c.behind-self.inside in
+    let held : (record { checks = b.checks; log = b.log; scan = b.scan }) ≡ beside_at w c.args.node = c.behind-self.view_is ∙ beside_found w.beside c.args.node c.index.result.now within c.index.ensures in
     let is : is_unbelieved (beside_at w c.args.node).checks got.path (message_of got) ≡ false =
-    sym (c.if-is_unbelieved.ensures ∙ ap (λ (b : Beside). is_unbelieved b.checks got.path c.args.message.now) held
+    sym (c.if-is_unbelieved.ensures ∙ ap (λ (k : Beside). is_unbelieved k.checks got.path c.args.message.now) held
     ∙ ap (λ (m : Option Message). is_unbelieved (beside_at w c.args.node).checks got.path m) c.requires.message) in
     named_so w _ c.args.node c.checked.result
     (λ x. checked_so network w c.args.node x got c.args.origin c.args.cost)
