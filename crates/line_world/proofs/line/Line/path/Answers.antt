@@ -1,5 +1,5 @@
 -- The way to a node is asked for.
-use Rattle.std.proofs.Common.{◌≡◌, ◌∙◌, ◌<◌, ℕ, List, length, Some, None, Option, Ok, Err, true, refl, sym, ap, subst, arith}
+use Rattle.std.proofs.Common.{◌≡◌, ◌∙◌, ◌<◌, ℕ, length, Some, None, Option, Ok, Err, sym, ap, subst}
 use Rattle.std.specs.Prelude.{IfSome, is_ok, slice_get}
 use Rattle.std.proofs.lemmas.Result.{err_from_is_err_and}
 use Rattle.node_rules.specs.Ciphers.{network}
