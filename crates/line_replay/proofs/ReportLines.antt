@@ -43,7 +43,7 @@ none_kept = record { kept = λ rest. refl }
 pub kept_then : (a : List ℕ) {b : List ℕ} → IsKept a → IsKept b → IsKept (a ++ b)
 kept_then a {b} ka kb = record {
   kept = λ rest.
-      ap without_flights (append_assoc a b rest) ∙ ka.kept (b ++ rest) ∙ ap (λ l. a ++ l) (kb.kept rest) ∙ sym (append_assoc a b (without_flights rest))
+      ap without_flights (append_assoc a b rest) ∙ ka.kept (b ++ rest) ∙ ap (λ l. a ++ l) (kb.kept rest) ∙ sym (append_assoc a b (without_flights rest));
 }
 
 -- ---- one line
@@ -91,14 +91,14 @@ digit_first d acc digit rest = rw (ne_eqb 102 (48 + d) (λ e. omega (arith, e)))
 number_first : (n : ℕ) (t rest : List ℕ) → is_fly ((decimal n ++ t) ++ rest) ≡ false
 number_first n t rest =
     rw (append_assoc (decimal n) t rest) (decimal_has (λ ds. (rest : List ℕ) → is_fly (ds ++ rest) ≡ false)
-      (λ d acc digit is. digit_first d acc digit) (λ d digit. digit_first d [] digit) n (t ++ rest))
+    (λ d acc digit is. digit_first d acc digit) (λ d digit. digit_first d [] digit) n (t ++ rest))
 
 answer_kept : (number : ℕ) (answer : Answer) → IsKept (answer_text number answer)
 unfolding answer_text
 answer_kept number answer =
     kept_line _ (number_first number _) (after_number number (after_word (codes " ") refl
-      (after_word (verdict_word answer) (verdict_inside answer) (after_word (codes " ") refl
-        (after_word (answer_word answer) (answer_inside answer) line_feed)))))
+    (after_word (verdict_word answer) (verdict_inside answer) (after_word (codes " ") refl
+    (after_word (answer_word answer) (answer_inside answer) line_feed)))))
 
 forged_kept : (number : ℕ) (forged : Bool) → IsKept (forged_text number forged)
 unfolding forged_text
@@ -110,48 +110,48 @@ unfolding up_text
 up_kept None = none_kept
 up_kept (Some up) =
     kept_line _ (λ rest. refl) (after_word (codes "up ") refl (after_number up.node (after_word (codes " ") refl
-      (after_number up.note (after_word (codes " ") refl (after_hex up.octets line_feed))))))
+    (after_number up.note (after_word (codes " ") refl (after_hex up.octets line_feed))))))
 
 bup_kept : (up : Option BroadcastUp) → IsKept (bup_text up)
 unfolding bup_text
 bup_kept None = none_kept
 bup_kept (Some up) =
     kept_line _ (λ rest. refl) (after_word (codes "bup ") refl (after_number up.node (after_word (codes " ") refl
-      (after_hex (big_bytes 2 up.origin) (after_word (codes " ") refl
-        (after_number up.number (after_word (codes " ") refl (after_hex up.octets line_feed))))))))
+    (after_hex (big_bytes 2 up.origin) (after_word (codes " ") refl
+    (after_number up.number (after_word (codes " ") refl (after_hex up.octets line_feed))))))))
 
 agent_kept : (agent : Option AgentLine) → IsKept (agent_text agent)
 unfolding agent_text
 agent_kept None = none_kept
 agent_kept (Some agent) =
     kept_line _ (λ rest. refl) (after_word (codes "agent ") refl (after_number agent.node (after_word (codes " ") refl
-      (after_hex (big_bytes 2 agent.address) (after_word (codes " ") refl (after_number agent.total line_feed))))))
+    (after_hex (big_bytes 2 agent.address) (after_word (codes " ") refl (after_number agent.total line_feed))))))
 
 walk_inside : (walk : List ℕ) → IsInside (walk_text walk)
 walk_inside [] = tt
 walk_inside (address ∷ walk) =
     joined (codes " ") (encode_lower (big_bytes 2 address) ++ walk_text walk) (inside (codes " ") refl)
-      (joined (encode_lower (big_bytes 2 address)) (walk_text walk) (hex_inside (big_bytes 2 address)) (walk_inside walk))
+    (joined (encode_lower (big_bytes 2 address)) (walk_text walk) (hex_inside (big_bytes 2 address)) (walk_inside walk))
 
 path_kept : (path : Option PathLine) → IsKept (path_text path)
 unfolding path_text
 path_kept None = none_kept
 path_kept (Some path) =
     kept_line _ (λ rest. refl) (after_word (codes "path ") refl (after_number path.node
-      (after_inside (walk_text path.walk) (walk_inside path.walk) line_feed)))
+    (after_inside (walk_text path.walk) (walk_inside path.walk) line_feed)))
 
 further_kept : (happened : Happenings) → IsKept (further_text happened)
 unfolding further_text
 further_kept happened =
     kept_then (bup_text happened.bup) (bup_kept happened.bup)
-      (kept_then (agent_text happened.agent) (agent_kept happened.agent) (path_kept happened.path))
+    (kept_then (agent_text happened.agent) (agent_kept happened.agent) (path_kept happened.path))
 
 grant_kept : (grant : Option Admission) → IsKept (grant_text grant)
 unfolding grant_text
 grant_kept None = none_kept
 grant_kept (Some grant) =
     kept_line _ (λ rest. refl) (after_word (codes "grant ") refl (after_number grant.node (after_word (codes " ") refl
-      (after_hex (big_bytes 2 grant.address) line_feed))))
+    (after_hex (big_bytes 2 grant.address) line_feed))))
 
 took_kept : (took : Option ℕ) → IsKept (took_text took)
 unfolding took_text
@@ -181,9 +181,9 @@ head_kept : (node : ℕ) (shown : Shown) → IsKept (head_text node shown)
 unfolding head_text
 head_kept node shown =
     kept_line _ (λ rest. refl) (after_word (codes "node ") refl (after_number node (after_word (codes " ") refl
-      (after_inside (address_word shown.address) (address_inside shown.address) (after_word (codes " ") refl
-        (after_inside (index_word shown.active) (index_inside shown.active) (after_word (codes " ") refl
-          (after_number shown.next_counter (after_word (codes " ") refl (after_number shown.last_number line_feed))))))))))
+    (after_inside (address_word shown.address) (address_inside shown.address) (after_word (codes " ") refl
+    (after_inside (index_word shown.active) (index_inside shown.active) (after_word (codes " ") refl
+    (after_number shown.next_counter (after_word (codes " ") refl (after_number shown.last_number line_feed))))))))))
 
 key_kept : (index : ℕ) (key : Option Key) → IsKept (key_text index key)
 unfolding key_text
@@ -195,8 +195,8 @@ route_kept : (route : ShownRoute) → IsKept (route_text route)
 unfolding route_text
 route_kept route =
     kept_line _ (λ rest. refl) (after_word (codes "route ") refl (after_hex (big_bytes 2 route.dest) (after_word (codes " ") refl
-      (after_number route.number (after_word (codes " ") refl (after_number route.cost (after_word (codes " ") refl
-        (after_inside (next_word route.next) (next_inside route.next) line_feed))))))))
+    (after_number route.number (after_word (codes " ") refl (after_number route.cost (after_word (codes " ") refl
+    (after_inside (next_word route.next) (next_inside route.next) line_feed))))))))
 
 routes_kept : (routes : List ShownRoute) → IsKept (routes_text routes)
 routes_kept [] = none_kept
@@ -219,7 +219,7 @@ peer_kept : (peer : ShownPeer) → IsKept (peer_text peer)
 unfolding peer_text
 peer_kept peer =
     kept_line _ (λ rest. refl) (after_word (codes "peer ") refl (after_hex (big_bytes 2 peer.from) (after_word (codes " ") refl
-      (after_number peer.mark line_feed))))
+    (after_number peer.mark line_feed))))
 
 peers_kept : (peers : List ShownPeer) → IsKept (peers_text peers)
 peers_kept [] = none_kept
@@ -229,8 +229,8 @@ running_kept : (node : ℕ) (shown : Shown) → IsKept (running_text node shown)
 unfolding running_text
 running_kept node shown =
     kept_then (head_text node shown) (head_kept node shown) (kept_then (key_text 0 shown.key0) (key_kept 0 shown.key0)
-      (kept_then (key_text 1 shown.key1) (key_kept 1 shown.key1) (kept_then (routes_text shown.routes) (routes_kept shown.routes)
-        (kept_then (floors_text 0 shown.floors) (floors_kept 0 shown.floors) (peers_kept shown.peers)))))
+    (kept_then (key_text 1 shown.key1) (key_kept 1 shown.key1) (kept_then (routes_text shown.routes) (routes_kept shown.routes)
+    (kept_then (floors_text 0 shown.floors) (floors_kept 0 shown.floors) (peers_kept shown.peers)))))
 
 node_by : (node : ℕ) (shown : Shown) (b : Bool) → IsKept (if b then codes "node " ++ (decimal node ++ codes " halted\n") else running_text node shown)
 node_by node shown true =
@@ -279,14 +279,14 @@ details_kept : (event : Event) (happened : Happenings) → IsKept (details_text 
 unfolding details_text
 details_kept event happened =
     kept_then (grant_text happened.grant) (grant_kept happened.grant) (kept_then (took_text happened.took) (took_kept happened.took)
-      (kept_then (done_text happened.done) (done_kept happened.done) (shown_kept event happened.shown)))
+    (kept_then (done_text happened.done) (done_kept happened.done) (shown_kept event happened.shown)))
 
 pub happened_kept : (number : ℕ) (event : Event) (happened : Happenings) → IsKept (happened_text number event happened)
 unfolding happened_text
 happened_kept number event happened =
     kept_then (answer_text number happened.answer) (answer_kept number happened.answer)
-      (kept_then (forged_text number happened.forged) (forged_kept number happened.forged)
-        (kept_then (up_text happened.up) (up_kept happened.up) (kept_then (further_text happened) (further_kept happened) (details_kept event happened))))
+    (kept_then (forged_text number happened.forged) (forged_kept number happened.forged)
+    (kept_then (up_text happened.up) (up_kept happened.up) (kept_then (further_text happened) (further_kept happened) (details_kept event happened))))
 
 -- ---- the last line
 
@@ -303,14 +303,14 @@ pub bad_kept : (number : ℕ) (reason : Reason) → IsKept (bad_text number reas
 unfolding bad_text
 bad_kept number reason =
     kept_line _ (λ rest. refl) (after_word (codes "bad ") refl (after_number number (after_word (codes " ") refl
-      (after_word (reason_word reason) (reason_inside reason) line_feed))))
+    (after_word (reason_word reason) (reason_inside reason) line_feed))))
 
 pub end_kept : (totals : Totals) → IsKept (end_text totals)
 unfolding end_text
 end_kept totals =
     kept_line _ (λ rest. refl) (after_word (codes "end ") refl (after_number totals.events (after_word (codes " ") refl
-      (after_number totals.flights (after_word (codes " ") refl (after_number totals.sends (after_word (codes " ") refl
-        (after_number totals.ups (after_word (codes " ") refl (after_number totals.forged line_feed))))))))))
+    (after_number totals.flights (after_word (codes " ") refl (after_number totals.sends (after_word (codes " ") refl
+    (after_number totals.ups (after_word (codes " ") refl (after_number totals.forged line_feed))))))))))
 
 -- ---- the line of a flight
 
@@ -318,4 +318,4 @@ pub fly_left_out : (number node : ℕ) (octets : List ℕ) → IsLeftOut (fly_te
 unfolding fly_text
 fly_left_out number node octets =
     left_out_line _ (λ rest. refl) (after_word (codes "fly ") refl (after_number number (after_word (codes " ") refl
-      (after_number node (after_word (codes " ") refl (after_hex octets line_feed))))))
+    (after_number node (after_word (codes " ") refl (after_hex octets line_feed))))))

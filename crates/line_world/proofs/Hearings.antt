@@ -560,7 +560,7 @@ module _ (x : Node) (got : Accepted) (cost note now : ℕ) (n : Memory) where
       let taken = subst (λ (p : Plan Memory (Result CoordinatorHeard Dropped)). is_reply_taken (coordinator_reception p.answer).answer ≡ true) plain due.taken in
       let some : m.station.ring ≢ None =
       λ none. let bad = subst (λ (r : Result Heard Dropped). is_reply_taken (coordinator_reception (coordinator_rules.heard_by_station r)).answer ≡ true)
-          (nowhere m.station got.path (unit_in got.payload) due.from due.key cost note now due.path_is none) taken in absurd (cc (bad)) in
+      (nowhere m.station got.path (unit_in got.payload) due.from due.key cost note now due.path_is none) taken in absurd (cc (bad)) in
       subst (λ (p : Plan Memory (Result CoordinatorHeard Dropped)). IsSome p.memory.station.ring) (sym plain) (ring_some _ (keeps_ring m.station _ due some))
 
   meter_joined : (psk : Key) (m : Memory) → IsDue got.path (message_of got) (meter_reception (meters.hear_meter (identity network x psk) m got cost note now).answer).answer
@@ -572,7 +572,7 @@ module _ (x : Node) (got : Accepted) (cost note now : ℕ) (n : Memory) where
       let taken = subst (λ (p : Plan Memory (Result MeterHeard Dropped)). is_reply_taken (meter_reception p.answer).answer ≡ true) plain due.taken in
       let some : m.station.ring ≢ None =
       λ none. let bad = subst (λ (r : Result Heard Dropped). is_reply_taken (meter_reception (meters.heard_by_station r)).answer ≡ true)
-          (nowhere m.station got.path (unit_in got.payload) due.from due.key cost note now due.path_is none) taken in absurd (cc (bad)) in
+      (nowhere m.station got.path (unit_in got.payload) due.from due.key cost note now due.path_is none) taken in absurd (cc (bad)) in
       subst (λ (p : Plan Memory (Result MeterHeard Dropped)). IsSome p.memory.station.ring) (sym plain) (ring_some _ (keeps_ring m.station _ due some))
 
   joined_by : (role : Role) → IsDue got.path (message_of got) (hears_as x got cost note now role).answer.answer → (hears_as x got cost note now role).node.memory ≡ Some n → IsSome n.station.ring
