@@ -5,13 +5,13 @@ use Rattle.plc_base.specs.Keeper.{Records}
 use Rattle.store_tables.specs.Marks.{mark_in-rests}
 use Rattle.store_tables.specs.Numberings.{counting_at, counting_from}
 use Rattle.store_tables.proofs.Opening.{opened_kept, opened_reads, reopened, stored_gapless}
-use Rattle.broadcast_log.specs.NextNumber.{IsLimitKept, Numbering, limit_in, limit_slot}
+use Rattle.broadcast_log.specs.NextNumber.{IsLimitKept, Numbering, limit_at, limit_in, limit_slot}
 use Rattle.broadcast_log.specs.OriginMarks.{marks}
 use Rattle.broadcast_log.specs.Log.{Log, log_at_rest, opened}
 use Rattle.broadcast_log.specs.Laws.{IsLogIn}
 use Rattle.broadcast_log.proofs.Runs.{both_opened}
 
-from_limit : (o : Option ℕ) (limit : ℕ) (n : Numbering) → o ≡ Some limit → counting_from 6 o ≡ Ok n → counting_at limit ≡ n
+from_limit : (o : Option ℕ) (limit : ℕ) (n : Numbering) → o ≡ Some limit → counting_from limit_at o ≡ Ok n → counting_at limit ≡ n
 from_limit (Some l) limit n e is = cc
 from_limit None limit n e is = absurd (cc)
 

@@ -6,7 +6,7 @@ use Rattle.plc_base.specs.Keeper.{Records, Write}
 use Rattle.store_tables.specs.SlotTables as slots
 use Rattle.plc_base.specs.declared.keeper.BadStore.{BadStore}
 use Rattle.store_tables.specs.Numberings.{counting_code, counting_at}
-use Rattle.store_tables.specs.Marks.{table_code}
+use Rattle.store_tables.specs.Marks.{table_code, admission_answer, where_room}
 use Rattle.broadcast_log.specs.declared.fault.LogFault.{LogFault}
 use Rattle.broadcast_log.specs.declared.fault.LogFault.TheVariants.{NumberSpent, Store, Old, OriginsFull}
 use Rattle.broadcast_log.specs.NextNumber.{Numbering, numbering_in, IsLimitKept, limit_in, limit_slot, number_put, numbered, is_spent}
@@ -79,15 +79,7 @@ abbrev pub admitted_log : Log → ℕ → ℕ → Log
 admitted_log log origin number = record log { marks = kept_after log.marks origin number }
 
 abbrev pub admit_result : Log → ℕ → ℕ → Bool → Result (Unit {0}) LogFault
-admit_result log origin number done = on_room (room_for log.marks origin number)
-  where
-    on_room : Result (Unit {0}) LogFault → Result (Unit {0}) LogFault
-    on_room (Ok u) = if done then Ok tt else Err Store
-    on_room (Err fault) = Err fault
-
-abbrev pub where_room : {A : Type 0} → Result (Unit {0}) LogFault → A → A → A
-where_room (Ok u) a b = a
-where_room (Err fault) a b = b
+admit_result log origin number done = admission_answer Store done (room_for log.marks origin number)
 
 abbrev pub admit_write : Log → ℕ → ℕ → Option Write
 admit_write log origin number =

@@ -24,7 +24,7 @@ pub type OriginMark = Mark<0x0300, 32>;
 /// log may not be used until it is opened again.
 #[derive(Drop, Debug)]
 pub struct BroadcastLog {
-    numbering: Numbering<6, 32>,
+    numbering: Numbering<6, 4, 0, 32>,
     marks: MarkTable<0x0300, 32>,
 }
 

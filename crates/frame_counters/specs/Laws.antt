@@ -19,7 +19,7 @@ NoReservationChangesNothing = (counting : counters.Counting) → counting.next �
 
 -- A counter is what the records give, and its limit has a record.
 abbrev pub IsCounterIn : counters.Counting → Records → Type 0
-IsCounterIn counting records = numbers.IsCountingIn counters.limit_slot counting records
+IsCounterIn counting records = numbers.IsCountingIn counters.limit_at counting records
 
 -- Whatever becomes of the put of a reservation, some counter is what the records give.
 abbrev pub ReservationsLead : Type 0

@@ -79,22 +79,14 @@ kept_after table from counter = marks.kept_after 0x0100 64 table from counter
 -- `admit` is described in three functions: what it answers, which put it makes and what the table is afterwards; done
 -- says that no put failed
 abbrev pub admit_result : Table → ℕ → ℕ → Bool → Result (Unit {0}) PeerFault
-admit_result table from counter done = on_room (room_for table from counter)
-  where
-    on_room : Result (Unit {0}) PeerFault → Result (Unit {0}) PeerFault
-    on_room (Ok u) = if done then Ok tt else Err Store
-    on_room (Err fault) = Err fault
-
-abbrev pub where_room : {A : Type 0} → Result (Unit {0}) PeerFault → A → A → A
-where_room (Ok u) a b = a
-where_room (Err fault) a b = b
+admit_result table from counter done = marks.admission_answer Store done (room_for table from counter)
 
 abbrev pub admit_write : Table → ℕ → ℕ → Option Write
-admit_write table from counter = where_room (room_for table from counter) (keep_write table from counter) None
+admit_write table from counter = marks.where_room (room_for table from counter) (keep_write table from counter) None
 
 abbrev pub admit_after : Table → ℕ → ℕ → Bool → Table
 admit_after table from counter done =
-    where_room (room_for table from counter) (if done then kept_after table from counter else table) table
+    marks.where_room (room_for table from counter) (if done then kept_after table from counter else table) table
 
 -- whether no put of an `admit` failed
 abbrev pub is_stored : Result (Unit {0}) PeerFault → Bool

@@ -19,7 +19,7 @@ counting_code = numbers.counting_code
 
 -- where the limit is stored: 4 octets at slot 2, 0 where none is there
 abbrev pub limit_at : NumberSlot
-limit_at = numbers.limit_at 2
+limit_at = numbers.limit_at 2 4 0
 
 -- the slot of the limit
 abbrev pub limit_slot : ℕ
@@ -27,38 +27,38 @@ limit_slot = limit_at.slot
 
 -- the limit that the record of the slot gives: 0 where none is there, and no reading where it has not 4 octets
 abbrev pub limit_in : Option (List ℕ) → Option ℕ
-limit_in octets = numbers.limit_in limit_slot octets
+limit_in octets = numbers.limit_in limit_at octets
 
 -- the limit that the records give
 abbrev pub stored_limit : Records → ℕ
-stored_limit records = numbers.stored_limit limit_slot records
+stored_limit records = numbers.stored_limit limit_at records
 
 -- a counter that goes on at a limit
 abbrev pub counting_at : ℕ → Counting
 counting_at limit = numbers.counting_at limit
 
 abbrev pub counting_from : Option ℕ → Result Counting BadStore
-counting_from limit = numbers.counting_from limit_slot limit
+counting_from limit = numbers.counting_from limit_at limit
 
 -- the counter that the records give
 abbrev pub opened : Records → Result Counting BadStore
-opened records = numbers.opened limit_slot records
+opened records = numbers.opened limit_at records
 
 -- What the counter holds as stored is what the records give.
 abbrev pub IsKept : Counting → Records → Type 0
-IsKept counting records = numbers.IsKept limit_slot counting records
+IsKept counting records = numbers.IsKept limit_at counting records
 
 -- The limit is that of the records from before, or what the counter holds is what the new records give.
 abbrev pub IsOldLimitOrKept : Counting → Records → Records → Type 0
-IsOldLimitOrKept counting old new = numbers.IsOldLimitOrKept limit_slot counting old new
+IsOldLimitOrKept counting old new = numbers.IsOldLimitOrKept limit_at counting old new
 
 -- the put of a limit
 abbrev pub limit_write : ℕ → Option Write
-limit_write limit = numbers.limit_write limit_slot limit
+limit_write limit = numbers.limit_write limit_at limit
 
 -- the next limit
 abbrev pub raised : ℕ → ℕ
-raised limit = numbers.raised 1024 limit
+raised limit = numbers.raised limit_at 1024 limit
 
 -- whether so many counters pass the limit
 abbrev pub passes : Counting → ℕ → Bool
@@ -66,15 +66,15 @@ passes counting count = numbers.passes counting count
 
 -- what is stored before so many counters are given out
 abbrev pub reserve_write : Counting → ℕ → Option Write
-reserve_write counting count = numbers.reserve_write limit_slot 1024 counting count
+reserve_write counting count = numbers.reserve_write limit_at 1024 counting count
 
 -- the counter after so many were given out
 abbrev pub reserved : Counting → ℕ → Counting
-reserved counting count = numbers.reserved 1024 counting count
+reserved counting count = numbers.reserved limit_at 1024 counting count
 
 -- whether no counter is left
 abbrev pub is_spent : Counting → Bool
-is_spent counting = numbers.is_spent counting
+is_spent counting = numbers.is_spent limit_at counting
 
 -- `take` is described in three functions: what it answers, which put it makes and what the counter is afterwards; done
 -- says that no put failed

@@ -17,7 +17,7 @@ use store_tables::Numbering;
 /// A contract sees the limit and the next counter.
 #[derive(Drop, Debug)]
 pub struct SendCounter {
-    numbering: Numbering<2, 1024>,
+    numbering: Numbering<2, 4, 0, 1024>,
 }
 
 impl Model for SendCounter {

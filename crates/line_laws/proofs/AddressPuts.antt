@@ -105,7 +105,7 @@ module _ (S : ring.Ring → Type 0) where
   pub number_away : (n : own_number.Numbering) → RingWrites S (puts_of (own_number.advance_write n))
   number_away n = by_limit (own_number.passes n)
     where
-      by_limit : (b : Bool) → RingWrites S (puts_of (if b then own_number.limit_write (own_number.raised n.last) else None))
+      by_limit : (b : Bool) → RingWrites S (puts_of (if b then own_number.limit_write (own_number.raised n.limit) else None))
       by_limit true = (Away _ (omega arith), tt)
       by_limit false = tt
 

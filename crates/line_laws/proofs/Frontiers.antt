@@ -101,7 +101,7 @@ offer_high floor r e now = High-append floor _ _ (due_high floor r.floors (routi
 number_high : (floor : ℕ) (n : own_number.Numbering) → High floor (puts_of (own_number.advance_write n))
 number_high floor n = by_limit (own_number.passes n)
   where
-    by_limit : (b : Bool) → High floor (puts_of (if b then own_number.limit_write (own_number.raised n.last) else None))
+    by_limit : (b : Bool) → High floor (puts_of (if b then own_number.limit_write (own_number.raised n.limit) else None))
     by_limit true = (Elsewhere (omega arith), tt)
     by_limit false = tt
 

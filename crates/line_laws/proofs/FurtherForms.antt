@@ -141,7 +141,7 @@ module _ (U : List Outgoing → Type 0) where
   number_logs : (n : numbers.Numbering) → Each IsOfLog (puts_of (numbers.number_put n))
   number_logs n = by_due (passes n 1)
     where
-      by_due : (t : Bool) → Each IsOfLog (puts_of (if t then limit_write 6 (raised 32 n.limit) else None))
+      by_due : (t : Bool) → Each IsOfLog (puts_of (if t then limit_write numbers.limit_at (raised numbers.limit_at 32 n.limit) else None))
       by_due true = (inl refl, tt)
       by_due false = tt
 

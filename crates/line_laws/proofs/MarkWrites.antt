@@ -91,7 +91,7 @@ offer_away r e now = away_append _ _ (due_away r.floors (routing.forgotten r e.a
 number_away : (n : own_number.Numbering) → AreAway (puts_of (own_number.advance_write n))
 number_away n = by_limit (own_number.passes n)
   where
-    by_limit : (b : Bool) → AreAway (puts_of (if b then own_number.limit_write (own_number.raised n.last) else None))
+    by_limit : (b : Bool) → AreAway (puts_of (if b then own_number.limit_write (own_number.raised n.limit) else None))
     by_limit true = (inl (omega arith), tt)
     by_limit false = tt
 

@@ -39,7 +39,7 @@ low_away slot octets low = (record { floors = omega arith; ranks = inl (omega ar
 number_away : (n : own_number.Numbering) → AreAway (puts_of (own_number.advance_write n))
 number_away n = by_due (own_number.passes n)
   where
-    by_due : (b : Bool) → AreAway (puts_of (if b then own_number.limit_write (own_number.raised n.last) else None))
+    by_due : (b : Bool) → AreAway (puts_of (if b then own_number.limit_write (own_number.raised n.limit) else None))
     by_due true = low_away 3 _ (omega arith)
     by_due false = tt
 

@@ -107,11 +107,11 @@ pub number_leads : (B : Records → Type 0) (lasts : Lasts B) (l : StationMemory
 number_leads B lasts l left = by_due (own_number.passes l.own_number) refl
   where
     by_due : (b : Bool) → own_number.passes l.own_number ≡ b
-        → Leads (With B) l (puts_of (if b then own_number.limit_write (own_number.raised l.own_number.last) else None))
-        (record l { own_number = record { limit = if b then own_number.raised l.own_number.last else l.own_number.limit; last = l.own_number.last + 1 } })
+        → Leads (With B) l (puts_of (if b then own_number.limit_write (own_number.raised l.own_number.limit) else None))
+        (record l { own_number = record { limit = if b then own_number.raised l.own_number.limit else l.own_number.limit; last = l.own_number.last + 1 } })
     by_due true e = low_one B lasts l _ _ (omega arith) (λ r k.
         let below = k.number.below in let fits = k.range.number.1 in let other : l.own_number.last ≢ 65535 = eqb-false _ _ left in
-        number_kept l r (record { limit = own_number.raised l.own_number.last; last = l.own_number.last + 1 }) k (omega arith) (omega arith) (omega arith))
+        number_kept l r (record { limit = own_number.raised l.own_number.limit; last = l.own_number.last + 1 }) k (omega arith) (omega arith) (omega arith))
     by_due false e = low_beside B lasts l _ (λ r k. last_kept l r (l.own_number.last + 1) k (ltb-false _ _ e))
 
 -- # The tag

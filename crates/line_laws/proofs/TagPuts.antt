@@ -66,7 +66,7 @@ module _ (Q : Write → Type 0) (away : (w : Write) → w.slot ≢ 4 → Q w) wh
   number_away : (n : own_number.Numbering) → Each Q (puts_of (own_number.advance_write n))
   number_away n = by_limit (own_number.passes n)
     where
-      by_limit : (b : Bool) → Each Q (puts_of (if b then own_number.limit_write (own_number.raised n.last) else None))
+      by_limit : (b : Bool) → Each Q (puts_of (if b then own_number.limit_write (own_number.raised n.limit) else None))
       by_limit true = (away _ (omega arith), tt)
       by_limit false = tt
 

@@ -129,7 +129,7 @@ module _ (R : Membership → Type 0) (b : book.Book) (l : StationMemory) where
   number_of : (n : own_number.Numbering) → AreOf (puts_of (own_number.advance_write n))
   number_of n = by_limit (own_number.passes n)
     where
-      by_limit : (b : Bool) → AreOf (puts_of (if b then own_number.limit_write (own_number.raised n.last) else None))
+      by_limit : (b : Bool) → AreOf (puts_of (if b then own_number.limit_write (own_number.raised n.limit) else None))
       by_limit true = one _ (OfNumber own_number.limit_at _ (omega arith) (omega arith))
       by_limit false = none
 

@@ -80,7 +80,7 @@ offer_turn r dest rank next now = InTurn-append 0 1 1 _ _ (due_turn r.floors (ro
 number_turn : (n : own_number.Numbering) → InTurn 2 3 (puts_of (own_number.advance_write n))
 number_turn n = by_limit (own_number.passes n)
   where
-    by_limit : (b : Bool) → InTurn 2 3 (puts_of (if b then own_number.limit_write (own_number.raised n.last) else None))
+    by_limit : (b : Bool) → InTurn 2 3 (puts_of (if b then own_number.limit_write (own_number.raised n.limit) else None))
     by_limit true = (omega arith, omega arith)
     by_limit false = omega arith
 

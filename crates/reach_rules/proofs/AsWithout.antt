@@ -12,7 +12,7 @@ use Rattle.mesh_header.specs.Reading.{unit_in}
 use Rattle.neighbour_checks.specs.Acks.{ack_in}
 use Rattle.neighbour_checks.specs.Neighbours.{Neighbours, is_awaited, acked_after}
 use Rattle.store_tables.specs.Numberings.{counting_at, counting_from}
-use Rattle.broadcast_log.specs.NextNumber.{numbering_in, limit_in, limit_slot}
+use Rattle.broadcast_log.specs.NextNumber.{numbering_in, limit_at, limit_in, limit_slot}
 use Rattle.broadcast_log.specs.OriginMarks.{marks}
 use Rattle.pan_discovery.specs.History.{Scanned}
 use Rattle.pan_discovery.specs.Reading.{discovery_in}
@@ -133,6 +133,6 @@ no_scan role l scan octets link off = discovery_stays role l scan (discovery_in 
 
 pub nothing_stored : AnEmptyStoreGivesNothing
 nothing_stored =
-    let number : numbering_in empty ≡ Ok (counting_at 0) = ap (λ o. counting_from limit_slot (limit_in o)) (get-empty nat_cmp limit_slot) in
+    let number : numbering_in empty ≡ Ok (counting_at 0) = ap (λ o. counting_from limit_at (limit_in o)) (get-empty nat_cmp limit_slot) in
     let origins : slots.opened marks empty ≡ Ok [] = opened_from-empty marks marks.slots 0 empty [] (get-empty nat_cmp (slots.slot_of marks 0)) in
     rw (number, origins) refl

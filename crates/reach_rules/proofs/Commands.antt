@@ -15,7 +15,7 @@ use Rattle.broadcast_log.specs.declared.broadcast.Broadcast.{Broadcast}
 use Rattle.broadcast_log.specs.Grammar.{spelling}
 use Rattle.broadcast_log.specs.Reading.{broadcast_in}
 use Rattle.store_tables.specs.Numberings.{passes, limit_write, raised}
-use Rattle.broadcast_log.specs.NextNumber.{Numbering, limit_slot, number_put}
+use Rattle.broadcast_log.specs.NextNumber.{Numbering, limit_at, number_put}
 use Rattle.broadcast_log.specs.OriginMarks.{OriginMark, Marks, marks, place_of, mark_at, mark_ahead, keep_write, kept_after}
 use Rattle.path_requests.specs.declared.message.PathMessage.{PathMessage}
 use Rattle.path_requests.specs.declared.step.PathStep.{PathStep}
@@ -72,7 +72,7 @@ mark_turn table origin number = by_place (place_of table origin)
 number_turn : (n : Numbering) → InTurn 0 3 (puts_of (number_put n))
 number_turn n = by_limit (passes n 1)
   where
-    by_limit : (b : Bool) → InTurn 0 3 (puts_of (if b then limit_write limit_slot (raised 32 n.limit) else None))
+    by_limit : (b : Bool) → InTurn 0 3 (puts_of (if b then limit_write limit_at (raised limit_at 32 n.limit) else None))
     by_limit true = (omega arith, omega arith)
     by_limit false = omega arith
 

@@ -31,11 +31,11 @@ pub number_leads : (n : numbers.Numbering) → n.last < 65535 → PutsLead IsNum
 number_leads n left = by_due (numbers.passes n) refl
   where
     by_due : (b : Bool) → numbers.passes n ≡ b
-        → PutsLead IsNumberIn n (puts_of (if b then numbers.limit_write (numbers.raised n.last) else None)) (record { limit = if b then numbers.raised n.last else n.limit; last = n.last + 1 })
+        → PutsLead IsNumberIn n (puts_of (if b then numbers.limit_write (numbers.raised n.limit) else None)) (record { limit = if b then numbers.raised n.limit else n.limit; last = n.last + 1 })
     by_due true e = leads_one IsNumberIn n _ _ (λ r k.
         let below = k.kept.below in let fits = k.fits in let low = k.low in
         record {
-          kept = record { limit = limit_in-insert r (numbers.raised n.last) (omega arith) (omega arith); below = omega arith };
+          kept = record { limit = limit_in-insert r (numbers.raised n.limit) (omega arith) (omega arith); below = omega arith };
           low = omega arith;
           fits = omega arith;
         })

@@ -1,9 +1,9 @@
 -- The number of the route messages that a node begins, and what its calls do to it.
-use Rattle.std.specs.Prelude.{◌≡◌, ◌⊎◌, ℕ, ◌+◌, ◌≤◌, min, Bool, true, false, ◌==◌, nat_lt, if◌then◌else◌, List, Option, Some, None, Result, Ok, Err, refl}
+use Rattle.std.specs.Prelude.{ℕ, ◌+◌, Bool, true, false, if◌then◌else◌, List, Option, Some, None, Result, Ok, Err, refl}
 use Rattle.std.specs.Coded.{Coded, code_by, coded×, coded_ℕ}
 use Rattle.std.specs.FinMap.{get}
 use Rattle.plc_base.specs.Keeper.{Records, Write}
-use Rattle.store_tables.specs.NumberSlots.{number_in, stored_number, number_write}
+use Rattle.store_tables.specs.Numberings as numbers
 use Rattle.store_tables.specs.declared.number_slot.NumberSlot.{NumberSlot}
 use Rattle.plc_base.specs.declared.keeper.BadStore.{BadStore}
 use Rattle.routing_set.specs.declared.fault.NumberFault.{NumberFault}
@@ -20,9 +20,16 @@ numbering_code =
     code_by (ℕ × ℕ) (coded× coded_ℕ coded_ℕ)
     (λ n. (n.limit, n.last)) (λ p. record { limit = p.0; last = p.1 }) (λ _. refl)
 
+-- As a numbering the last number is the next one: the number that is given out is one more.
+abbrev pub counting_of : Numbering → numbers.Counting
+counting_of n = record { limit = n.limit; next = n.last }
+
+abbrev pub numbering_of : numbers.Counting → Numbering
+numbering_of c = record { limit = c.limit; last = c.next }
+
 -- where the limit is stored: 2 octets at slot 3, at least 1, and 1 where none is there
 abbrev pub limit_at : NumberSlot
-limit_at = record { slot = 3; width = 2; first = 1; least = 1 }
+limit_at = numbers.limit_at 3 2 1
 
 -- the slot of the limit
 abbrev pub limit_slot : ℕ
@@ -30,7 +37,7 @@ limit_slot = limit_at.slot
 
 -- the limit that the record of the slot gives: 1 where none is there, and no reading where it has not 2 octets or is 0
 abbrev pub limit_in : Option (List ℕ) → Option ℕ
-limit_in octets = number_in limit_at octets
+limit_in octets = numbers.limit_in limit_at octets
 
 -- a number that goes on at a limit
 abbrev pub numbering_at : ℕ → Numbering
@@ -45,40 +52,36 @@ abbrev pub opened : Records → Result Numbering BadStore
 opened records = numbering_from (limit_in (get records limit_slot))
 
 -- What the number holds as stored is what the records give.
-pub record IsKept (numbering : Numbering) (records : Records) : Type 0 where
-  pub limit : limit_in (get records limit_slot) ≡ Some numbering.limit
-  pub below : numbering.last ≤ numbering.limit
+abbrev pub IsKept : Numbering → Records → Type 0
+IsKept numbering records = numbers.IsKept limit_at (counting_of numbering) records
 
 -- The limit is that of the records from before, or what the number holds is what the new records give.
 abbrev pub IsOldLimitOrKept : Numbering → Records → Records → Type 0
-IsOldLimitOrKept numbering old new = (stored_number limit_at new ≡ stored_number limit_at old) ⊎ IsKept numbering new
+IsOldLimitOrKept numbering old new = numbers.IsOldLimitOrKept limit_at (counting_of numbering) old new
 
 -- the put of a limit
 abbrev pub limit_write : ℕ → Option Write
-limit_write limit = Some (number_write limit_at limit)
+limit_write limit = numbers.limit_write limit_at limit
 
--- the limit that is stored for the number after the last one
+-- the next limit
 abbrev pub raised : ℕ → ℕ
-raised last = min (last + 32) 65535
+raised limit = numbers.raised limit_at 32 limit
 
 -- whether the number after the last one passes the limit
 abbrev pub passes : Numbering → Bool
-passes numbering = nat_lt numbering.limit (numbering.last + 1)
+passes numbering = numbers.passes (counting_of numbering) 1
 
 -- what is stored before one number more is given out
 abbrev pub advance_write : Numbering → Option Write
-advance_write numbering = if passes numbering then limit_write (raised numbering.last) else None
+advance_write n = numbers.reserve_write limit_at 32 (counting_of n) 1
 
 -- the number after one more was given out
 abbrev pub advanced : Numbering → Numbering
-advanced numbering = record {
-  limit = if passes numbering then raised numbering.last else numbering.limit;
-  last = numbering.last + 1;
-}
+advanced n = numbering_of (numbers.reserved limit_at 32 (counting_of n) 1)
 
 -- whether no number is left
 abbrev pub is_spent : Numbering → Bool
-is_spent numbering = numbering.last == 65535
+is_spent numbering = numbers.is_spent limit_at (counting_of numbering)
 
 -- `next` is described in three functions: what it answers, which put it makes and what the number is afterwards; done says
 -- that no put failed

@@ -1,14 +1,13 @@
 //! The number of the route messages that a node begins.
-ghost use Rattle.std.specs.Prelude.{◌≡◌, ◌+◌, ◌<◌, ◌≤◌, IfOk, OnOk, OnErr, is_ok, Some, Ok};
+ghost use Rattle.std.specs.Prelude.{◌≡◌, ◌+◌, ◌<◌, ◌≤◌, IfOk, OnOk, OnErr, is_ok, Ok};
 ghost use Rattle.std.specs.Bool.{OnTrue};
 ghost use Rattle.plc_base.specs.Keeper.{Stores, OutsideStays, IsOldOrNew};
-ghost use Rattle.store_tables.specs.NumberSlots.{IsOldOrNewNumber, stored_number};
 ghost use Rattle.routing_set.specs.OwnNumber.{Numbering, IsKept, IsOldLimitOrKept, limit_at, opened, numbering_at, limit_write, advance_write, advanced, next_result, next_write, next_after, is_stored, preset_result};
 
 use crate::NumberFault;
 use plc_base::{BadStore, Failed, Keeper};
 use std::marker::Model;
-use store_tables::NumberSlot;
+use store_tables::Numbering as Numbers;
 
 /// Gives out the numbers of the route messages that a node begins, each higher than the last, also over losses of power: a
 /// limit is stored ahead, and a new start goes on at it (the sequence number of LOADng).
@@ -16,43 +15,21 @@ use store_tables::NumberSlot;
 /// A contract sees the limit and the last number.
 #[derive(Drop, Debug)]
 pub struct OwnNumber {
-    limit: u16,
-    last: u16,
+    // The number that it gives out next is the last one here.
+    numbers: Numbers<3, 2, 1, 32>,
 }
 
 impl Model for OwnNumber {
     ghost use Rattle.std.specs.Prelude.{◌≤◌};
-    ghost use Rattle.routing_set.specs.OwnNumber.{Numbering, numbering_code};
+    ghost use Rattle.routing_set.specs.OwnNumber.{Numbering, numbering_code, numbering_of};
 
     ghost Value = { Numbering };
 
     ghost coded = { numbering_code };
 
-    ghost view = { λ n. record { limit = n.limit; last = n.last } };
+    ghost view = { λ n. numbering_of n.numbers };
 
-    ghost invariant = { λ n. n.last ≤ n.limit };
-}
-
-/// Where the limit is stored: the last number is 1 where none is.
-const LIMIT: NumberSlot = NumberSlot {
-    slot: 3,
-    width: 2,
-    first: 1,
-    least: 1,
-};
-
-/// How far the limit is stored ahead of the last number.
-const STRIDE: u16 = 32;
-
-// Stores a limit.
-fn store_limit<K: Keeper>(keeper: &mut K, limit: u16) -> Result<(), Failed>
-    requires { 1 ≤ limit }
-    ensures store { Stores (K.store keeper.old) (limit_write limit) (is_ok result) (K.store keeper.new) }
-    ensures stored { OnOk result (stored_number limit_at (K.store keeper.new).records ≡ Some limit) }
-    ensures either { IsOldOrNewNumber limit_at limit (K.store keeper.old).records (K.store keeper.new).records }
-    ensures elsewhere { OutsideStays 3 3 (K.store keeper.old) (K.store keeper.new) }
-{
-    LIMIT.store(keeper, u32::from(limit))
+    ghost invariant = { λ n. n.numbers.next ≤ n.numbers.limit };
 }
 
 impl OwnNumber {
@@ -66,15 +43,15 @@ impl OwnNumber {
         ensures reopened { (numbering : Numbering) → IsKept numbering (K.store keeper.now).records
             → result ≡ Ok (numbering_at numbering.limit) }
     {
-        let limit = LIMIT.read(keeper)? as u16;
-        Ok(OwnNumber { limit, last: limit })
+        let numbers = Numbers::open(keeper)?;
+        Ok(OwnNumber { numbers })
     }
 
     /// The number that was given out last. No number is left exactly where it is 65,535.
     pub fn last(&self) -> u16
         ensures { result ≡ self.now.last }
     {
-        self.last
+        self.numbers.next() as u16
     }
 
     /// Gives out the number after the last one. Where it passes the limit, the smaller of last + 32 and 65,535 is stored
@@ -93,14 +70,8 @@ impl OwnNumber {
         ensures either { IsOldOrNew IsKept self.old (advanced self.old) (K.store keeper.new).records }
         ensures elsewhere { OutsideStays 3 3 (K.store keeper.old) (K.store keeper.new) }
     {
-        let number = self.last + 1;
-        if self.limit < number {
-            let limit = self.last.saturating_add(STRIDE);
-            store_limit(keeper, limit)?;
-            self.limit = limit;
-        }
-        self.last = number;
-        Ok(number)
+        let last = self.numbers.reserve(keeper, 1)?;
+        Ok(last as u16 + 1)
     }
 
     /// Gives out the number after the last one. Where it passes the limit, the smaller of last + 32 and 65,535 is stored
@@ -117,7 +88,7 @@ impl OwnNumber {
         ensures either { IsOldOrNew IsKept self.old (advanced self.old) (K.store keeper.new).records }
         ensures elsewhere { OutsideStays 3 3 (K.store keeper.old) (K.store keeper.new) }
     {
-        if self.last == u16::MAX {
+        if self.last() == u16::MAX {
             return Err(NumberFault::SeqSpent);
         }
         self.advance(keeper).map_err(|_| NumberFault::Store)
@@ -136,10 +107,7 @@ impl OwnNumber {
             (K.store keeper.new).records }
         ensures elsewhere { OutsideStays 3 3 (K.store keeper.old) (K.store keeper.new) }
     {
-        store_limit(keeper, value)?;
-        self.limit = value;
-        self.last = value;
-        Ok(())
+        self.numbers.set_limit(keeper, u32::from(value))
     }
 
     /// Stores the limit `value`, at least 1, and makes it the last number.

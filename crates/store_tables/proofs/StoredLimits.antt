@@ -3,6 +3,7 @@ use Rattle.std.proofs.Common.{◌≡◌, ◌⊎◌, ℕ, ◌+◌, ◌^◌, ◌<�
 use Rattle.std.specs.Prelude.{if◌then◌else◌, IfSome, unwrap_or}
 use Rattle.std.proofs.lemmas.Bool.{ltb-false}
 use Rattle.std.specs.FinMap.{get, insert}
+use Rattle.store_tables.specs.declared.number_slot.NumberSlot.{NumberSlot}
 use Rattle.byteorder.specs.Endian.{big_bytes}
 use Rattle.plc_base.specs.Keeper.{Records, Store, Write, Stores, SameOutside}
 use Rattle.store_tables.specs.Writes.{puts_of}
@@ -10,69 +11,96 @@ use Rattle.store_tables.specs.LeadingPuts.{PutsLead}
 use Rattle.store_tables.proofs.StoreLemmas.{stores_elsewhere}
 use Rattle.store_tables.proofs.NumberSlots.{stored-insert, number_either}
 use Rattle.store_tables.proofs.LeadingPuts.{leads_one, leads_beside}
-use Rattle.store_tables.specs.Numberings.{Counting, IsKept, IsCountingIn, ReservationsLead, limit_at, limit_in, limit_write, stored_limit, raised, passes, reserve_write, reserved}
+use Rattle.store_tables.specs.Numberings.{Counting, IsKept, IsCountingIn, ReservationsLead, limit_in, limit_write, stored_limit, greatest, raised, passes, reserve_write, reserved}
 
-module _ (slot : ℕ) where
+module _ (at : NumberSlot) where
   -- a limit that was stored is read back
-  pub limit_in-insert : (records : Records) (limit : ℕ) → limit < 2 ^ 32 → limit_in slot (get (insert records slot (big_bytes 4 limit)) slot) ≡ Some limit
-  limit_in-insert records limit h = stored-insert (limit_at slot) records limit (omega arith) (omega arith)
+  pub limit_in-insert : (records : Records) (limit : ℕ) → limit < 256 ^ at.width → at.least ≤ limit
+      → limit_in at (get (insert records at.slot (big_bytes at.width limit)) at.slot) ≡ Some limit
+  limit_in-insert records limit fits low = stored-insert at records limit fits low
 
   -- what a kept numbering holds is the stored limit
-  pub stored_limit-kept : (counting : Counting) (records : Records) → IsKept slot counting records → stored_limit slot records ≡ counting.limit
+  pub stored_limit-kept : (counting : Counting) (records : Records) → IsKept at counting records → stored_limit at records ≡ counting.limit
   stored_limit-kept counting records kept = ap (λ o. unwrap_or o 0) kept.limit
 
   -- what is stored of the numbering stays where other slots are put
-  pub kept_elsewhere : (counting : Counting) (old new : Records) (first last : ℕ) → IsKept slot counting old → SameOutside first last old new → (slot < first) ⊎ (last < slot) → IsKept slot counting new
-  kept_elsewhere counting old new first last kept same apart = record { limit = ap (limit_in slot) (same slot apart) ∙ kept.limit; below = kept.below }
+  pub kept_elsewhere : (counting : Counting) (old new : Records) (first last : ℕ) → IsKept at counting old → SameOutside first last old new
+      → (at.slot < first) ⊎ (last < at.slot) → IsKept at counting new
+  kept_elsewhere counting old new first last kept same apart = record { limit = ap (limit_in at) (same at.slot apart) ∙ kept.limit; below = kept.below }
 
   -- whatever became of a put of a limit, the old one is read or the new one
-  pub limit_either : (old new : Records) (limit : ℕ) → limit < 2 ^ 32 → (new ≡ old) ⊎ (new ≡ insert old slot (big_bytes 4 limit))
-      → (limit_in slot (get new slot) ≡ limit_in slot (get old slot)) ⊎ (limit_in slot (get new slot) ≡ Some limit)
-  limit_either old new limit fits stores = number_either (limit_at slot) old new limit (omega arith) (omega arith) stores
+  pub limit_either : (old new : Records) (limit : ℕ) → limit < 256 ^ at.width → at.least ≤ limit
+      → (new ≡ old) ⊎ (new ≡ insert old at.slot (big_bytes at.width limit))
+      → (limit_in at (get new at.slot) ≡ limit_in at (get old at.slot)) ⊎ (limit_in at (get new at.slot) ≡ Some limit)
+  limit_either old new limit fits low stores = number_either at old new limit fits low stores
 
-module _ (slot stride : ℕ) where
+-- A limit that is read has its octets and is no less than the least one.
+pub record Reads (at : NumberSlot) (limit : ℕ) : Type 0 where
+  pub fits : limit < 256 ^ at.width
+  pub low : at.least ≤ limit
+
+module _ (at : NumberSlot) (stride : ℕ) where
+  -- the next limit is such a one
+  pub raised_reads : (limit : ℕ) → Reads at limit → Reads at (raised at stride limit)
+  raised_reads limit r = let fits = r.fits in let low = r.low in record { fits = omega arith; low = omega arith }
+
   -- the next number stays within the limit
-  reserved_below : (counting : Counting) (count : ℕ) (b : Bool) → passes counting count ≡ b → counting.next ≤ counting.limit → count ≤ stride → counting.next + count ≤ 4294967295
-      → counting.next + count ≤ cond b (raised stride counting.limit) counting.limit
+  reserved_below : (counting : Counting) (count : ℕ) (b : Bool) → passes counting count ≡ b → counting.next ≤ counting.limit → count ≤ stride
+      → counting.next + count ≤ greatest at.width → counting.next + count ≤ cond b (raised at stride counting.limit) counting.limit
   reserved_below counting count true e below few left = omega (arith, below)
   reserved_below counting count false e below few left = ltb-false _ _ e
 
   -- after a reservation that stored what it had to
-  pub kept_reserved : (counting : Counting) (count : ℕ) (old new : Store) → IsKept slot counting old.records → count ≤ stride → counting.next + count ≤ 4294967295
-      → Stores old (reserve_write slot stride counting count) true new → IsKept slot (reserved stride counting count) new.records
-  kept_reserved counting count old new kept few left stores =
+  pub kept_reserved : (counting : Counting) (count : ℕ) (old new : Store) → IsKept at counting old.records → Reads at counting.limit → count ≤ stride
+      → counting.next + count ≤ greatest at.width → Stores old (reserve_write at stride counting count) true new
+      → IsKept at (reserved at stride counting count) new.records
+  kept_reserved counting count old new kept reads few left stores =
       record { limit = by_due (passes counting count) stores; below = reserved_below counting count (passes counting count) refl kept.below few left }
     where
-      by_due : (b : Bool) → Stores old (cond b (limit_write slot (raised stride counting.limit)) None) true new → limit_in slot (get new.records slot) ≡ Some (cond b (raised stride counting.limit) counting.limit)
-      by_due true s = ap (λ m. limit_in slot (get m slot)) s.stored ∙ limit_in-insert slot old.records (raised stride counting.limit) (omega arith)
-      by_due false s = ap (λ (k : Store). limit_in slot (get k.records slot)) s.1 ∙ kept.limit
+      by_due : (b : Bool) → Stores old (cond b (limit_write at (raised at stride counting.limit)) None) true new
+          → limit_in at (get new.records at.slot) ≡ Some (cond b (raised at stride counting.limit) counting.limit)
+      by_due true s =
+          let next = raised_reads counting.limit reads in
+          ap (λ m. limit_in at (get m at.slot)) s.stored ∙ limit_in-insert at old.records (raised at stride counting.limit) next.fits next.low
+      by_due false s = ap (λ (k : Store). limit_in at (get k.records at.slot)) s.1 ∙ kept.limit
 
-  pub reserved_fits : (counting : Counting) (count : ℕ) → counting.limit < 2 ^ 32 → (reserved stride counting count).limit < 2 ^ 32
-  reserved_fits counting count fits = by_due (passes counting count)
+  pub reserved_reads : (counting : Counting) (count : ℕ) → Reads at counting.limit → Reads at (reserved at stride counting count).limit
+  reserved_reads counting count reads = by_due (passes counting count)
     where
-      by_due : (b : Bool) → cond b (raised stride counting.limit) counting.limit < 2 ^ 32
-      by_due true = omega arith
-      by_due false = fits
+      by_due : (b : Bool) → Reads at (cond b (raised at stride counting.limit) counting.limit)
+      by_due true = raised_reads counting.limit reads
+      by_due false = reads
 
   -- a reservation puts at the slot of the limit
-  pub reserve_write-within : (counting : Counting) (count : ℕ) → IfSome (reserve_write slot stride counting count) (λ w. (slot ≤ w.slot) × (w.slot ≤ slot))
+  pub reserve_write-within : (counting : Counting) (count : ℕ)
+      → IfSome (reserve_write at stride counting count) (λ w. (at.slot ≤ w.slot) × (w.slot ≤ at.slot))
   reserve_write-within counting count = by_due (passes counting count)
     where
-      by_due : (b : Bool) → IfSome (cond b (limit_write slot (raised stride counting.limit)) None) (λ (w : Write). (slot ≤ w.slot) × (w.slot ≤ slot))
+      by_due : (b : Bool)
+          → IfSome (cond b (limit_write at (raised at stride counting.limit)) None) (λ (w : Write). (at.slot ≤ w.slot) × (w.slot ≤ at.slot))
       by_due true = (omega arith, omega arith)
       by_due false = tt
 
   -- so it leaves all other slots
-  pub reserve_write-elsewhere : (counting : Counting) (count : ℕ) (old new : Store) (done : Bool) → Stores old (reserve_write slot stride counting count) done new → SameOutside slot slot old.records new.records
-  reserve_write-elsewhere counting count old new done stores = stores_elsewhere old new (reserve_write slot stride counting count) done slot slot stores (reserve_write-within counting count)
+  pub reserve_write-elsewhere : (counting : Counting) (count : ℕ) (old new : Store) (done : Bool)
+      → Stores old (reserve_write at stride counting count) done new → SameOutside at.slot at.slot old.records new.records
+  reserve_write-elsewhere counting count old new done stores =
+      stores_elsewhere old new (reserve_write at stride counting count) done at.slot at.slot stores (reserve_write-within counting count)
 
   -- it leads from what the records gave to what they give
-  pub reservations_lead : ReservationsLead slot stride
+  pub reservations_lead : ReservationsLead at stride
   reservations_lead c count few left = by_due (passes c count) refl
     where
       by_due : (b : Bool) → passes c count ≡ b
-          → PutsLead (IsCountingIn slot) c (puts_of (if b then limit_write slot (raised stride c.limit) else None)) (record { limit = if b then raised stride c.limit else c.limit; next = c.next + count })
-      by_due true e = leads_one (IsCountingIn slot) c _ _ (λ r k.
+          → PutsLead (IsCountingIn at) c (puts_of (if b then limit_write at (raised at stride c.limit) else None))
+          (record { limit = if b then raised at stride c.limit else c.limit; next = c.next + count })
+      by_due true e = leads_one (IsCountingIn at) c _ _ (λ r k.
           let below = k.kept.below in
-          record { kept = record { limit = limit_in-insert slot r (raised stride c.limit) (omega arith); below = omega arith }; fits = omega arith })
-      by_due false e = leads_beside (IsCountingIn slot) c _ (λ r k. record { kept = record { limit = k.kept.limit; below = ltb-false _ _ e }; fits = k.fits })
+          let next = raised_reads c.limit (record { fits = k.fits; low = k.low }) in
+          record {
+            kept = record { limit = limit_in-insert at r (raised at stride c.limit) next.fits next.low; below = omega arith };
+            fits = next.fits;
+            low = next.low;
+          })
+      by_due false e =
+          leads_beside (IsCountingIn at) c _ (λ r k. record { kept = record { limit = k.kept.limit; below = ltb-false _ _ e }; fits = k.fits; low = k.low })

@@ -21,6 +21,16 @@ slots_from first =
 abbrev pub slots_of : ℕ → ℕ → ℕ
 slots_of first count = min count (slots_from first)
 
+-- what an admission answers, where there is room or not: this fault where its put failed; done says that none did
+abbrev pub admission_answer : {F : Type 0} → F → Bool → Result (Unit {0}) F → Result (Unit {0}) F
+admission_answer store done (Ok u) = if done then Ok tt else Err store
+admission_answer store done (Err fault) = Err fault
+
+-- one thing where there is room, and else another
+abbrev pub where_room : {F A : Type 0} → Result (Unit {0}) F → A → A → A
+where_room (Ok u) a b = a
+where_room (Err fault) a b = b
+
 -- The tables whose marks stand from a first slot on, in so many slots.
 module _ (first count : ℕ) where
   -- the entries in the order of their slots

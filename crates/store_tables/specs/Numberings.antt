@@ -1,5 +1,5 @@
 -- Numbers that are given out once each, below a limit that is stored ahead, and what giving them out does.
-use Rattle.std.specs.Prelude.{◌≡◌, ◌⊎◌, ℕ, zero, suc, ◌+◌, ◌<◌, ◌≤◌, ◌^◌, min, Bool, ◌==◌, nat_lt, if◌then◌else◌, List, [], ◌∷◌, Option, Some, None, unwrap_or, Result, Ok, Err, refl}
+use Rattle.std.specs.Prelude.{◌≡◌, ◌⊎◌, ℕ, zero, suc, ◌+◌, ◌-◌, ◌<◌, ◌≤◌, ◌^◌, min, Bool, ◌==◌, nat_lt, if◌then◌else◌, List, [], ◌∷◌, Option, Some, None, unwrap_or, Result, Ok, Err, refl}
 use Rattle.std.specs.Coded.{Coded, code_by, coded×, coded_ℕ}
 use Rattle.std.specs.FinMap.{get}
 use Rattle.plc_base.specs.Keeper.{Records, Write}
@@ -28,76 +28,79 @@ counting_at limit = record { limit = limit; next = limit }
 abbrev pub passes : Counting → ℕ → Bool
 passes counting count = nat_lt counting.limit (counting.next + count)
 
--- whether no number is left
-abbrev pub is_spent : Counting → Bool
-is_spent counting = counting.next == 4294967295
+-- the greatest number of so many octets
+abbrev pub greatest : (width : ℕ) → ℕ
+greatest width = 256 ^ width - 1
 
 -- # The slot of the limit
 
--- where the limit is stored: 4 octets at the slot, 0 where none is there
-abbrev pub limit_at : ℕ → NumberSlot
-limit_at slot = record { slot = slot; width = 4; first = 0; least = 0 }
+-- where the limit is stored: so many octets at the slot; the first limit, where none is there, is the least one
+abbrev pub limit_at : (slot width least : ℕ) → NumberSlot
+limit_at slot width least = record { slot = slot; width = width; first = least; least = least }
 
-module _ (slot : ℕ) where
-  -- the limit that the record of the slot gives: 0 where none is there, and no reading where it has not 4 octets
+module _ (at : NumberSlot) where
+  -- the limit that the record of the slot gives: the first one where none is there
   abbrev pub limit_in : Option (List ℕ) → Option ℕ
-  limit_in octets = number_in (limit_at slot) octets
+  limit_in octets = number_in at octets
 
   -- the limit that the records give
   abbrev pub stored_limit : Records → ℕ
-  stored_limit records = unwrap_or (limit_in (get records slot)) 0
+  stored_limit records = unwrap_or (limit_in (get records at.slot)) 0
 
   abbrev pub counting_from : Option ℕ → Result Counting BadStore
-  counting_from None = Err (record { slot = slot })
+  counting_from None = Err (record { slot = at.slot })
   counting_from (Some limit) = Ok (counting_at limit)
 
   -- the numbering that the records give
   abbrev pub opened : Records → Result Counting BadStore
-  opened records = counting_from (limit_in (get records slot))
+  opened records = counting_from (limit_in (get records at.slot))
 
   -- What the numbering holds as stored is what the records give.
   pub record IsKept (counting : Counting) (records : Records) : Type 0 where
-    pub limit : limit_in (get records slot) ≡ Some counting.limit
+    pub limit : limit_in (get records at.slot) ≡ Some counting.limit
     pub below : counting.next ≤ counting.limit
 
   -- The limit is that of the records from before, or what the numbering holds is what the new records give.
   abbrev pub IsOldLimitOrKept : Counting → Records → Records → Type 0
-  IsOldLimitOrKept counting old new =
-      (stored_number (limit_at slot) new ≡ stored_number (limit_at slot) old) ⊎ IsKept counting new
+  IsOldLimitOrKept counting old new = (stored_number at new ≡ stored_number at old) ⊎ IsKept counting new
 
   -- The numbering is what the records give, and its limit has a record.
   pub record IsCountingIn (counting : Counting) (records : Records) : Type 0 where
     pub kept : IsKept counting records
-    pub fits : counting.limit < 2 ^ 32
+    pub fits : counting.limit < 256 ^ at.width
+    pub low : at.least ≤ counting.limit
+
+  -- whether no number is left
+  abbrev pub is_spent : Counting → Bool
+  is_spent counting = counting.next == greatest at.width
 
   -- the put of a limit
   abbrev pub limit_write : ℕ → Option Write
-  limit_write limit = Some (number_write (limit_at slot) limit)
+  limit_write limit = Some (number_write at limit)
 
 -- # The stride, by which the limit is stored ahead
 
--- the next limit
-abbrev pub raised : (stride : ℕ) → ℕ → ℕ
-raised stride limit = min (limit + stride) 4294967295
+module _ (at : NumberSlot) (stride : ℕ) where
+  -- the next limit
+  abbrev pub raised : ℕ → ℕ
+  raised limit = min (limit + stride) (greatest at.width)
 
--- what is stored before so many numbers are given out
-abbrev pub reserve_write : (slot stride : ℕ) → Counting → ℕ → Option Write
-reserve_write slot stride counting count =
-    if passes counting count then limit_write slot (raised stride counting.limit) else None
+  -- what is stored before so many numbers are given out
+  abbrev pub reserve_write : Counting → ℕ → Option Write
+  reserve_write counting count = if passes counting count then limit_write at (raised counting.limit) else None
 
--- the numbering after so many were given out
-abbrev pub reserved : (stride : ℕ) → Counting → ℕ → Counting
-reserved stride counting count = record {
-  limit = if passes counting count then raised stride counting.limit else counting.limit;
-  next = counting.next + count;
-}
+  -- the numbering after so many were given out
+  abbrev pub reserved : Counting → ℕ → Counting
+  reserved counting count = record {
+    limit = if passes counting count then raised counting.limit else counting.limit;
+    next = counting.next + count;
+  }
 
--- Whatever becomes of the put for so many numbers, some numbering is what the records give.
-abbrev pub ReservationsLead : (slot stride : ℕ) → Type 0
-ReservationsLead slot stride =
-    (counting : Counting) (count : ℕ) → count ≤ stride → counting.next + count ≤ 4294967295
-    → PutsLead (IsCountingIn slot) counting (puts_of (reserve_write slot stride counting count))
-    (reserved stride counting count)
+  -- Whatever becomes of the put for so many numbers, some numbering is what the records give.
+  abbrev pub ReservationsLead : Type 0
+  ReservationsLead =
+      (counting : Counting) (count : ℕ) → count ≤ stride → counting.next + count ≤ greatest at.width
+      → PutsLead (IsCountingIn at) counting (puts_of (reserve_write counting count)) (reserved counting count)
 
 -- # What was given out
 

@@ -1,5 +1,5 @@
 //! A number that has a slot of a store to itself.
-ghost use Rattle.std.specs.Prelude.{◌≡◌, ◌<◌, ◌≤◌, ◌^◌, Some, is_ok, IfOk, IfSome, OnOk};
+ghost use Rattle.std.specs.Prelude.{◌≡◌, ◌<◌, ◌≤◌, ◌^◌, min, Some, is_ok, IfOk, IfSome, OnOk};
 ghost use Rattle.plc_base.specs.Keeper.{Stores, OutsideStays};
 ghost use Rattle.store_tables.specs.NumberSlots.{IsNumberSlot, IsOldOrNewNumber, number_in, stored_number, read_result, number_write};
 ghost use Rattle.byteorder.specs.Endian.{big_bytes};
@@ -28,6 +28,7 @@ impl NumberSlot {
         requires { IsNumberSlot self.now }
         ensures number { result ≡ read_result self.now (stored_number self.now (K.store keeper.now).records) }
         ensures fits { IfOk result (λ number. number < 256 ^ self.now.width) }
+        ensures low { IfOk result (λ number. min self.now.first self.now.least ≤ number) }
     {
         let Some(octets) = keeper.get(self.slot) else {
             return Ok(self.first);
@@ -60,6 +61,7 @@ impl NumberSlot {
         requires { IsNumberSlot self.now }
         ensures number { result ≡ number_in self.now (Some octets.now) }
         ensures fits { IfSome result (λ number. number < 256 ^ self.now.width) }
+        ensures low { IfSome result (λ number. self.now.least ≤ number) }
     {
         if octets.len() != self.width {
             return None;
