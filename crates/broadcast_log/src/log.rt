@@ -8,6 +8,7 @@ ghost use Rattle.store_tables.specs.AdmittedNumbers.{Admitted, AllEarlier};
 ghost use Rattle.broadcast_log.specs.OriginMarks.{marks, IsCovered, mark_of, room_for};
 ghost use Rattle.broadcast_log.specs.Log.{Log, empty_log, IsKept, IsBad, Reopens, opened, next_result, next_write, next_after, numbered_log, admit_result, admit_write, admit_after, admitted_log, is_stored};
 ghost use Rattle.broadcast_log.specs.Runs.{Runs};
+ghost use Rattle.plc_base.specs.declared.limits.TheConstants.{GREATEST_COUNTER};
 
 use crate::LogFault;
 use plc_base::{BadStore, Keeper, Short};
@@ -69,7 +70,7 @@ impl BroadcastLog {
 
     /// How many numbers are left: 4,294,967,295 minus the next one.
     pub fn number_left(&self) -> u32
-        ensures { result + self.now.numbering.next ≡ 4294967295 }
+        ensures { result + self.now.numbering.next ≡ GREATEST_COUNTER }
     {
         self.numbering.left()
     }

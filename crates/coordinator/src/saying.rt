@@ -11,6 +11,7 @@ ghost use Rattle.coordinator.specs.CoordinatorStates.{node_of};
 ghost use Rattle.coordinator.specs.CoordinatorAgreement.{Holds};
 ghost use Rattle.coordinator.specs.Telling as telling;
 ghost use Rattle.coordinator.specs.Saying as saying;
+ghost use Rattle.waiting_bodies.specs.declared.bodies.TheConstants.{LONGEST_COMMAND};
 
 use crate::coordinator::Coordinator;
 use joining_base::{CommandBuf, dropped_send, push_down, write_command};
@@ -30,7 +31,7 @@ impl<K: Keeper + Drop> Coordinator<K> {
     fn command_room(&self, to: Short, octets: u16) -> Result<(), Dropped>
         requires running { IsSome (node_of self.now).memory }
         requires holds { Holds (node_of self.now) }
-        requires fits { octets ≤ 374 }
+        requires fits { octets ≤ LONGEST_COMMAND }
         ensures room { IfOk result (λ _. IfSome (node_of self.now).memory (λ m. HasRoom m.station to octets)) }
         ensures refused { IfErr result (λ reason. IfSome (node_of self.now).memory (λ m.
             command_fault dropped dropped_for m.station to octets ≡ Some reason)) }

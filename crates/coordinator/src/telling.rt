@@ -6,6 +6,7 @@ ghost use Rattle.node_rules.specs.Composing.{HasRoom};
 ghost use Rattle.coordinator.specs.CoordinatorStates.{node_of};
 ghost use Rattle.coordinator.specs.CoordinatorAgreement.{Holds};
 ghost use Rattle.coordinator.specs.Telling as telling;
+ghost use Rattle.waiting_bodies.specs.declared.bodies.TheConstants.{LONGEST_COMMAND};
 
 use crate::coordinator::Coordinator;
 use crate::orders::order_refusal;
@@ -19,7 +20,7 @@ impl<K: Keeper + Drop> Coordinator<K> {
     pub(crate) fn room_for(&self, to: Short, octets: u16) -> Result<(), CoordinatorRefusal>
         requires running { IsSome (node_of self.now).memory }
         requires holds { Holds (node_of self.now) }
-        requires fits { octets ≤ 374 }
+        requires fits { octets ≤ LONGEST_COMMAND }
         ensures room { IfOk result (λ _. IfSome (node_of self.now).memory (λ m. HasRoom m.station to octets)) }
         ensures refused { IfErr result (λ reason.
             IfSome (node_of self.now).memory (λ m. telling.lacks m to octets ≡ Some reason)) }

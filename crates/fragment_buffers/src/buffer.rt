@@ -15,14 +15,14 @@ use crate::piece_span::PieceSpan;
 use arrayvec::ArrayVec;
 use block_pool::{Chain, Pool};
 use mesh_header::Piece;
-use plc_base::{DatagramBuf, Short, earlier_end, is_within};
+use plc_base::{DatagramBuf, LONGEST_DATAGRAM, Short, earlier_end, is_within};
 use std::marker::Model;
 
 /// The most pieces of a datagram: each begins at a unit of 8 octets of its own, of which 1,280 octets have 160.
 const PIECES: usize = 160;
 
 /// Blanks, as many as a datagram may have octets. A buffer gets its length by them, before the datagram is read into it.
-static BLANKS: [u8; 1280] = [0; 1280];
+static BLANKS: [u8; LONGEST_DATAGRAM] = [0; LONGEST_DATAGRAM];
 
 /// A reassembly: its name, the note and the time of its first piece, the chain with its octets, and the places of its pieces. A
 /// blank one has no chain.

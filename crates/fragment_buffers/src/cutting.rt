@@ -1,8 +1,9 @@
 //! The cut of a datagram into pieces.
 ghost use Rattle.std.specs.Prelude.{◌≡◌, ◌≤◌, ◌<◌, Some, length, slice_get};
 ghost use Rattle.fragment_buffers.specs.Cutting.{pieces_of, piece_of, cut};
+ghost use Rattle.plc_base.specs.declared.limits.TheConstants.{LONGEST_DATAGRAM};
 
-use mesh_header::Piece;
+use mesh_header::{LONGEST_WHOLE, Piece};
 
 /// The octets of each piece but the last.
 const PIECE: usize = 368;
@@ -10,10 +11,10 @@ const PIECE: usize = 368;
 /// How many units carry a datagram of so many octets, 1 to 1,280: one for up to 375 octets, and else one for each piece of 368
 /// octets and one for the octets that are left.
 pub fn pieces(octets: u16) -> u8
-    requires { (1 ≤ octets) × (octets ≤ 1280) }
+    requires { (1 ≤ octets) × (octets ≤ LONGEST_DATAGRAM) }
     ensures { result ≡ pieces_of octets }
 {
-    if octets <= 375 {
+    if octets <= LONGEST_WHOLE as u16 {
         return 1;
     }
     octets.div_ceil(PIECE as u16) as u8
@@ -24,7 +25,7 @@ pub fn pieces(octets: u16) -> u8
 /// The piece has the datagram's size and this tag, stands at 46 times `k` units of 8 octets, and has 368 octets or, as the last
 /// one, those that are left.
 pub fn cut_piece(datagram: &[u8], tag: u16, k: u8) -> Piece<'_>
-    requires long { (376 ≤ length datagram.now) × (length datagram.now ≤ 1280) }
+    requires long { (376 ≤ length datagram.now) × (length datagram.now ≤ LONGEST_DATAGRAM) }
     requires there { k < pieces_of (length datagram.now) }
     ensures value { result ≡ piece_of datagram.now tag k }
     ensures kth { slice_get (cut datagram.now tag) k ≡ Some result }

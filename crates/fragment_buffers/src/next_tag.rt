@@ -4,6 +4,7 @@ ghost use Rattle.plc_base.specs.Keeper.{Stores, OutsideStays};
 ghost use Rattle.std.specs.FinMap.{get};
 ghost use Rattle.fragment_buffers.specs.NextTag.{tag_in, tag_slot, IsKept, tag_after, tag_write, take_write, tag_left};
 
+use mesh_header::LONGEST_WHOLE;
 use plc_base::{BadStore, Failed, Keeper};
 use std::marker::Model;
 use store_tables::NumberSlot;
@@ -80,7 +81,7 @@ impl NextTag {
         ensures elsewhere { OutsideStays 4 4 (K.store keeper.old) (K.store keeper.new) }
     {
         let tag = self.tag;
-        if octets <= 375 {
+        if octets <= LONGEST_WHOLE {
             return Ok(tag);
         }
         self.advance(keeper)?;

@@ -5,6 +5,7 @@ ghost use Rattle.plc_base.specs.Keeper.{Stores, OutsideStays, IsOldOrNew};
 ghost use Rattle.frame_counters.specs.SendCounter.{IsKept, IsOldLimitOrKept, stored_limit, opened, reserve_write, reserved, limit_write, counting_at, take_result, take_write, take_after, is_stored, preset_result};
 ghost use Rattle.store_tables.specs.Numberings.{AllBelow};
 ghost use Rattle.frame_counters.specs.Given.{Gives};
+ghost use Rattle.plc_base.specs.declared.limits.TheConstants.{GREATEST_COUNTER};
 
 use crate::CounterFault;
 use plc_base::{BadStore, Failed, Keeper};
@@ -41,7 +42,7 @@ impl SendCounter {
         ensures counter { result ≡ opened (K.store keeper.now).records }
         ensures kept { IfOk result (λ counter. IsKept counter (K.store keeper.now).records) }
         ensures limit { IfOk result (λ counter. counter.next ≡ stored_limit (K.store keeper.now).records) }
-        ensures fits { IfOk result (λ counter. counter.next ≤ 4294967295) }
+        ensures fits { IfOk result (λ counter. counter.next ≤ GREATEST_COUNTER) }
     {
         let numbering = Numbering::open(keeper)?;
         Ok(SendCounter { numbering })
@@ -49,7 +50,7 @@ impl SendCounter {
 
     /// How many counters are left: 4,294,967,295 minus the next one.
     pub fn left(&self) -> u32
-        ensures { result + self.now.next ≡ 4294967295 }
+        ensures { result + self.now.next ≡ GREATEST_COUNTER }
     {
         self.numbering.left()
     }
@@ -59,7 +60,7 @@ impl SendCounter {
     /// Only a failed put is an error. The counter is then as it was, but may not be used until it is opened again.
     pub fn reserve<K: Keeper>(&mut self, keeper: &mut K, count: u32) -> Result<u32, Failed>
         requires few { count ≤ 1024 }
-        requires left { self.old.next + count ≤ 4294967295 }
+        requires left { self.old.next + count ≤ GREATEST_COUNTER }
         requires kept { IsKept self.old (K.store keeper.old).records }
         ensures number { IfOk result (λ number. number ≡ self.old.next) }
         // It is above all that was given out before, over any reservations, failed puts and new starts.
@@ -72,7 +73,7 @@ impl SendCounter {
         // Whatever became of the put, the record is that of the counter before or of the one after.
         ensures either { IsOldOrNew IsKept self.old (reserved self.old count) (K.store keeper.new).records }
         ensures elsewhere { OutsideStays 2 2 (K.store keeper.old) (K.store keeper.new) }
-        ensures fits { self.new.next ≤ 4294967295 }
+        ensures fits { self.new.next ≤ GREATEST_COUNTER }
     {
         self.numbering.reserve(keeper, count)
     }
@@ -93,7 +94,7 @@ impl SendCounter {
         ensures kept { OnTrue (is_stored result) (IsKept self.new (K.store keeper.new).records) }
         ensures either { IsOldOrNew IsKept self.old (reserved self.old 1) (K.store keeper.new).records }
         ensures elsewhere { OutsideStays 2 2 (K.store keeper.old) (K.store keeper.new) }
-        ensures fits { self.new.next ≤ 4294967295 }
+        ensures fits { self.new.next ≤ GREATEST_COUNTER }
     {
         if self.left() == 0 {
             return Err(CounterFault::Spent);

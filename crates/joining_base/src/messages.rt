@@ -8,6 +8,7 @@ ghost use Rattle.node_rules.specs.Ciphers.{network};
 ghost use Rattle.node_rules.specs.Frames.{spelled};
 ghost use Rattle.node_rules.specs.Frames as frames;
 ghost use Rattle.node_rules.specs.Joining.{command_of};
+ghost use Rattle.plc_base.specs.declared.limits.TheConstants.{MOST_FRAMES};
 
 use joining_messages::{JoinMessage, read_join, write_join};
 use mac_frames::{MacHead, write_header};
@@ -43,7 +44,7 @@ fn push_plain(head: &MacHead, message: &JoinMessage, out: &mut Out)
     requires message { IsMessage message.now }
     requires plain { IsPlain head.now }
     requires head { heads.IsAllowed head.now }
-    requires room { length out.old.frames < 24 }
+    requires room { length out.old.frames < MOST_FRAMES }
     ensures { out.new ≡ record out.old {
       frames = out.old.frames ++ frames.plain_frame head.now message.now ∷ [];
     } }
@@ -70,7 +71,7 @@ fn write_plain(head: &MacHead, message: &JoinMessage, out: &mut FrameBuf)
 #[tactic(auto, unfolding(node_rules::specs::Frames::spelled))]
 pub fn push_up(message: &JoinMessage, agent: Short, from: Eui, out: &mut Out)
     requires message { IsMessage message.now }
-    requires room { length out.old.frames < 24 }
+    requires room { length out.old.frames < MOST_FRAMES }
     ensures { out.new ≡ record out.old {
       frames = out.old.frames ++ spelled network (frames.Up agent from message.now) ∷ [];
     } }
@@ -90,7 +91,7 @@ pub fn push_up(message: &JoinMessage, agent: Short, from: Eui, out: &mut Out)
 #[tactic(auto, unfolding(node_rules::specs::Frames::spelled))]
 pub fn push_down(message: &JoinMessage, from: Short, out: &mut Out)
     requires message { IsMessage message.now }
-    requires room { length out.old.frames < 24 }
+    requires room { length out.old.frames < MOST_FRAMES }
     ensures { out.new ≡ record out.old {
       frames = out.old.frames ++ spelled network (frames.Down from message.now) ∷ [];
     } }

@@ -5,6 +5,7 @@ ghost use Rattle.std.specs.Str.{bytes_eq};
 ghost use Rattle.line_flights.specs.Flights.{flight_by};
 ghost use Rattle.line_flights.specs.Flights.{Flight, is_forged_frame, note_of};
 ghost use Rattle.line_flights.specs.Flown.{flight_in, not_lost, is_under};
+ghost use Rattle.plc_base.specs.declared.limits.TheConstants.{LONGEST_FRAME};
 
 use byteorder::{BigEndian, ByteOrder};
 use octet_log::OctetLog;
@@ -135,7 +136,7 @@ impl Flights {
         requires places { 1 ≤ self.old.places }
         requires room { length frame.now.octets ≤ self.old.room }
         // A number has 32 bits.
-        requires numbers { length self.old.flights < 4294967295 }
+        requires numbers { length self.old.flights < u32.MAX }
         ensures { self.new ≡ record {
           flights = self.old.flights ++ flight_by from frame.now ∷ [];
           places = self.old.places - 1;
@@ -157,11 +158,11 @@ impl Flights {
     // A frame flies, where there is room for any frame.
     fn push_any(&mut self, from: u16, frame: &OutFrame)
         requires places { 1 ≤ self.old.places }
-        requires room { 400 ≤ self.old.room }
-        requires numbers { length self.old.flights < 4294967295 }
+        requires room { LONGEST_FRAME ≤ self.old.room }
+        requires numbers { length self.old.flights < u32.MAX }
         ensures flights { self.new.flights ≡ self.old.flights ++ flight_by from frame.now ∷ [] }
         ensures places { self.new.places ≡ self.old.places - 1 }
-        ensures room { self.old.room ≤ self.new.room + 400 }
+        ensures room { self.old.room ≤ self.new.room + LONGEST_FRAME }
     {
         let _octets = frame.octets.octets();
         self.push(from, frame);
@@ -171,12 +172,12 @@ impl Flights {
     pub fn send_off(&mut self, from: u16, frames: &[OutFrame])
         requires places { length frames.now ≤ self.old.places }
         // A frame has at most 400 octets.
-        requires room { 400 * length frames.now ≤ self.old.room }
+        requires room { LONGEST_FRAME * length frames.now ≤ self.old.room }
         // A number has 32 bits.
-        requires numbers { length self.old.flights + length frames.now ≤ 4294967295 }
+        requires numbers { length self.old.flights + length frames.now ≤ u32.MAX }
         ensures flights { self.new.flights ≡ self.old.flights ++ map (flight_by from) frames.now }
         ensures places { self.new.places ≡ self.old.places - length frames.now }
-        ensures room { self.old.room ≤ self.new.room + 400 * length frames.now }
+        ensures room { self.old.room ≤ self.new.room + LONGEST_FRAME * length frames.now }
     {
         for frame in frames {
             self.push_any(from, frame);

@@ -52,7 +52,7 @@ impl MadeTags {
     /// memory runs out, and nothing changes then.
     pub fn reserve(&mut self, tags: usize) -> Result<(), AllocError>
         // A number has 32 bits.
-        requires numbers { tags ≤ 4294967295 }
+        requires numbers { tags ≤ u32.MAX }
         ensures ok { OnOk result (self.new ≡ record self.old { places = max self.old.places tags }) }
         ensures err { OnErr result (self.new ≡ self.old) }
         ensures enough { tags ≤ self.old.places → IsOk result }
@@ -64,7 +64,7 @@ impl MadeTags {
     pub fn push(&mut self, tag: &PairTag)
         requires places { 1 ≤ self.old.places }
         // A number has 32 bits.
-        requires numbers { length self.old.tags < 4294967295 }
+        requires numbers { length self.old.tags < u32.MAX }
         ensures { self.new ≡ record { tags = self.old.tags ++ tag.now ∷ []; places = self.old.places - 1 } }
     {
         let spelling = tag.spelling();
@@ -76,7 +76,7 @@ impl MadeTags {
     pub fn note(&mut self, tags: &[PairTag])
         requires places { length tags.now ≤ self.old.places }
         // A number has 32 bits.
-        requires numbers { length self.old.tags + length tags.now ≤ 4294967295 }
+        requires numbers { length self.old.tags + length tags.now ≤ u32.MAX }
         ensures { self.new ≡ record {
           tags = self.old.tags ++ tags.now;
           places = self.old.places - length tags.now;

@@ -16,6 +16,7 @@ ghost use Rattle.line_world.specs.Arrivals.{BringsOctets};
 ghost use Rattle.line_world.specs.Bounds.{IsBounded};
 ghost use Rattle.line_world.specs.Lines.{HasRoom, world_of};
 ghost use Rattle.line_world.specs.Steps.{Steps};
+ghost use Rattle.plc_base.specs.declared.limits.TheConstants.{MOST_FRAMES};
 
 use crate::discovery::is_discovery;
 use crate::line::Line;
@@ -165,7 +166,7 @@ impl Line {
         requires events { self.old.events < MAX_EVENTS }
         ensures world { world_of self.new ≡ left_of (world_of self.old) node self.old.out forged told.now }
         ensures told { result ≡ said_of (world_of self.old) node self.old.out forged told.now }
-        ensures frames { length self.old.out.frames ≤ 24 }
+        ensures frames { length self.old.out.frames ≤ MOST_FRAMES }
         ensures tags { length self.old.out.tags.made ≤ 2 }
     {
         let done = self.number_done(told.done);

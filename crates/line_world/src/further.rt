@@ -20,6 +20,7 @@ ghost use Rattle.line_world.specs.Lines.{HasRoom, world_of};
 ghost use Rattle.line_world.specs.Reaching as reaching;
 ghost use Rattle.line_world.specs.Receiving.{MayHear};
 ghost use Rattle.line_world.specs.Steps.{Steps, has_address};
+ghost use Rattle.plc_base.specs.declared.limits.TheConstants.{MOST_FRAMES};
 
 use crate::line::Line;
 use crate::nodes::{CommandRef, Reception, command_on};
@@ -371,7 +372,7 @@ impl Line {
         requires there { node < length self.old.nodes }
         requires number { IfSome due (λ r. 0 < r.number) }
         requires joined { IsSome due → IfSome (slice_get self.old.nodes node) (λ x. IfSome x.memory (λ m. IsSome m.station.ring)) }
-        requires room { IsSome due → length self.old.out.frames < 24 }
+        requires room { IsSome due → length self.old.out.frames < MOST_FRAMES }
         ensures acknowledges { IfSome (slice_get self.old.nodes node) (λ x. Acknowledges (world_of self.old) node x due self.old.out result
             self.new.out (world_of self.new)) }
         ensures flights { self.new.flights ≡ self.old.flights }

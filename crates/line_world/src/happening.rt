@@ -6,15 +6,14 @@ ghost use Rattle.line_rules.specs.Steps as rules;
 ghost use Rattle.line_world.specs.Bounds.{IsBounded};
 ghost use Rattle.line_world.specs.Finding.{found, found_meter};
 ghost use Rattle.line_world.specs.Lines.{HasRoom, world_of};
+ghost use Rattle.plc_base.specs.declared.limits.TheConstants.{MOST_FRAMES};
 
 use crate::line::Line;
 use line_rules::{Answer, Happenings, StepFault};
-
-/// The most frames that a node sends at one event.
-const MAX_FRAMES: usize = 24;
+use plc_base::{LONGEST_FRAME, MOST_FRAMES};
 
 /// The most octets that they have together.
-const MAX_OCTETS: usize = 24 * 400;
+const MAX_OCTETS: usize = MOST_FRAMES * LONGEST_FRAME;
 
 /// The most pair tags that a node makes at one event.
 const MAX_TAGS: usize = 2;
@@ -22,7 +21,7 @@ const MAX_TAGS: usize = 2;
 impl Line {
     /// Nothing but an answer.
     pub(crate) fn happened(&self, answer: Answer) -> Happenings<'static>
-        requires flights { length self.now.flights.flights < 4294967295 }
+        requires flights { length self.now.flights.flights < u32.MAX }
         ensures { result ≡ rules.happened (world_of self.now) answer }
     {
         Happenings {
@@ -61,7 +60,7 @@ impl Line {
     /// Counts an event that changed nothing else, or nothing but nodes and the clock.
     pub(crate) fn answered(&mut self, answer: Answer) -> Happenings<'static>
         requires events { self.old.events < MAX_EVENTS }
-        requires flights { length self.old.flights.flights < 4294967295 }
+        requires flights { length self.old.flights.flights < u32.MAX }
         ensures line { self.new ≡ record self.old { events = self.old.events + 1; running = true } }
         ensures told { result ≡ rules.happened (world_of self.old) answer }
     {
@@ -75,7 +74,7 @@ impl Line {
         ensures ok { OnOk result (HasRoom self.new) }
         ensures err { OnErr result (result ≡ Err faults.Memory) }
     {
-        if self.flights.reserve(MAX_FRAMES, MAX_OCTETS).is_err() {
+        if self.flights.reserve(MOST_FRAMES, MAX_OCTETS).is_err() {
             return Err(StepFault::Memory);
         }
         if self.made.reserve(MAX_TAGS).is_err() {
@@ -88,14 +87,14 @@ impl Line {
     pub(crate) fn tell(&mut self, node: usize) -> u8
         requires room { HasRoom self.old }
         requires node { node < 1000 }
-        requires flights { length self.old.flights.flights + 24 ≤ 4294967295 }
-        requires made { length self.old.made.tags + 2 ≤ 4294967295 }
+        requires flights { length self.old.flights.flights + MOST_FRAMES ≤ u32.MAX }
+        requires made { length self.old.made.tags + 2 ≤ u32.MAX }
         ensures world { world_of self.new ≡ record (world_of self.old) {
           flights = self.old.flights.flights ++ map (rules.flight_by node) self.old.out.frames;
           made = self.old.made.tags ++ self.old.out.tags.made;
         } }
         ensures count { result ≡ length self.old.out.frames }
-        ensures frames { length self.old.out.frames ≤ 24 }
+        ensures frames { length self.old.out.frames ≤ MOST_FRAMES }
         ensures tags { length self.old.out.tags.made ≤ 2 }
     {
         let flights = self.out.frames.len() as u8;
@@ -110,8 +109,8 @@ impl Line {
         requires room { HasRoom self.old }
         requires node { node < 1000 }
         requires events { self.old.events < MAX_EVENTS }
-        requires flights { length self.old.flights.flights + 24 ≤ 4294967295 }
-        requires made { length self.old.made.tags + 2 ≤ 4294967295 }
+        requires flights { length self.old.flights.flights + MOST_FRAMES ≤ u32.MAX }
+        requires made { length self.old.made.tags + 2 ≤ u32.MAX }
         ensures world { world_of self.new ≡ record (rules.ran (world_of self.old)) {
           flights = self.old.flights.flights ++ map (rules.flight_by node) self.old.out.frames;
           made = self.old.made.tags ++ self.old.out.tags.made;
@@ -119,7 +118,7 @@ impl Line {
         ensures told { result ≡ record (rules.happened (world_of self.old) answer) {
           flights = length self.old.out.frames;
         } }
-        ensures frames { length self.old.out.frames ≤ 24 }
+        ensures frames { length self.old.out.frames ≤ MOST_FRAMES }
         ensures tags { length self.old.out.tags.made ≤ 2 }
     {
         let mut happened = self.answered(answer);

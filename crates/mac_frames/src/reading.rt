@@ -12,7 +12,10 @@ ghost use Rattle.mac_frames.specs.declared.head.MacHead.{MacHead};
 use crate::control::{FrameKind, high_of, low_of};
 use crate::fault::{FrameFault, FrameFaultKind};
 use crate::head::MacHead;
-use plc_base::{Eui, Fault, Short, little_four_at, little_two_at, octet_at, reversed_at};
+use plc_base::{
+    Eui, Fault, LONGEST_FRAME, NO_ADDRESS, Short, little_four_at, little_two_at, octet_at,
+    reversed_at,
+};
 
 /// A frame that was read, over the octets that it was read from.
 #[derive(Clone, Copy, Debug)]
@@ -33,7 +36,7 @@ fn target_at(octets: &[u8], at: usize) -> Result<u16, FrameFault>
         × (after at octets.now ≡ little_bytes 2 x ++ after (at + 2) octets.now)) }
 {
     let to = little_two_at(octets, at)?;
-    if to == 0xFFFE {
+    if to == NO_ADDRESS {
         return Err(Fault::at(FrameFaultKind::Address, at));
     }
     Ok(to)
@@ -176,8 +179,8 @@ fn frame_of<'a>(octets: &'a [u8]) -> Result<RawFrame<'a>, FrameFault>
     ensures front { IfOk result (λ raw. raw.header.now ≡ take 15 octets.now) }
     ensures exact { MatchResult result (λ raw. frame_fault octets.now ≡ None) (λ e. frame_fault octets.now ≡ Some e) }
 {
-    if octets.len() > 400 {
-        return Err(Fault::at(FrameFaultKind::Long, 400));
+    if octets.len() > LONGEST_FRAME {
+        return Err(Fault::at(FrameFaultKind::Long, LONGEST_FRAME));
     }
     let head = head_of(octets)?;
     let (header, body) = octets.split_at(15);

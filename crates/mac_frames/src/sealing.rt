@@ -3,6 +3,7 @@ ghost use Rattle.std.specs.Prelude.{◌≡◌, ◌≤◌, ◌↔◌, ◌++◌, �
 ghost use Rattle.aes_modes.specs.Ccm.{ccm_tag, ccm_text};
 ghost use Rattle.mac_frames.specs.Grammar.{Frame, IsAllowed, IsHead, IsSealed, header};
 ghost use Rattle.mac_frames.specs.Sealing.{HasTag, SealedFrame, nonce, nonce_of, opened_in, payload_in};
+ghost use Rattle.plc_base.specs.declared.limits.TheConstants.{LONGEST_FRAME};
 
 use crate::head::MacHead;
 use crate::reading::RawFrame;
@@ -95,7 +96,7 @@ fn open_text(
     tag: &[u8],
     out: &mut FrameBuf,
 ) -> Result<(), BadTag>
-    requires header { length header.now ≤ 400 }
+    requires header { length header.now ≤ LONGEST_FRAME }
     requires sealed { length sealed.now ≤ 381 }
     requires tag { length tag.now ≡ 4 }
     ensures tag { IsOk result

@@ -4,6 +4,7 @@ ghost use Rattle.byteorder.specs.Endian.{little_bytes};
 ghost use Rattle.plc_base.specs.Addresses.{IsAddress};
 ghost use Rattle.mac_frames.specs.Grammar.{Frame, IsAllowed, IsEightOctets, IsEui, IsHead, IsPlain, header, low_control};
 ghost use Rattle.mac_frames.specs.declared.head.MacHead.TheVariants.{Sealed, Up, Down};
+ghost use Rattle.plc_base.specs.declared.limits.TheConstants.{LONGEST_FRAME};
 
 use crate::head::MacHead;
 use byteorder::{ByteOrder, LittleEndian};
@@ -23,7 +24,7 @@ fn low_control(sealed: bool, ack: bool) -> u8
 
 // Appends a number of two octets, the lowest first.
 fn push_u16(out: &mut FrameBuf, number: u16)
-    requires { length out.old + 2 ≤ 400 }
+    requires { length out.old + 2 ≤ LONGEST_FRAME }
     ensures { out.new ≡ out.old ++ little_bytes 2 number }
 {
     let mut octets = [0; 2];
@@ -33,7 +34,7 @@ fn push_u16(out: &mut FrameBuf, number: u16)
 
 // Appends a number of four octets, the lowest first.
 fn push_u32(out: &mut FrameBuf, number: u32)
-    requires { length out.old + 4 ≤ 400 }
+    requires { length out.old + 4 ≤ LONGEST_FRAME }
     ensures { out.new ≡ out.old ++ little_bytes 4 number }
 {
     let mut octets = [0; 4];
@@ -43,7 +44,7 @@ fn push_u32(out: &mut FrameBuf, number: u32)
 
 // Appends the octets of an EUI, the last of its text first.
 fn push_reversed(out: &mut FrameBuf, octets: &[u8; 8])
-    requires { length out.old + 8 ≤ 400 }
+    requires { length out.old + 8 ≤ LONGEST_FRAME }
     ensures spelled { out.new ≡ out.old ++ reverse octets.now }
     ensures octets { IsEightOctets octets.now }
 {
@@ -54,7 +55,7 @@ fn push_reversed(out: &mut FrameBuf, octets: &[u8; 8])
 
 // Appends what each header begins with: the frame control, the sequence number and the PAN id.
 fn push_front(out: &mut FrameBuf, low: u8, high: u8, seq: u8, pan: u16)
-    requires { length out.old + 5 ≤ 400 }
+    requires { length out.old + 5 ≤ LONGEST_FRAME }
     ensures { out.new ≡ out.old ++ low ∷ high ∷ seq ∷ little_bytes 2 pan }
 {
     out.push(low);

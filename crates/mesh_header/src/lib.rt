@@ -18,5 +18,5 @@ mod writing;
 pub use fault::{UnitFault, UnitFaultKind};
 pub use piece::Piece;
 pub use reading::read_unit;
-pub use unit::{Mesh, Unit};
+pub use unit::{LONGEST_WHOLE, Mesh, Unit};
 pub use writing::{append_unit, write_unit};

@@ -6,21 +6,24 @@ ghost use Rattle.plc_base.specs.Faults.{ReadsUnless};
 ghost use Rattle.mesh_header.specs.Pieces.{IsPiece};
 ghost use Rattle.mesh_header.specs.Grammar.{IsMesh, IsUnit, mesh_then, piece_spelling, spelling};
 ghost use Rattle.mesh_header.specs.Faults.{size_fault, octets_fault, tag_fault, octet_fault, data_fault, first_piece_fault, later_piece_fault, carried_fault, local_fault, load_fault};
+ghost use Rattle.mesh_header.specs.declared.unit.TheConstants.{LONGEST_WHOLE};
+ghost use Rattle.plc_base.specs.declared.limits.TheConstants.{LONGEST_DATAGRAM, LONGEST_FRAME};
 
+use crate::LONGEST_WHOLE;
 use crate::fault::{UnitFault, UnitFaultKind};
 use crate::piece::Piece;
 use crate::unit::{Mesh, Unit};
-use plc_base::{Fault, OctetRef, octet_at, rest_at, two_at};
+use plc_base::{Fault, LONGEST_DATAGRAM, OctetRef, octet_at, rest_at, two_at};
 
 #[tactic(auto, unfolding(crate::specs::Faults::data_fault))]
 fn data_of(octets: &[u8], at: usize) -> Result<OctetRef<'_>, UnitFault>
     requires within { at ≤ length octets.now }
-    requires frame { length octets.now ≤ 400 }
+    requires frame { length octets.now ≤ LONGEST_FRAME }
     ensures { ReadsUnless (data_fault at octets.now) result
-        (λ x. (0 < length x) × (length x ≤ 375) × (x ≡ after at octets.now)) }
+        (λ x. (0 < length x) × (length x ≤ LONGEST_WHOLE) × (x ≡ after at octets.now)) }
 {
     let rest = rest_at(octets, at);
-    if rest.is_empty() || rest.len() > 375 {
+    if rest.is_empty() || rest.len() > LONGEST_WHOLE {
         return Err(Fault::at(UnitFaultKind::DataSize, at));
     }
     Ok(OctetRef::new(rest))
@@ -32,11 +35,11 @@ fn size_at(octets: &[u8], base: u16, at: usize) -> Result<u16, UnitFault>
     requires low { base ≤ octet at octets.now * 256 }
     requires place { at ≤ 100 }
     ensures { ReadsUnless (size_fault base at octets.now) result
-        (λ x. (0 < x) × (x ≤ 1280) × (x ≡ two at octets.now - base)
+        (λ x. (0 < x) × (x ≤ LONGEST_DATAGRAM) × (x ≡ two at octets.now - base)
         × (after at octets.now ≡ big_bytes 2 (base + x) ++ after (at + 2) octets.now)) }
 {
     let size = two_at(octets, at)? - base;
-    if size == 0 || size > 1280 {
+    if size == 0 || size > LONGEST_DATAGRAM as u16 {
         return Err(Fault::at(UnitFaultKind::Size, at));
     }
     Ok(size)
@@ -64,9 +67,9 @@ fn one_at(octets: &[u8], at: usize) -> Result<u8, UnitFault>
 #[tactic(auto, unfolding(crate::specs::Faults::octets_fault))]
 fn piece_octets(octets: &[u8], size: u16, offset: u8, at: usize) -> Result<OctetRef<'_>, UnitFault>
     requires within { at ≤ length octets.now }
-    requires frame { length octets.now ≤ 400 }
+    requires frame { length octets.now ≤ LONGEST_FRAME }
     ensures { ReadsUnless (octets_fault size offset at octets.now) result
-        (λ x. (0 < length x) × (length x ≤ 400) × (offset * 8 + length x ≤ size)
+        (λ x. (0 < length x) × (length x ≤ LONGEST_FRAME) × (offset * 8 + length x ≤ size)
         × (offset * 8 + length x < size → length x % 8 ≡ 0) × (x ≡ after at octets.now)) }
 {
     let rest = rest_at(octets, at);
@@ -81,7 +84,7 @@ fn piece_octets(octets: &[u8], size: u16, offset: u8, at: usize) -> Result<Octet
 fn first_piece(octets: &[u8], at: usize) -> Result<Piece<'_>, UnitFault>
     requires low { 0xC0 ≤ octet at octets.now }
     requires place { at ≤ 6 }
-    requires frame { length octets.now ≤ 400 }
+    requires frame { length octets.now ≤ LONGEST_FRAME }
     ensures { ReadsUnless (first_piece_fault at octets.now) result
         (λ x. IsPiece x × (after at octets.now ≡ piece_spelling x)) }
 {
@@ -99,7 +102,7 @@ fn first_piece(octets: &[u8], at: usize) -> Result<Piece<'_>, UnitFault>
 fn later_piece(octets: &[u8], at: usize) -> Result<Piece<'_>, UnitFault>
     requires low { 0xE0 ≤ octet at octets.now }
     requires place { at ≤ 6 }
-    requires frame { length octets.now ≤ 400 }
+    requires frame { length octets.now ≤ LONGEST_FRAME }
     ensures { ReadsUnless (later_piece_fault at octets.now) result
         (λ x. IsPiece x × (after at octets.now ≡ piece_spelling x)) }
 {
@@ -117,7 +120,7 @@ fn later_piece(octets: &[u8], at: usize) -> Result<Piece<'_>, UnitFault>
 #[tactic(auto, unfolding(crate::specs::Faults::carried_fault))]
 fn carried(octets: &[u8], at: usize) -> Result<OctetRef<'_>, UnitFault>
     requires place { at ≤ 7 }
-    requires frame { length octets.now ≤ 400 }
+    requires frame { length octets.now ≤ LONGEST_FRAME }
     ensures { ReadsUnless (carried_fault at octets.now) result
         (λ x. (after at octets.now ≡ 2 ∷ x)) }
 {
@@ -132,7 +135,7 @@ fn carried(octets: &[u8], at: usize) -> Result<OctetRef<'_>, UnitFault>
 #[tactic(auto, unfolding(crate::specs::Faults::local_fault))]
 pub(crate) fn local(octets: &[u8], at: usize) -> Result<Unit<'_>, UnitFault>
     requires place { at ≤ 7 }
-    requires frame { length octets.now ≤ 400 }
+    requires frame { length octets.now ≤ LONGEST_FRAME }
     ensures { ReadsUnless (local_fault at octets.now) result
         (λ x. IsUnit x × (0x40 ∷ after at octets.now ≡ spelling x)) }
 {
@@ -151,7 +154,7 @@ pub(crate) fn local(octets: &[u8], at: usize) -> Result<Unit<'_>, UnitFault>
 pub(crate) fn load_of(octets: &[u8], mesh: Mesh, at: usize) -> Result<Unit<'_>, UnitFault>
     requires mesh { IsMesh mesh }
     requires place { at ≤ 6 }
-    requires frame { length octets.now ≤ 400 }
+    requires frame { length octets.now ≤ LONGEST_FRAME }
     ensures { ReadsUnless (load_fault at octets.now) result
         (λ x. IsUnit x × (mesh_then mesh (after at octets.now) ≡ spelling x)) }
 {

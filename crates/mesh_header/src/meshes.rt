@@ -5,6 +5,7 @@ ghost use Rattle.plc_base.specs.Fields.{octet, after};
 ghost use Rattle.plc_base.specs.Faults.{ReadsUnless};
 ghost use Rattle.mesh_header.specs.Grammar.{IsMesh, header_length, hops_then, mesh_then};
 ghost use Rattle.mesh_header.specs.Faults.{hops_fault, origin_at, header_fault};
+ghost use Rattle.plc_base.specs.declared.limits.TheConstants.{LONGEST_FRAME};
 
 use crate::fault::{UnitFault, UnitFaultKind};
 use crate::unit::Mesh;
@@ -53,7 +54,7 @@ pub(crate) fn mesh_of(octets: &[u8], first: u8) -> Result<(Mesh, usize), UnitFau
 // Writes a mesh header, in front of whatever is to follow it.
 #[tactic(auto, unfolding(crate::specs::Grammar::hops_then))]
 pub(crate) fn write_mesh(mesh: &Mesh, out: &mut FrameBuf)
-    requires { length out.old + header_length mesh.now.hops ≤ 400 }
+    requires { length out.old + header_length mesh.now.hops ≤ LONGEST_FRAME }
     ensures joins { (rest : List ℕ) → out.new ++ rest ≡ out.old ++ mesh_then mesh.now rest }
     ensures longer { length out.new ≡ length out.old + header_length mesh.now.hops }
     ensures mesh { IsMesh mesh.now }

@@ -1,8 +1,9 @@
 //! A piece of a datagram.
 ghost use Rattle.std.specs.Prelude.{◌≡◌, ◌≤◌, ◌<◌, ◌↔◌, ◌%◌, ◌+◌, ◌*◌, length, IsSome, IfSome};
 ghost use Rattle.mesh_header.specs.Pieces.{IsPiece, Placed};
+ghost use Rattle.plc_base.specs.declared.limits.TheConstants.{LONGEST_FRAME};
 
-use plc_base::OctetRef;
+use plc_base::{LONGEST_DATAGRAM, OctetRef};
 use std::marker::Model;
 
 /// A piece of a datagram (RFC 4944, 5.3): how many octets the whole datagram has, the tag that names it, where the piece
@@ -21,6 +22,7 @@ pub struct Piece<'a> {
 
 impl<'a> Model for Piece<'a> {
     ghost use Rattle.std.specs.Prelude.{◌≤◌, length};
+    ghost use Rattle.plc_base.specs.declared.limits.TheConstants.{LONGEST_FRAME};
     ghost use Rattle.mesh_header.specs.Pieces.{Placed, IsPiece, placed_code};
 
     ghost Value = { Placed };
@@ -30,7 +32,7 @@ impl<'a> Model for Piece<'a> {
     ghost view = { λ p. record { size = p.size; tag = p.tag; offset = p.offset; octets = p.octets } };
 
     ghost invariant = { λ p. IsPiece (record { size = p.size; tag = p.tag; offset = p.offset; octets = p.octets })
-        × (length p.octets ≤ 400) };
+        × (length p.octets ≤ LONGEST_FRAME) };
 }
 
 impl<'a> Piece<'a> {
@@ -39,7 +41,7 @@ impl<'a> Piece<'a> {
     /// `size` is the whole datagram's in octets, `offset` the place of the piece in units of 8 octets. At most 400 octets are asked
     /// for.
     pub fn new(size: u16, tag: u16, offset: u8, octets: &'a [u8]) -> Option<Piece<'a>>
-        requires fits { length octets.now ≤ 400 }
+        requires fits { length octets.now ≤ LONGEST_FRAME }
         ensures valid { IsSome result ↔ IsPiece (record { size = size; tag = tag; offset = offset; octets = octets.now }) }
         ensures value { IfSome result
             (λ piece. piece ≡ record { size = size; tag = tag; offset = offset; octets = octets.now }) }
@@ -47,7 +49,7 @@ impl<'a> Piece<'a> {
         let count = octets.len();
         let end = offset as usize * 8 + count;
         let whole = size as usize;
-        if whole == 0 || whole > 1280 || count == 0 || end > whole {
+        if whole == 0 || whole > LONGEST_DATAGRAM || count == 0 || end > whole {
             return None;
         }
         if end < whole && count % 8 != 0 {
@@ -99,7 +101,7 @@ impl<'a> Piece<'a> {
     pub fn octets(&self) -> &'a [u8]
         ensures value { result.now ≡ self.now.octets }
         ensures some { 0 < length result.now }
-        ensures fits { length result.now ≤ 400 }
+        ensures fits { length result.now ≤ LONGEST_FRAME }
     {
         self.octets.octets()
     }

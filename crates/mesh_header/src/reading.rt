@@ -6,6 +6,7 @@ ghost use Rattle.mesh_header.specs.Grammar.{Spells, spelled_length};
 ghost use Rattle.mesh_header.specs.Reading.{unit_in};
 ghost use Rattle.mesh_header.specs.Faults.{unit_fault};
 ghost use Rattle.mesh_header.specs.declared.unit.Unit.{Unit};
+ghost use Rattle.plc_base.specs.declared.limits.TheConstants.{LONGEST_FRAME};
 
 use crate::fault::{UnitFault, UnitFaultKind};
 use crate::loads::{load_of, local};
@@ -24,7 +25,7 @@ fn first_of(octets: &[u8]) -> u8
 
 // The unit that the octets spell, or the first fault.
 fn unit_of(octets: &[u8]) -> Result<Unit<'_>, UnitFault>
-    requires { length octets.now ≤ 400 }
+    requires { length octets.now ≤ LONGEST_FRAME }
     ensures found { IfOk result (λ unit. Spells unit octets.now) }
     ensures exact { MatchResult result (λ unit. unit_fault octets.now ≡ None) (λ e. unit_fault octets.now ≡ Some e) }
 {
@@ -45,7 +46,7 @@ fn unit_of(octets: &[u8]) -> Result<Unit<'_>, UnitFault>
 ///
 /// A frame's payload has at most 381 octets; here at most 400 are allowed.
 pub fn read_unit(octets: &[u8]) -> Result<Unit<'_>, UnitFault>
-    requires { length octets.now ≤ 400 }
+    requires { length octets.now ≤ LONGEST_FRAME }
     // What is read is spelled so.
     ensures found { IfOk result (λ unit. Spells unit octets.now) }
     // What is read is the unit that stands in the octets, if they are one.

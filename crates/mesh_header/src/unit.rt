@@ -2,6 +2,9 @@
 use crate::piece::Piece;
 use plc_base::{OctetRef, Short};
 
+/// The most octets of a datagram that goes whole, in one frame. A longer one goes in pieces.
+pub const LONGEST_WHOLE: usize = 375;
+
 /// A mesh header with short addresses (RFC 4944, 5.2).
 #[derive(Clone, Copy, Debug, PartialEq, Eq, Drop)]
 pub struct Mesh {

@@ -2,6 +2,7 @@
 ghost use Rattle.std.specs.Prelude.{ℕ, ◌≡◌, ◌≤◌, ◌+◌, ◌++◌, List, [], length};
 ghost use Rattle.mesh_header.specs.Pieces.{IsPiece};
 ghost use Rattle.mesh_header.specs.Grammar.{IsAllowed, IsUnit, Spells, spelled_length, piece_spelling, spelling};
+ghost use Rattle.plc_base.specs.declared.limits.TheConstants.{LONGEST_FRAME};
 
 use crate::meshes::write_mesh;
 use crate::piece::Piece;
@@ -10,7 +11,7 @@ use plc_base::FrameBuf;
 
 #[tactic(auto, unfolding(crate::specs::Grammar::piece_spelling))]
 fn write_piece(piece: &Piece<'_>, out: &mut FrameBuf)
-    requires { length out.old + (5 + length piece.now.octets) ≤ 400 }
+    requires { length out.old + (5 + length piece.now.octets) ≤ LONGEST_FRAME }
     ensures spelled { out.new ≡ out.old ++ piece_spelling piece.now }
     ensures longer { length out.new ≡ length out.old + (5 + length piece.now.octets) }
     ensures rule { IsPiece piece.now }
@@ -34,7 +35,7 @@ fn write_piece(piece: &Piece<'_>, out: &mut FrameBuf)
 /// A whole datagram has 1 to 375 octets and a command alone a code of 1 to 5; the spelling has at most 400 octets.
 pub fn write_unit(unit: &Unit<'_>, out: &mut FrameBuf)
     requires allowed { IsAllowed unit.now }
-    requires room { spelled_length unit.now ≤ 400 }
+    requires room { spelled_length unit.now ≤ LONGEST_FRAME }
     ensures spelled { Spells unit.now out.new }
     ensures longer { length out.new ≡ spelled_length unit.now }
     // A value has one spelling.
@@ -48,7 +49,7 @@ pub fn write_unit(unit: &Unit<'_>, out: &mut FrameBuf)
 #[tactic(auto, using(crate::proofs::Headers::hops_joins))]
 pub fn append_unit(unit: &Unit<'_>, out: &mut FrameBuf)
     requires allowed { IsAllowed unit.now }
-    requires room { length out.old + spelled_length unit.now ≤ 400 }
+    requires room { length out.old + spelled_length unit.now ≤ LONGEST_FRAME }
     ensures spelled { out.new ≡ out.old ++ spelling unit.now }
     ensures longer { length out.new ≡ length out.old + spelled_length unit.now }
     ensures unit { IsUnit unit.now }

@@ -1,6 +1,7 @@
 //! Reads and writes acknowledgements of route replies.
 ghost use Rattle.std.specs.Prelude.{ℕ, ◌≡◌, ◌≤◌, ◌<◌, ◌+◌, ◌++◌, ◌↔◌, List, length, IsSome, IsTrue, IfSome, MatchOption, Some, true, false};
 ghost use Rattle.neighbour_checks.specs.Acks.{IsAck, SpellsAck, ack_spelling, is_ack, ack_in};
+ghost use Rattle.plc_base.specs.declared.limits.TheConstants.{LONGEST_FRAME};
 
 use plc_base::{FrameBuf, Short, octet_at, two_at};
 
@@ -51,7 +52,7 @@ pub fn read_ack(octets: &[u8]) -> Option<(u16, Short)>
 /// origin.
 pub fn write_ack(number: u16, origin: Short, out: &mut FrameBuf)
     requires number { 0 < number }
-    requires room { length out.old + 5 ≤ 400 }
+    requires room { length out.old + 5 ≤ LONGEST_FRAME }
     ensures spelled { out.new ≡ out.old ++ ack_spelling number origin }
     ensures ack { IsAck number origin }
     // A value has one spelling.

@@ -1,5 +1,6 @@
 //! What a node makes of a frame that it hears.
 ghost use Rattle.std.specs.Prelude.{◌≡◌, ◌≤◌, length};
+ghost use Rattle.plc_base.specs.declared.limits.TheConstants.{LONGEST_FRAME};
 
 use eap_psk::Agreed;
 use plc_base::{Eui, FrameBuf, Grant, Key, OctetRef, Short};
@@ -54,7 +55,7 @@ impl<'a> FrameRef<'a> {
     /// The octets as a slice.
     pub fn octets(&self) -> &'a [u8]
         ensures value { result.now ≡ self.now }
-        ensures fits { length result.now ≤ 400 }
+        ensures fits { length result.now ≤ LONGEST_FRAME }
     {
         self.items.octets()
     }

@@ -96,7 +96,7 @@ impl Chains {
     pub fn push(&mut self, chain: usize)
         requires chain { chain < CHAINS }
         requires places { 1 ≤ self.old.places }
-        requires numbers { length self.old.chains < 4294967295 }
+        requires numbers { length self.old.chains < u32.MAX }
         ensures { self.new ≡ record { chains = self.old.chains ++ chain ∷ []; places = self.old.places - 1 } }
     {
         let link = Link {

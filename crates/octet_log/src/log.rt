@@ -158,7 +158,7 @@ impl OctetLog {
         requires places { 1 ≤ self.old.places }
         requires room { length octets.now ≤ self.old.room }
         // A number has 32 bits.
-        requires numbers { length self.old.strings < 4294967295 }
+        requires numbers { length self.old.strings < u32.MAX }
         ensures { self.new ≡ record {
           strings = self.old.strings ++ octets.now ∷ [];
           places = self.old.places - 1;

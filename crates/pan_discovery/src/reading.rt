@@ -8,7 +8,7 @@ ghost use Rattle.pan_discovery.specs.declared.message.Discovery.{Discovery};
 ghost use Rattle.pan_discovery.specs.declared.message.Discovery.TheVariants.{Request, Beacon};
 
 use crate::message::Discovery;
-use plc_base::{Short, little_two_at, octet_at, two_at};
+use plc_base::{Short, TO_ALL, little_two_at, octet_at, two_at};
 
 /// The octets of a beacon request.
 const REQUEST_LEN: usize = 8;
@@ -39,10 +39,10 @@ fn request_of(octets: &[u8]) -> Option<Discovery>
         return None;
     }
     let seq = octet_at(octets, 2).ok()?;
-    if two_at(octets, 3).ok()? != 0xFFFF {
+    if two_at(octets, 3).ok()? != TO_ALL {
         return None;
     }
-    if two_at(octets, 5).ok()? != 0xFFFF {
+    if two_at(octets, 5).ok()? != TO_ALL {
         return None;
     }
     if octet_at(octets, 7).ok()? != 0x07 {

@@ -3,15 +3,16 @@ ghost use Rattle.std.specs.Prelude.{ℕ, ◌≡◌, ◌≤◌, ◌+◌, ◌++◌
 ghost use Rattle.byteorder.specs.Endian.{little_bytes};
 ghost use Rattle.pan_discovery.specs.Messages.{IsDiscovery, SpellsDiscovery, beacon_spelling, discovery_spelling};
 ghost use Rattle.pan_discovery.specs.declared.message.Discovery.TheVariants.{Beacon};
+ghost use Rattle.plc_base.specs.declared.limits.TheConstants.{LONGEST_FRAME};
 
 use crate::message::Discovery;
 use crate::reading::role_of;
 use byteorder::{ByteOrder, LittleEndian};
-use plc_base::{FrameBuf, Short};
+use plc_base::{FrameBuf, Short, TO_ALL};
 
 // Appends a number of two octets, the lowest first.
 fn push_little(number: u16, out: &mut FrameBuf)
-    requires { length out.old + 2 ≤ 400 }
+    requires { length out.old + 2 ≤ LONGEST_FRAME }
     ensures { out.new ≡ out.old ++ little_bytes 2 number }
 {
     let mut octets = [0; 2];
@@ -21,7 +22,7 @@ fn push_little(number: u16, out: &mut FrameBuf)
 
 // Appends the octets of a beacon.
 fn push_beacon(seq: u8, pan: u16, from: Short, cost: u16, out: &mut FrameBuf)
-    requires { length out.old + 13 ≤ 400 }
+    requires { length out.old + 13 ≤ LONGEST_FRAME }
     ensures spelled { out.new ≡ out.old ++ beacon_spelling seq pan from cost }
     ensures beacon { IsDiscovery (Beacon seq pan from cost) }
 {
@@ -48,8 +49,8 @@ pub fn write_discovery(value: &Discovery, out: &mut FrameBuf)
         Discovery::Request { seq } => {
             out.push_be_u16(0x0308);
             out.push(*seq);
-            out.push_be_u16(0xFFFF);
-            out.push_be_u16(0xFFFF);
+            out.push_be_u16(TO_ALL);
+            out.push_be_u16(TO_ALL);
             out.push(0x07);
         }
         Discovery::Beacon {

@@ -8,6 +8,12 @@ use std::marker::Model;
 /// The identifier of the personal area network that every node of this profile belongs to.
 pub const PAN: u16 = 0x781D;
 
+/// The short address of all neighbours, and the identifier of every network (IEEE 802.15.4-2006, 7.2.1.3 and 7.2.1.4).
+pub const TO_ALL: u16 = 0xFFFF;
+
+/// The least number that is no address of one node: a device without a short address has it (IEEE 802.15.4-2006, 7.2.1.4).
+pub const NO_ADDRESS: u16 = 0xFFFE;
+
 /// An EUI-64: the identity that a device has from its maker, in the order of its text (IEEE 802.15.4-2006, 7.2.1.4).
 #[derive(Clone, Copy, Debug, PartialEq, Eq, PartialOrd, Ord, Hash)]
 pub struct Eui(pub [u8; 8]);
@@ -48,7 +54,7 @@ impl Short {
         ensures valid { IsSome result ↔ IsAddress value }
         ensures value { IfSome result (λ address. address ≡ value) }
     {
-        if value >= 0xFFFE {
+        if value >= NO_ADDRESS {
             return None;
         }
         Some(Short { number: value })

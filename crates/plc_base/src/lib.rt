@@ -33,6 +33,7 @@ mod grant;
 mod keeper;
 mod key;
 pub mod laws;
+mod limits;
 mod link_cost;
 mod mem_keeper;
 mod memory;
@@ -45,7 +46,7 @@ mod streams;
 mod tags;
 mod times;
 
-pub use address::{Eui, PAN, Short};
+pub use address::{Eui, NO_ADDRESS, PAN, Short, TO_ALL};
 pub use fields::{
     Ended, Fault, FaultKind, address_at, four_at, four_octets, little_four_at, little_two_at,
     octet_at, octets_at, rest_at, reversed_at, two_at, two_octets,
@@ -53,6 +54,7 @@ pub use fields::{
 pub use grant::Grant;
 pub use keeper::{BadStore, Cut, Keeper};
 pub use key::{Key, Rand};
+pub use limits::{GREATEST_COUNTER, LONGEST_DATAGRAM, LONGEST_FRAME, MOST_FRAMES};
 pub use link_cost::LinkCost;
 pub use mem_keeper::MemKeeper;
 pub use memory::{MemSink, MemSource};

@@ -5,7 +5,7 @@ ghost use Rattle.std.specs.Cmp.Lexicographic.{pointwise};
 ghost use Rattle.std.specs.Cmp.Rules.{comparing};
 ghost use Rattle.byteorder.specs.Endian.{big_bytes};
 
-use crate::{four_octets, two_octets};
+use crate::{LONGEST_DATAGRAM, LONGEST_FRAME, four_octets, two_octets};
 use arrayvec::ArrayVec;
 use std::marker::Model;
 
@@ -16,10 +16,10 @@ pub struct Octets<const N: usize> {
 }
 
 /// A MAC frame, its payload or a part of it: at most 400 octets.
-pub type FrameBuf = Octets<400>;
+pub type FrameBuf = Octets<LONGEST_FRAME>;
 
 /// A datagram: at most 1,280 octets.
-pub type DatagramBuf = Octets<1280>;
+pub type DatagramBuf = Octets<LONGEST_DATAGRAM>;
 
 /// An EAP packet: at most 128 octets.
 pub type EapBuf = Octets<128>;

@@ -1,7 +1,8 @@
 //! The frames that a node sends.
 ghost use Rattle.std.specs.Prelude.{◌≡◌, ◌<◌, ◌≤◌, ◌==◌, ◌++◌, ◌∷◌, [], length, None, IsSome, IfSome, slice_index_or, slice_set};
+ghost use Rattle.plc_base.specs.declared.limits.TheConstants.{MOST_FRAMES};
 
-use crate::{FrameBuf, Key, TagList};
+use crate::{FrameBuf, Key, MOST_FRAMES, TagList};
 use arrayvec::ArrayVec;
 use std::fmt;
 use std::marker::Model;
@@ -45,19 +46,20 @@ impl OutFrame {
 #[derive(Drop)]
 pub struct OutFrames {
     // All 24, whether in use or not, so that a frame is neither made nor moved to be appended.
-    places: ArrayVec<OutFrame, 24>,
+    places: ArrayVec<OutFrame, MOST_FRAMES>,
     used: usize,
 }
 
 impl Model for OutFrames {
     ghost use Rattle.std.specs.Prelude.{◌≡◌, ◌≤◌, List, length, take};
+    ghost use Rattle.plc_base.specs.declared.limits.TheConstants.{MOST_FRAMES};
     ghost use Rattle.plc_base.specs.declared.out_frame.OutFrame.{OutFrame};
 
     ghost Value = { List OutFrame };
 
     ghost view = { λ f. take f.used f.places.items };
 
-    ghost invariant = { λ f. (f.used ≤ 24) × (length f.places.items ≡ 24) };
+    ghost invariant = { λ f. (f.used ≤ MOST_FRAMES) × (length f.places.items ≡ MOST_FRAMES) };
 }
 
 impl OutFrames {
@@ -85,7 +87,7 @@ impl OutFrames {
     /// How many frames there are.
     pub fn len(&self) -> usize
         ensures value { result ≡ length self.now }
-        ensures most { result ≤ 24 }
+        ensures most { result ≤ MOST_FRAMES }
     {
         self.used
     }
@@ -99,7 +101,7 @@ impl OutFrames {
 
     /// Appends a frame.
     pub fn push(&mut self, frame: OutFrame)
-        requires { length self.old < 24 }
+        requires { length self.old < MOST_FRAMES }
         ensures { self.new ≡ self.old ++ frame ∷ [] }
     {
         self.places[self.used] = frame;
@@ -108,7 +110,7 @@ impl OutFrames {
 
     // Takes the next place, and makes a blank of what stands there.
     fn take_place(&mut self)
-        requires { length self.old < 24 }
+        requires { length self.old < MOST_FRAMES }
         ensures { self.new ≡ self.old ++ record { octets = []; note = 0; key = None } ∷ [] }
     {
         self.places[self.used].blank();
@@ -128,7 +130,7 @@ impl OutFrames {
 
     /// Appends a blank frame and lends it, so that a frame is written where it stays. It is never None.
     pub fn push_blank(&mut self) -> Option<&mut OutFrame>
-        requires { length self.old < 24 }
+        requires { length self.old < MOST_FRAMES }
         ensures* lends { sem 𝓛 (LendsIf the_row frame_row self.entry result
             (λ frame. self.entry.now ++ frame ∷ [])
             (self.entry.now ++ record { octets = []; note = 0; key = None } ∷ [])) }

@@ -10,6 +10,8 @@ ghost use Rattle.node_rules.specs.declared.heard.SentHow.TheVariants as how;
 ghost use Rattle.node_rules.specs.Carrying.{Carries, nothing};
 ghost use Rattle.node_rules.specs.Agreement.{Agrees};
 ghost use Rattle.plc_station.specs.Rooms.{room_answer};
+ghost use Rattle.plc_base.specs.declared.limits.TheConstants.{GREATEST_COUNTER};
+ghost use Rattle.waiting_bodies.specs.declared.bodies.TheConstants.{LONGEST_COMMAND};
 
 use crate::sealing::seal_request;
 use crate::station::Station;
@@ -21,7 +23,7 @@ use waiting_bodies::own_mesh;
 // The unit of a command, whose code stands first.
 fn command_unit<'a>(grant: &Grant, to: Short, octets: &'a [u8]) -> Unit<'a>
     requires some { 1 ≤ length octets.now }
-    requires fits { length octets.now ≤ 374 }
+    requires fits { length octets.now ≤ LONGEST_COMMAND }
     ensures value { result ≡ mesh.Carried (drafts.own_mesh grant.now.address to) (drop 1 octets.now) }
     ensures allowed { IsAllowed result }
     ensures short { spelled_length result ≤ 381 }
@@ -46,8 +48,8 @@ impl<K: Keeper + Drop> Station<K> {
         requires agrees { Agrees self.old }
         requires ring { IfSome self.old.memory (λ l. l.ring ≡ Some grant.now) }
         requires some { 1 ≤ length octets.now }
-        requires fits { length octets.now ≤ 374 }
-        requires left { IfSome self.old.memory (λ l. l.counter.next + 1 ≤ 4294967295) }
+        requires fits { length octets.now ≤ LONGEST_COMMAND }
+        requires left { IfSome self.old.memory (λ l. l.counter.next + 1 ≤ GREATEST_COUNTER) }
         requires empty { out.old ≡ nothing }
         ensures carries { IfSome self.old.memory (λ l. Carries self.old (drafts.sealing drafts.alone calls.sending_ends
             (drafts.body_goes grant.now.address hop to 0 (Command octets.now)
@@ -73,7 +75,7 @@ impl<K: Keeper + Drop> Station<K> {
         requires running { IsSome self.old.memory }
         requires agrees { Agrees self.old }
         requires some { 1 ≤ length octets.now }
-        requires fits { length octets.now ≤ 374 }
+        requires fits { length octets.now ≤ LONGEST_COMMAND }
         requires room { IfSome self.old.memory (λ l. drafts.no_room l (length octets.now) ≡ false) }
         requires empty { out.now ≡ nothing }
         ensures carries { IfSome self.old.memory (λ l. Carries self.old (drafts.sealing drafts.alone calls.sending_ends
@@ -106,10 +108,10 @@ impl<K: Keeper + Drop> Station<K> {
         requires agrees { Agrees self.old }
         requires ring { IfSome self.old.memory (λ l. l.ring ≡ Some grant.now) }
         requires some { 1 ≤ length octets.now }
-        requires fits { length octets.now ≤ 374 }
+        requires fits { length octets.now ≤ LONGEST_COMMAND }
         requires room { IfSome self.old.memory (λ l. drafts.no_room l (length octets.now) ≡ false) }
         requires number { IfSome self.old.memory (λ l. l.own_number.last < 65535) }
-        requires left { IfSome self.old.memory (λ l. l.counter.next + 1 ≤ 4294967295) }
+        requires left { IfSome self.old.memory (λ l. l.counter.next + 1 ≤ GREATEST_COUNTER) }
         requires empty { out.old ≡ nothing }
         ensures carries { IfSome self.old.memory (λ l. Carries self.old (drafts.sealing drafts.alone calls.sending_ends
             (drafts.waits to 0 (Command octets.now) now
@@ -143,7 +145,7 @@ impl<K: Keeper + Drop> Station<K> {
         requires agrees { Agrees self.old }
         requires ring { IfSome self.old.memory (λ l. l.ring ≡ Some grant.now) }
         requires some { 1 ≤ length octets.now }
-        requires fits { length octets.now ≤ 374 }
+        requires fits { length octets.now ≤ LONGEST_COMMAND }
         requires empty { out.old ≡ nothing }
         ensures carries { IfSome self.old.memory
             (λ l. Carries self.old
@@ -185,7 +187,7 @@ impl<K: Keeper + Drop> Station<K> {
     ) -> Result<SentHow, SendRefusal>
         requires agrees { Agrees self.old }
         requires some { 1 ≤ length body.now }
-        requires fits { length body.now ≤ 374 }
+        requires fits { length body.now ≤ LONGEST_COMMAND }
         ensures halted { IfNone self.old.memory
             ((result ≡ Err SendRefusal.Halted) × (out.new ≡ nothing) × (self.new ≡ self.old)) }
         ensures carries { IfSome self.old.memory
@@ -205,7 +207,7 @@ impl<K: Keeper + Drop> Station<K> {
 
     // What a command would be refused for by a station that is joined.
     fn room_for(&self, to: Short, octets: u16) -> Result<(), SendRefusal>
-        requires fits { octets ≤ 374 }
+        requires fits { octets ≤ LONGEST_COMMAND }
         ensures { IfSome self.now.memory (λ l. result ≡ room_answer (calls.room_fault l to octets)) }
     {
         let left = self.parts.counter.left();
@@ -234,7 +236,7 @@ impl<K: Keeper + Drop> Station<K> {
     ///
     /// Halted, NotJoined, WaitingFull, SeqSpent, CounterSpent, in this order.
     pub fn room(&self, to: Short, octets: u16) -> Result<(), SendRefusal>
-        requires fits { octets ≤ 374 }
+        requires fits { octets ≤ LONGEST_COMMAND }
         ensures halted { IfNone self.now.memory (result ≡ Err SendRefusal.Halted) }
         ensures room { IfSome self.now.memory (λ l. result ≡ room_answer (calls.room l to octets)) }
     {

@@ -9,17 +9,18 @@ ghost use Rattle.node_rules.specs.Ciphers.{network};
 ghost use Rattle.node_rules.specs.Frames.{arrived, arrived_with};
 ghost use Rattle.node_rules.specs.Accepting as accepting;
 ghost use Rattle.node_rules.specs.Laws.{WaitingFits};
+ghost use Rattle.plc_base.specs.declared.limits.TheConstants.{LONGEST_FRAME};
 
 use crate::station::Station;
 use aes_modes::Aes;
 use frame_counters::PeerFault;
 use mac_frames::{MacHead, RawFrame, open_frame, read_frame};
 use node_rules::{Accepted, FrameRef, FrameRefusal, Path};
-use plc_base::{FrameBuf, Keeper, PAN, Short};
+use plc_base::{FrameBuf, Keeper, PAN, Short, TO_ALL};
 
 // Octets, kept in a buffer that is lent.
 fn held<'a>(octets: &[u8], buffer: &'a mut FrameBuf) -> FrameRef<'a>
-    requires { length octets.now ≤ 400 }
+    requires { length octets.now ≤ LONGEST_FRAME }
     ensures { result ≡ octets.now }
 {
     buffer.clear();
@@ -55,7 +56,7 @@ impl<K: Keeper + Drop> Station<K> {
     {
         match *head {
             MacHead::Sealed { pan, to, from, .. } => {
-                pan == PAN && (self.is_own(to) || to == 0xFFFF) && !self.is_own(from.number())
+                pan == PAN && (self.is_own(to) || to == TO_ALL) && !self.is_own(from.number())
             }
             MacHead::Up { pan, to, from, .. } => {
                 pan == PAN && self.is_own(to) && self.eui.number() != from.number()
@@ -128,7 +129,7 @@ impl<K: Keeper + Drop> Station<K> {
         };
         let path = Path::Sealed {
             from,
-            to_all: to == 0xFFFF,
+            to_all: to == TO_ALL,
             key,
         };
         self.admit(from, counter, path, payload)

@@ -12,6 +12,7 @@ ghost use Rattle.loadng_messages.specs.Reading as reading;
 ghost use Rattle.plc_station.specs.Heard.{Fits};
 ghost use Rattle.node_rules.specs.Replies.{reply_sent};
 ghost use Rattle.group_keys.specs.KeyRing as ring;
+ghost use Rattle.plc_base.specs.declared.limits.TheConstants.{LONGEST_FRAME};
 
 use crate::station::Station;
 use loadng_messages::{Message, read_message};
@@ -21,7 +22,7 @@ use plc_base::{DatagramBuf, Grant, Keeper, LinkCost, OctetRef, Out, Short};
 
 // The unit that octets are, if they are one.
 fn unit_in(octets: &[u8]) -> Option<Unit<'_>>
-    requires { length octets.now ≤ 400 }
+    requires { length octets.now ≤ LONGEST_FRAME }
     ensures unit { result ≡ units.unit_in octets.now }
     ensures allowed { IfSome result (λ unit. IsAllowed unit) }
     ensures long { IfSome result (λ unit. spelled_length unit ≡ length octets.now) }

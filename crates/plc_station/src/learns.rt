@@ -8,6 +8,7 @@ ghost use Rattle.node_rules.specs.Carrying.{Carries, nothing};
 ghost use Rattle.plc_station.specs.Hears.{Hears};
 ghost use Rattle.node_rules.specs.Agreement.{Agrees};
 ghost use Rattle.group_keys.specs.KeyRing as ring;
+ghost use Rattle.plc_base.specs.declared.limits.TheConstants.{GREATEST_COUNTER};
 
 use crate::station::Station;
 use aes_modes::Aes;
@@ -33,7 +34,7 @@ impl<K: Keeper + Drop> Station<K> {
         requires room { IfSome self.old.memory (λ l. routing.is_full l.routing origin now ≡ false) }
         requires valid { 1 ≤ rank.number }
         requires left { IfSome self.old.memory
-            (λ l. l.counter.next + length (leaving grant.now.address origin by l.waiting) ≤ 4294967295) }
+            (λ l. l.counter.next + length (leaving grant.now.address origin by l.waiting) ≤ GREATEST_COUNTER) }
         requires empty { out.old ≡ nothing }
         ensures carries { IfSome self.old.memory (λ l. Carries self.old (drafts.sealing drafts.alone hearing.dropped
             (hearing.offers grant.now.address origin rank by now l) tt) result out.new self.new) }

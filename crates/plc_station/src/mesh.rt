@@ -15,6 +15,8 @@ ghost use Rattle.node_rules.specs.Carrying.{Carries, nothing};
 ghost use Rattle.plc_station.specs.Hears.{Hears};
 ghost use Rattle.node_rules.specs.Agreement.{Agrees};
 ghost use Rattle.group_keys.specs.KeyRing as ring;
+ghost use Rattle.plc_base.specs.declared.address.TheConstants.{NO_ADDRESS};
+ghost use Rattle.plc_base.specs.declared.limits.TheConstants.{GREATEST_COUNTER};
 
 use crate::station::Station;
 use aes_modes::Aes;
@@ -82,10 +84,10 @@ impl<K: Keeper + Drop> Station<K> {
         requires running { IsSome self.old.memory }
         requires agrees { Agrees self.old }
         requires ring { IfSome self.old.memory (λ l. l.ring ≡ Some grant.now) }
-        requires target { to ≢ 0xFFFE }
+        requires target { to ≢ NO_ADDRESS }
         requires allowed { IsAllowed unit.now }
         requires fits { spelled_length unit.now ≤ 381 }
-        requires left { IfSome self.old.memory (λ l. l.counter.next + 1 ≤ 4294967295) }
+        requires left { IfSome self.old.memory (λ l. l.counter.next + 1 ≤ GREATEST_COUNTER) }
         requires empty { out.old ≡ nothing }
         ensures carries { IfSome self.old.memory
             (λ l. Carries self.old (drafts.sealing drafts.alone hearing.dropped

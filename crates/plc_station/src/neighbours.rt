@@ -6,22 +6,24 @@ ghost use Rattle.node_rules.specs.Drafts as drafts;
 ghost use Rattle.node_rules.specs.Neighbours as local;
 ghost use Rattle.node_rules.specs.Neighbours.{CarriesAfter};
 ghost use Rattle.node_rules.specs.Agreement.{Agrees};
+ghost use Rattle.plc_base.specs.declared.address.TheConstants.{NO_ADDRESS};
+ghost use Rattle.plc_base.specs.declared.limits.TheConstants.{GREATEST_COUNTER, MOST_FRAMES};
 
 use crate::station::Station;
 use aes_modes::Aes;
 use mesh_header::Unit;
 use node_rules::LocalRefusal;
-use plc_base::{Grant, Keeper, OctetRef, Out, Short};
+use plc_base::{Grant, Keeper, OctetRef, Out, Short, TO_ALL};
 use waiting_bodies::seal;
 
 // The address of a neighbour, or that which all hear.
 fn address_or_all(to: Option<Short>) -> u16
     ensures address { result ≡ unwrap_or to to_all }
-    ensures target { result ≢ 0xFFFE }
+    ensures target { result ≢ NO_ADDRESS }
 {
     match to {
         Some(to) => to.number(),
-        None => 0xFFFF,
+        None => TO_ALL,
     }
 }
 
@@ -38,12 +40,12 @@ impl<K: Keeper + Drop> Station<K> {
         requires running { IsSome self.old.memory }
         requires agrees { Agrees self.old }
         requires ring { IfSome self.old.memory (λ l. l.ring ≡ Some grant.now) }
-        requires left { IfSome self.old.memory (λ l. l.counter.next + 1 ≤ 4294967295) }
+        requires left { IfSome self.old.memory (λ l. l.counter.next + 1 ≤ GREATEST_COUNTER) }
         requires code { 1 ≤ code }
         requires last_code { code ≤ 5 }
         requires fits { length body.now ≤ 379 }
-        requires target { to ≢ 0xFFFE }
-        requires room { length out.old.frames < 24 }
+        requires target { to ≢ NO_ADDRESS }
+        requires room { length out.old.frames < MOST_FRAMES }
         ensures carries { IfSome self.old.memory
             (λ l. CarriesAfter self.old (drafts.sealing drafts.alone local.local_ends
             (drafts.goes to (units.Local code body.now) 0 (drafts.empty_draft l)) tt) result out.old out.new self.new) }
@@ -81,7 +83,7 @@ impl<K: Keeper + Drop> Station<K> {
         requires last_code { code ≤ 5 }
         requires some { 1 ≤ length body.now }
         requires fits { length body.now ≤ 379 }
-        requires room { length out.old.frames < 24 }
+        requires room { length out.old.frames < MOST_FRAMES }
         ensures carries { IfSome self.old.memory
             (λ l. CarriesAfter self.old (local.send_local l code to body.now) result out.old out.new self.new) }
         ensures agrees { Agrees self.new }

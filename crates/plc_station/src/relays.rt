@@ -9,13 +9,16 @@ ghost use Rattle.fragment_buffers.specs.Waiting.{leaving};
 ghost use Rattle.node_rules.specs.Carrying.{Carries, nothing};
 ghost use Rattle.node_rules.specs.Agreement.{Agrees};
 ghost use Rattle.group_keys.specs.KeyRing as ring;
+ghost use Rattle.node_rules.specs.Frames.{to_all};
+ghost use Rattle.plc_base.specs.declared.address.TheConstants.{NO_ADDRESS};
+ghost use Rattle.plc_base.specs.declared.limits.TheConstants.{GREATEST_COUNTER};
 
 use crate::sealing::seal_message;
 use crate::station::Station;
 use aes_modes::Aes;
 use loadng_messages::Message;
 use node_rules::Dropped;
-use plc_base::{Grant, Keeper, Out, Short};
+use plc_base::{Grant, Keeper, Out, Short, TO_ALL};
 use routing_set::Rank;
 
 impl<K: Keeper + Drop> Station<K> {
@@ -35,13 +38,13 @@ impl<K: Keeper + Drop> Station<K> {
         requires running { IsSome self.old.memory }
         requires agrees { Agrees self.old }
         requires ring { IfSome self.old.memory (λ l. l.ring ≡ Some grant.now) }
-        requires target { to ≢ 0xFFFE }
+        requires target { to ≢ NO_ADDRESS }
         requires allowed { messages.IsAllowed message.now }
         requires better { IfSome self.old.memory (λ l. routing.is_better l.routing origin rank ≡ true) }
         requires room { IfSome self.old.memory (λ l. routing.is_full l.routing origin now ≡ false) }
         requires valid { 1 ≤ rank.number }
         requires left { IfSome self.old.memory
-            (λ l. l.counter.next + (length (leaving grant.now.address origin by l.waiting) + 1) ≤ 4294967295) }
+            (λ l. l.counter.next + (length (leaving grant.now.address origin by l.waiting) + 1) ≤ GREATEST_COUNTER) }
         requires empty { out.old ≡ nothing }
         ensures carries { IfSome self.old.memory (λ l. Carries self.old (drafts.sealing drafts.alone hearing.dropped
             (drafts.tells to message.now (hearing.offers grant.now.address origin rank by now l)) tt)
@@ -91,10 +94,10 @@ impl<K: Keeper + Drop> Station<K> {
         requires room { IfSome self.old.memory (λ l. routing.is_full l.routing origin now ≡ false) }
         requires valid { 1 ≤ rank.number }
         requires left { IfSome self.old.memory
-            (λ l. l.counter.next + (length (leaving grant.now.address origin by l.waiting) + 1) ≤ 4294967295) }
+            (λ l. l.counter.next + (length (leaving grant.now.address origin by l.waiting) + 1) ≤ GREATEST_COUNTER) }
         requires empty { out.old ≡ nothing }
         ensures carries { IfSome self.old.memory (λ l. Carries self.old (drafts.sealing drafts.alone hearing.dropped
-            (drafts.tells 0xFFFF (message.Rreq rank.number rank.cost origin dest)
+            (drafts.tells to_all (message.Rreq rank.number rank.cost origin dest)
             (hearing.offers grant.now.address origin rank by now l)) tt) result out.new self.new) }
         ensures agrees { Agrees self.new }
         ensures replied { self.new.replied ≡ self.old.replied }
@@ -105,6 +108,6 @@ impl<K: Keeper + Drop> Station<K> {
             origin,
             dest,
         };
-        self.relay(grant, by, 0xFFFF, &request, origin, rank, now, out)
+        self.relay(grant, by, TO_ALL, &request, origin, rank, now, out)
     }
 }

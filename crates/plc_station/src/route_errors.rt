@@ -7,6 +7,7 @@ ghost use Rattle.node_rules.specs.Hearing as hearing;
 ghost use Rattle.routing_set.specs.RoutingSet as routes;
 ghost use Rattle.node_rules.specs.Carrying.{Carries, nothing};
 ghost use Rattle.node_rules.specs.Agreement.{Agrees};
+ghost use Rattle.plc_base.specs.declared.limits.TheConstants.{GREATEST_COUNTER};
 
 use crate::sealing::seal_message;
 use crate::station::Station;
@@ -37,7 +38,7 @@ impl<K: Keeper + Drop> Station<K> {
     fn lose(&mut self, by: Short, lost: Short, out: &Out) -> Result<Heard<'static>, Dropped>
         requires running { IsSome self.old.memory }
         requires agrees { Agrees self.old }
-        requires left { IfSome self.old.memory (λ l. l.counter.next ≤ 4294967295) }
+        requires left { IfSome self.old.memory (λ l. l.counter.next ≤ GREATEST_COUNTER) }
         requires empty { out.now ≡ nothing }
         ensures carries { IfSome self.old.memory
             (λ l. Carries self.old (drafts.sealing drafts.alone hearing.dropped
@@ -68,7 +69,7 @@ impl<K: Keeper + Drop> Station<K> {
         requires running { IsSome self.old.memory }
         requires agrees { Agrees self.old }
         requires ring { IfSome self.old.memory (λ l. l.ring ≡ Some grant.now) }
-        requires left { IfSome self.old.memory (λ l. l.counter.next + 1 ≤ 4294967295) }
+        requires left { IfSome self.old.memory (λ l. l.counter.next + 1 ≤ GREATEST_COUNTER) }
         requires empty { out.old ≡ nothing }
         ensures carries { IfSome self.old.memory (λ l. Carries self.old (drafts.sealing drafts.alone hearing.dropped
             (drafts.tells hop (message.Rerr lost to) (hearing.loses lost by l)) heard.Broken) result out.new self.new) }

@@ -9,6 +9,7 @@ ghost use Rattle.node_rules.specs.Carrying.{Carries, nothing};
 ghost use Rattle.plc_station.specs.Hears.{Hears, reply_sent_by};
 ghost use Rattle.node_rules.specs.Agreement.{Agrees};
 ghost use Rattle.group_keys.specs.KeyRing as ring;
+ghost use Rattle.plc_base.specs.declared.limits.TheConstants.{GREATEST_COUNTER};
 
 use crate::sealing::seal_message;
 use crate::station::Station;
@@ -38,7 +39,7 @@ impl<K: Keeper + Drop> Station<K> {
         requires valid { 1 ≤ rank.number }
         requires number { IfSome self.old.memory (λ l. l.own_number.last < 65535) }
         requires left { IfSome self.old.memory
-            (λ l. l.counter.next + (length (leaving grant.now.address origin by l.waiting) + 1) ≤ 4294967295) }
+            (λ l. l.counter.next + (length (leaving grant.now.address origin by l.waiting) + 1) ≤ GREATEST_COUNTER) }
         requires empty { out.old ≡ nothing }
         requires fresh { self.old.replied ≡ None }
         ensures carries { IfSome self.old.memory (λ l. Carries self.old (drafts.sealing drafts.alone hearing.dropped

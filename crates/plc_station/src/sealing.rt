@@ -9,11 +9,14 @@ ghost use Rattle.node_rules.specs.Frames.{spelled};
 ghost use Rattle.node_rules.specs.Memory.{Datagram};
 ghost use Rattle.node_rules.specs.Drafts as drafts;
 ghost use Rattle.node_rules.specs.Carrying.{nothing};
+ghost use Rattle.node_rules.specs.Frames.{to_all};
+ghost use Rattle.plc_base.specs.declared.address.TheConstants.{NO_ADDRESS};
+ghost use Rattle.plc_base.specs.declared.limits.TheConstants.{GREATEST_COUNTER, LONGEST_DATAGRAM, MOST_FRAMES};
 
 use aes_modes::Aes;
 use loadng_messages::{Message, MessageBuf, write_message};
 use mesh_header::Unit;
-use plc_base::{Grant, Key, OctetRef, Out, Short};
+use plc_base::{Grant, Key, OctetRef, Out, Short, TO_ALL};
 use waiting_bodies::{seal, seal_load};
 
 // Seals a datagram, whole or in pieces.
@@ -28,8 +31,8 @@ pub(crate) fn seal_datagram(
     out: &mut Out,
 )
     requires some { 1 ≤ length datagram.now }
-    requires fits { length datagram.now ≤ 1280 }
-    requires left { first + pieces_of (length datagram.now) ≤ 4294967295 }
+    requires fits { length datagram.now ≤ LONGEST_DATAGRAM }
+    requires left { first + pieces_of (length datagram.now) ≤ GREATEST_COUNTER }
     requires empty { out.old ≡ nothing }
     ensures { out.new ≡ record nothing {
       frames = map (spelled network) (drafts.sealed_by (Some grant.now) first
@@ -63,9 +66,9 @@ pub(crate) fn seal_message(
 )
     requires key { drafts.sealing_key grant.now ≡ Some key.now }
     requires aes { aes.now ≡ key.now.0 }
-    requires target { to ≢ 0xFFFE }
+    requires target { to ≢ NO_ADDRESS }
     requires allowed { messages.IsAllowed message.now }
-    requires room { length out.old.frames < 24 }
+    requires room { length out.old.frames < MOST_FRAMES }
     ensures message { messages.IsMessage message.now }
     ensures sent { out.new ≡ record out.old {
       frames = out.old.frames ++ map (spelled network) (drafts.sealed_by (Some grant.now) counter
@@ -89,7 +92,7 @@ pub(crate) fn seal_request(grant: &Grant, counter: u32, number: u16, dest: Short
     ensures { out.new ≡ record nothing {
       frames = map (spelled network) (drafts.sealed_by (Some grant.now) counter
           (record {
-            to = 0xFFFF;
+            to = to_all;
             unit = mesh.Local 1 (messages.spelling
                 (message.Rreq number 0 grant.now.address dest));
             note = 0;
@@ -104,5 +107,5 @@ pub(crate) fn seal_request(grant: &Grant, counter: u32, number: u16, dest: Short
     };
     let key = grant.sealing_key();
     let aes = Aes::new(&key);
-    seal_message(grant, &key, &aes, counter, 0xFFFF, &message, out);
+    seal_message(grant, &key, &aes, counter, TO_ALL, &message, out);
 }

@@ -7,18 +7,19 @@ ghost use Rattle.node_rules.specs.Calls as calls;
 ghost use Rattle.node_rules.specs.declared.heard.SentHow.TheVariants as how;
 ghost use Rattle.node_rules.specs.Carrying.{Carries, nothing};
 ghost use Rattle.node_rules.specs.Agreement.{Agrees};
+ghost use Rattle.plc_base.specs.declared.limits.TheConstants.{GREATEST_COUNTER, LONGEST_DATAGRAM};
 
 use crate::sealing::{seal_datagram, seal_request};
 use crate::station::Station;
 use fragment_buffers::pieces;
 use node_rules::{SendRefusal, SentHow};
-use plc_base::{Grant, Keeper, Out, Short};
+use plc_base::{Grant, Keeper, LONGEST_DATAGRAM, Out, Short};
 
 // Whether a datagram has not 1 to 1,280 octets.
 fn has_bad_size(datagram: &[u8]) -> bool
-    ensures { result ≡ ((length datagram.now == 0) || nat_lt 1280 (length datagram.now)) }
+    ensures { result ≡ ((length datagram.now == 0) || nat_lt LONGEST_DATAGRAM (length datagram.now)) }
 {
-    datagram.is_empty() || datagram.len() > 1280
+    datagram.is_empty() || datagram.len() > LONGEST_DATAGRAM
 }
 
 impl<K: Keeper + Drop> Station<K> {
@@ -36,8 +37,8 @@ impl<K: Keeper + Drop> Station<K> {
         requires agrees { Agrees self.old }
         requires ring { IfSome self.old.memory (λ l. l.ring ≡ Some grant.now) }
         requires some { 1 ≤ length datagram.now }
-        requires fits { length datagram.now ≤ 1280 }
-        requires left { IfSome self.old.memory (λ l. l.counter.next + pieces_of (length datagram.now) ≤ 4294967295) }
+        requires fits { length datagram.now ≤ LONGEST_DATAGRAM }
+        requires left { IfSome self.old.memory (λ l. l.counter.next + pieces_of (length datagram.now) ≤ GREATEST_COUNTER) }
         requires empty { out.old ≡ nothing }
         ensures carries { IfSome self.old.memory (λ l. Carries self.old (drafts.sealing drafts.alone calls.sending_ends
             (drafts.body_goes grant.now.address hop to note (Datagram datagram.now l.next_tag)
@@ -74,9 +75,9 @@ impl<K: Keeper + Drop> Station<K> {
         requires running { IsSome self.old.memory }
         requires agrees { Agrees self.old }
         requires some { 1 ≤ length datagram.now }
-        requires fits { length datagram.now ≤ 1280 }
+        requires fits { length datagram.now ≤ LONGEST_DATAGRAM }
         requires room { IfSome self.old.memory (λ l. drafts.no_room l (length datagram.now) ≡ false) }
-        requires left { IfSome self.old.memory (λ l. l.counter.next ≤ 4294967295) }
+        requires left { IfSome self.old.memory (λ l. l.counter.next ≤ GREATEST_COUNTER) }
         requires empty { out.old ≡ nothing }
         ensures carries { IfSome self.old.memory (λ l. Carries self.old (drafts.sealing drafts.alone calls.sending_ends
             (drafts.waits to note (Datagram datagram.now l.next_tag) now
@@ -111,10 +112,10 @@ impl<K: Keeper + Drop> Station<K> {
         requires agrees { Agrees self.old }
         requires ring { IfSome self.old.memory (λ l. l.ring ≡ Some grant.now) }
         requires some { 1 ≤ length datagram.now }
-        requires fits { length datagram.now ≤ 1280 }
+        requires fits { length datagram.now ≤ LONGEST_DATAGRAM }
         requires room { IfSome self.old.memory (λ l. drafts.no_room l (length datagram.now) ≡ false) }
         requires number { IfSome self.old.memory (λ l. l.own_number.last < 65535) }
-        requires left { IfSome self.old.memory (λ l. l.counter.next + 1 ≤ 4294967295) }
+        requires left { IfSome self.old.memory (λ l. l.counter.next + 1 ≤ GREATEST_COUNTER) }
         requires empty { out.old ≡ nothing }
         ensures carries { IfSome self.old.memory (λ l. Carries self.old (drafts.sealing drafts.alone calls.sending_ends
             (drafts.waits to note (Datagram datagram.now l.next_tag) now

@@ -8,6 +8,7 @@ ghost use Rattle.frame_counters.specs.PeerMarks.{peers};
 ghost use Rattle.routing_set.specs.RoutingSet.{ranks, next_of};
 ghost use Rattle.node_rules.specs.Neighbours.{valid_route};
 ghost use Rattle.node_rules.specs.Showing.{shown_station, nothing_shown, shown_route, shown_peer};
+ghost use Rattle.plc_base.specs.declared.limits.TheConstants.{GREATEST_COUNTER};
 
 use crate::station::Station;
 use frame_counters::PeerMarks;
@@ -138,7 +139,7 @@ impl<K: Keeper + Drop> Station<K> {
 
     /// How many frame counters are left. Of a halted one that says nothing.
     pub fn counters_left(&self) -> u32
-        ensures { IfSome self.now.memory (λ l. result + l.counter.next ≡ 4294967295) }
+        ensures { IfSome self.now.memory (λ l. result + l.counter.next ≡ GREATEST_COUNTER) }
     {
         self.parts.counter.left()
     }

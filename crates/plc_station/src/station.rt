@@ -13,7 +13,7 @@ ghost use Rattle.plc_station.specs.OpenFaults.{IsOpenFault};
 
 use crate::parts::Parts;
 use node_rules::Reply;
-use plc_base::{BadStore, Eui, Keeper, Short};
+use plc_base::{BadStore, Eui, Keeper, LONGEST_DATAGRAM, Short};
 use std::alloc::Global;
 use std::marker::Model;
 use thiserror::Error;
@@ -97,7 +97,7 @@ impl<K: Keeper + Drop> Station<K> {
                 eui,
                 parts,
                 bodies,
-                room: [0; 1280],
+                room: [0; LONGEST_DATAGRAM],
                 halted: false,
                 replied: None,
             }),

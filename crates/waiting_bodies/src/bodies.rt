@@ -14,6 +14,7 @@ ghost use Rattle.waiting_bodies.specs.Sizes.{AreSized};
 ghost use Rattle.waiting_bodies.specs.FirstEnd.{end_by, IsStill};
 ghost use Rattle.waiting_bodies.specs.FirstEnd as ends;
 ghost use Rattle.waiting_bodies.specs.Frames.{body_at, frames_of, with_frames};
+ghost use Rattle.plc_base.specs.declared.limits.TheConstants.{GREATEST_COUNTER, LONGEST_DATAGRAM, MOST_FRAMES};
 
 use crate::sealing::seal_load;
 use aes_modes::Aes;
@@ -21,7 +22,7 @@ use arrayvec::ArrayVec;
 use block_pool::{Chain, Pool};
 use fragment_buffers::{BufferFull, Reassembly, Taken, pieces};
 use mesh_header::Piece;
-use plc_base::{DatagramBuf, Grant, Key, Out, Short, earlier_end, is_within};
+use plc_base::{DatagramBuf, Grant, Key, LONGEST_DATAGRAM, Out, Short, earlier_end, is_within};
 use std::alloc::{AllocError, Global};
 use std::marker::Model;
 
@@ -99,8 +100,11 @@ impl Model for Bodies {
     ghost invariant = { AreSound };
 }
 
+/// The most octets of a command that waits, its code among them.
+pub const LONGEST_COMMAND: usize = 374;
+
 /// Where the octets of one body stand one after another while it is sealed.
-pub type BodyRoom = [u8; 1280];
+pub type BodyRoom = [u8; LONGEST_DATAGRAM];
 
 /// How many blocks the pool has.
 const BLOCKS: u16 = 160;
@@ -188,7 +192,7 @@ impl Bodies {
 
     /// Whether a body of so many octets more can't wait: 8 bodies wait, or their blocks would pass 80.
     pub fn no_room(&self, octets: usize) -> bool
-        requires { octets ≤ 1280 }
+        requires { octets ≤ LONGEST_DATAGRAM }
         ensures { result ≡ no_room_in self.now.waiting octets }
     {
         if self.waiting.len() >= 8 {
@@ -200,8 +204,8 @@ impl Bodies {
     /// A body waits from now on, at a time in seconds: a datagram of 1 to 1,280 octets with its tag, or a command of at most 374.
     pub fn push(&mut self, to: Short, note: u32, since: u64, tag: Option<u16>, octets: &[u8])
         requires some { 1 ≤ length octets.now }
-        requires fits { length octets.now ≤ 1280 }
-        requires command { tag ≡ None → length octets.now ≤ 374 }
+        requires fits { length octets.now ≤ LONGEST_DATAGRAM }
+        requires command { tag ≡ None → length octets.now ≤ LONGEST_COMMAND }
         requires room { no_room_in self.old.waiting (length octets.now) ≡ false }
         ensures { self.new ≡ record self.old {
           waiting = self.old.waiting
@@ -266,8 +270,8 @@ impl Bodies {
     )
         requires there { index < length self.now.waiting }
         requires aes { aes.now ≡ key.now.0 }
-        requires left { first + units_in (body_at self.now.waiting index).load ≤ 4294967295 }
-        requires room { length out.old.frames + units_in (body_at self.now.waiting index).load ≤ 24 }
+        requires left { first + units_in (body_at self.now.waiting index).load ≤ GREATEST_COUNTER }
+        requires room { length out.old.frames + units_in (body_at self.now.waiting index).load ≤ MOST_FRAMES }
         ensures { out.new ≡ with_frames (out.old.frames ++ frames_of grant.now key.now first
             (units_by grant.now.address hop (body_at self.now.waiting index))) out.old }
     {
@@ -307,9 +311,9 @@ impl Bodies {
         requires there { index < length self.now.waiting }
         requires aes { aes.now ≡ key.now.0 }
         requires left { first + length (leaving grant.now.address dest hop
-            (body_at self.now.waiting index ∷ [])) ≤ 4294967295 }
+            (body_at self.now.waiting index ∷ [])) ≤ GREATEST_COUNTER }
         requires room { length out.old.frames + length
-            (leaving grant.now.address dest hop (body_at self.now.waiting index ∷ [])) ≤ 24 }
+            (leaving grant.now.address dest hop (body_at self.now.waiting index ∷ [])) ≤ MOST_FRAMES }
         ensures { out.new ≡ with_frames (out.old.frames ++ frames_of grant.now key.now first
             (leaving grant.now.address dest hop (body_at self.now.waiting index ∷ []))) out.old }
     {
@@ -343,8 +347,8 @@ impl Bodies {
         out: &mut Out,
     )
         requires aes { aes.now ≡ key.now.0 }
-        requires left { first + length (leaving grant.now.address dest hop self.now.waiting) ≤ 4294967295 }
-        requires room { length out.old.frames + length (leaving grant.now.address dest hop self.now.waiting) ≤ 24 }
+        requires left { first + length (leaving grant.now.address dest hop self.now.waiting) ≤ GREATEST_COUNTER }
+        requires room { length out.old.frames + length (leaving grant.now.address dest hop self.now.waiting) ≤ MOST_FRAMES }
         ensures { out.new ≡ with_frames (out.old.frames ++ frames_of grant.now key.now first
             (leaving grant.now.address dest hop self.now.waiting)) out.old }
     {

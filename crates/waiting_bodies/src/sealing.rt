@@ -5,12 +5,15 @@ ghost use Rattle.mesh_header.specs.Grammar.{IsAllowed, spelled_length};
 ghost use Rattle.fragment_buffers.specs.Cutting.{pieces_of, cut};
 ghost use Rattle.fragment_buffers.specs.Loads as loads;
 ghost use Rattle.waiting_bodies.specs.Frames.{unit_frame, frames_of, with_frames};
+ghost use Rattle.plc_base.specs.declared.address.TheConstants.{NO_ADDRESS};
+ghost use Rattle.plc_base.specs.declared.limits.TheConstants.{GREATEST_COUNTER, LONGEST_DATAGRAM, MOST_FRAMES};
+ghost use Rattle.waiting_bodies.specs.declared.bodies.TheConstants.{LONGEST_COMMAND};
 
 use aes_modes::Aes;
 use fragment_buffers::{cut_piece, pieces};
 use mac_frames::{MacHead, seal_written, write_header};
-use mesh_header::{Mesh, Unit, append_unit};
-use plc_base::{Grant, Key, OctetRef, Out, OutFrame, PAN, Short};
+use mesh_header::{LONGEST_WHOLE, Mesh, Unit, append_unit};
+use plc_base::{Grant, Key, OctetRef, Out, OutFrame, PAN, Short, TO_ALL};
 
 /// Seals a unit under a key, of which `aes` is the schedule, and appends its frame to the others. The frame has the counter, and the
 /// address and the active index of the grant.
@@ -27,10 +30,10 @@ pub fn seal(
     out: &mut Out,
 )
     requires aes { aes.now ≡ key.now.0 }
-    requires target { to ≢ 0xFFFE }
+    requires target { to ≢ NO_ADDRESS }
     requires allowed { IsAllowed unit.now }
     requires fits { spelled_length unit.now ≤ 381 }
-    requires room { length out.old.frames < 24 }
+    requires room { length out.old.frames < MOST_FRAMES }
     ensures { out.new ≡ with_frames (out.old.frames ++ unit_frame grant.now key.now counter
         (record { to = to; unit = unit.now; note = note }) ∷ []) out.old }
 {
@@ -52,14 +55,14 @@ fn write_frame(
     frame: &mut OutFrame,
 )
     requires aes { aes.now ≡ key.now.0 }
-    requires target { to ≢ 0xFFFE }
+    requires target { to ≢ NO_ADDRESS }
     requires allowed { IsAllowed unit.now }
     requires fits { spelled_length unit.now ≤ 381 }
     ensures { frame.new ≡ unit_frame grant.now key.now counter
         (record { to = to; unit = unit.now; note = note }) }
 {
     let head = MacHead::Sealed {
-        ack: to != 0xFFFF,
+        ack: to != TO_ALL,
         seq: (counter % 256) as u8,
         pan: PAN,
         to,
@@ -100,9 +103,9 @@ fn seal_cut(
 )
     requires aes { aes.now ≡ key.now.0 }
     requires long { 376 ≤ length datagram.now }
-    requires fits { length datagram.now ≤ 1280 }
-    requires left { first + pieces_of (length datagram.now) ≤ 4294967295 }
-    requires room { length out.old.frames + pieces_of (length datagram.now) ≤ 24 }
+    requires fits { length datagram.now ≤ LONGEST_DATAGRAM }
+    requires left { first + pieces_of (length datagram.now) ≤ GREATEST_COUNTER }
+    requires room { length out.old.frames + pieces_of (length datagram.now) ≤ MOST_FRAMES }
     ensures { out.new ≡ with_frames (out.old.frames ++ frames_of grant.now key.now first
         (loads.all_go hop note (map (λ piece. mesh.Part (loads.own_mesh grant.now.address to) piece)
         (cut datagram.now tag)))) out.old }
@@ -142,10 +145,10 @@ pub fn seal_load(
 )
     requires aes { aes.now ≡ key.now.0 }
     requires some { 1 ≤ length octets.now }
-    requires fits { length octets.now ≤ 1280 }
-    requires command { tag ≡ None → length octets.now ≤ 374 }
-    requires left { first + loads.units_in (loads.load_of tag octets.now) ≤ 4294967295 }
-    requires room { length out.old.frames + loads.units_in (loads.load_of tag octets.now) ≤ 24 }
+    requires fits { length octets.now ≤ LONGEST_DATAGRAM }
+    requires command { tag ≡ None → length octets.now ≤ LONGEST_COMMAND }
+    requires left { first + loads.units_in (loads.load_of tag octets.now) ≤ GREATEST_COUNTER }
+    requires room { length out.old.frames + loads.units_in (loads.load_of tag octets.now) ≤ MOST_FRAMES }
     ensures { out.new ≡ with_frames (out.old.frames ++ frames_of grant.now key.now first
         (loads.all_go hop note (loads.units_of grant.now.address to (loads.load_of tag octets.now)))) out.old }
 {
@@ -157,7 +160,7 @@ pub fn seal_load(
         seal(grant, key, aes, first, hop.number(), &unit, note, out);
         return;
     };
-    if octets.len() > 375 {
+    if octets.len() > LONGEST_WHOLE {
         seal_cut(grant, key, aes, first, hop, to, note, tag, octets, out);
         return;
     }

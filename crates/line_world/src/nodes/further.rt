@@ -13,6 +13,7 @@ ghost use Rattle.line_rules.specs.Further.{reaches};
 ghost use Rattle.node_rules.specs.declared.refusal.Dropped.TheVariants.{Store};
 ghost use Rattle.reach_rules.specs.declared.refusal.ReachDropped.TheVariants.{Known};
 ghost use Rattle.reach_rules.specs.Receiving.{hear_command};
+ghost use Rattle.plc_base.specs.declared.limits.TheConstants.{MOST_FRAMES};
 
 use crate::beside::Beside;
 use crate::nodes::Nodes;
@@ -118,7 +119,7 @@ impl LineCoordinator {
     ) -> Result<(), LocalRefusal>
         requires number { 0 < reply.number }
         requires joined { IfSome self.old.memory (λ m. IsSome m.station.ring) }
-        requires room { length out.old.frames < 24 }
+        requires room { length out.old.frames < MOST_FRAMES }
         ensures { TookAlone (acts self.old (Err LocalRefusal.Store) (λ m. acknowledges in_memory reply.to reply.number reply.origin m))
             result out.old out.new self.new }
     {
@@ -134,7 +135,7 @@ impl LineCoordinator {
         out: &mut Out,
     ) -> Commanded<'a>
         requires log { IsLogOf beside.old self.old }
-        requires room { length out.old.frames < 24 }
+        requires room { length out.old.frames < MOST_FRAMES }
         ensures { TookCommand self.old beside.old (command_of command.now) result out.old out.new self.new beside.new }
     {
         hear_command_at(0, self.coordinator.station(), beside, command, room, out)
@@ -213,7 +214,7 @@ impl Meters {
         requires there { place < length self.old }
         requires number { 0 < reply.number }
         requires joined { IfSome (slice_get self.old place) (λ x. IfSome x.memory (λ m. IsSome m.station.ring)) }
-        requires room { length out.old.frames < 24 }
+        requires room { length out.old.frames < MOST_FRAMES }
         ensures { IfSome (slice_get self.old place) (λ x. DidAfter (acts x (Err LocalRefusal.Store)
             (λ m. acknowledges in_memory reply.to reply.number reply.origin m)) self.old place result out.old out.new self.new) }
     {
@@ -232,7 +233,7 @@ impl Meters {
         requires there { place < length self.old }
         requires few { place < 999 }
         requires log { IfSome (slice_get self.old place) (λ x. IsLogOf beside.old x) }
-        requires room { length out.old.frames < 24 }
+        requires room { length out.old.frames < MOST_FRAMES }
         ensures tells { IfSome (slice_get self.old place) (λ x. TellsCommand result (place + 1) (reaches x beside.old (Err (Known Store))
             (λ y. hear_command in_memory y (command_of command.now))).answer) }
         ensures reached { IfSome (slice_get self.old place) (λ x. Reached x beside.old (Err (Known Store))
@@ -357,7 +358,7 @@ impl Nodes {
         requires there { number < length self.old }
         requires number { 0 < reply.number }
         requires joined { IfSome (slice_get self.old number) (λ x. IfSome x.memory (λ m. IsSome m.station.ring)) }
-        requires room { length out.old.frames < 24 }
+        requires room { length out.old.frames < MOST_FRAMES }
         ensures { IfSome (slice_get self.old number) (λ x. DidAfter (acts x (Err LocalRefusal.Store)
             (λ m. acknowledges in_memory reply.to reply.number reply.origin m)) self.old number result out.old out.new self.new) }
     {
@@ -382,7 +383,7 @@ impl Nodes {
         requires there { number < length self.old }
         requires few { length self.old ≤ 1000 }
         requires log { IfSome (slice_get self.old number) (λ x. IsLogOf beside.old x) }
-        requires room { length out.old.frames < 24 }
+        requires room { length out.old.frames < MOST_FRAMES }
         ensures { IfSome (slice_get self.old number) (λ x. ReachedCommand x beside.old (command_of command.now) self.old number result out.old out.new
             self.new beside.new) }
     {

@@ -18,6 +18,7 @@ ghost use Rattle.reach_rules.specs.PathAsking as path_rules;
 ghost use Rattle.reach_rules.specs.Receiving as command_rules;
 ghost use Rattle.line_rules.specs.Answers.{reach_drop_word};
 ghost use Rattle.line_world.specs.Reaching.{EndsCheck, Reaches, ReachesCommand, ReachesFirst, TellsCommand, answer_as, command_of, path_heard, told_after};
+ghost use Rattle.plc_base.specs.declared.limits.TheConstants.{MOST_FRAMES};
 
 use crate::beside::Beside;
 use crate::nodes::command::{CommandRef, Commanded};
@@ -59,7 +60,7 @@ pub(crate) fn tell(
     requires last_code { code ≤ 5 }
     requires some { 1 ≤ length body.now }
     requires fits { length body.now ≤ 379 }
-    requires room { length out.old.frames < 24 }
+    requires room { length out.old.frames < MOST_FRAMES }
     ensures carries { IfSome station.old.memory
         (λ l. CarriesAfter station.old (local.send_local l code to body.now) result out.old out.new station.new) }
     ensures agrees { Agrees station.new }
@@ -85,7 +86,7 @@ fn path_goes(
     requires running { IsSome station.old.memory }
     requires joined { IfSome station.old.memory (λ l. IsSome l.ring) }
     requires agrees { Agrees station.old }
-    requires room { length out.old.frames < 24 }
+    requires room { length out.old.frames < MOST_FRAMES }
     ensures carries { IfSome station.old.memory
         (λ l. CarriesAfter station.old (local.send_local l 5 (Some to) (path_spelling message.now)) result out.old out.new
         station.new) }
@@ -180,7 +181,7 @@ pub(crate) fn acknowledge_at(
     requires number { 0 < reply.number }
     requires agrees { Agrees station.old }
     requires joined { IfSome station.old.memory (λ l. IsSome l.ring) }
-    requires room { length out.old.frames < 24 }
+    requires room { length out.old.frames < MOST_FRAMES }
     ensures stayed { IfNone station.old.memory
         ((result ≡ Err LocalRefusal.Store) × ((out.new ≡ nothing) × (station.new ≡ station.old))) }
     ensures carries { IfSome station.old.memory
@@ -294,7 +295,7 @@ fn follow_step(
     requires running { IsSome station.old.memory }
     requires joined { IfSome station.old.memory (λ l. IsSome l.ring) }
     requires agrees { Agrees station.old }
-    requires room { length out.old.frames < 24 }
+    requires room { length out.old.frames < MOST_FRAMES }
     ensures reaches { Reaches station.old beside.old (Err (Known drops.Store))
         (λ y. path_rules.follows_path alone y (Ok step.now)) (answer_as path_heard result) out.old out.new station.new
         beside.new }
@@ -327,7 +328,7 @@ fn follow_path(
     requires running { IsSome station.old.memory }
     requires joined { IfSome station.old.memory (λ l. IsSome l.ring) }
     requires agrees { Agrees station.old }
-    requires room { length out.old.frames < 24 }
+    requires room { length out.old.frames < MOST_FRAMES }
     ensures reaches { Reaches station.old beside.old (Err (Known drops.Store))
         (λ y. path_rules.follows_path alone y step) (answer_as path_heard result) out.old out.new station.new beside.new }
     ensures agrees { Agrees station.new }
@@ -350,7 +351,7 @@ fn hear_path(
     requires running { IsSome station.old.memory }
     requires own { IfSome station.old.memory (λ l. address_of l ≡ Some own) }
     requires agrees { Agrees station.old }
-    requires room { length out.old.frames < 24 }
+    requires room { length out.old.frames < MOST_FRAMES }
     ensures reaches { Reaches station.old beside.old (Err (Known drops.Store))
         (λ y. path_rules.hear_path alone y own command.now.from command.now.to_all command.now.body)
         (answer_as path_heard result) out.old out.new station.new beside.new }
@@ -444,7 +445,7 @@ fn hear_command<'a>(
     requires own { IfSome station.old.memory (λ l. address_of l ≡ Some own) }
     requires agrees { Agrees station.old }
     requires kept { IsKept beside.old.log station.old.store.records }
-    requires room { length out.old.frames < 24 }
+    requires room { length out.old.frames < MOST_FRAMES }
     ensures reaches { ReachesCommand station.old beside.old
         (λ y. command_rules.hear_command_at alone y own (command_of command.now)) result number out.old out.new station.new
         beside.new }
@@ -475,7 +476,7 @@ pub(crate) fn hear_command_at<'a>(
 ) -> Commanded<'a>
     requires agrees { Agrees station.old }
     requires kept { IfSome station.old.memory (λ _. IsKept beside.old.log station.old.store.records) }
-    requires room { length out.old.frames < 24 }
+    requires room { length out.old.frames < MOST_FRAMES }
     ensures reaches { ReachesCommand station.old beside.old
         (λ y. command_rules.hear_command alone y (command_of command.now)) result number out.old out.new station.new beside.new }
     ensures agrees { Agrees station.new }
