@@ -12,33 +12,31 @@ ghost use Rattle.coordinator.specs.CoordinatorAgreement.{Holds, HasHome};
 
 use crate::coordinator::Coordinator;
 use node_rules::CoordinatorRefusal;
-use plc_base::{Keeper, Key};
+use plc_base::{Keeper, Key, KeyIndex};
 
 impl<K: Keeper + Drop> Coordinator<K> {
     // Whether the key at an index is the one that seals.
-    fn is_active(&self, index: u8) -> bool
+    fn is_active(&self, index: KeyIndex) -> bool
         ensures { IfSome (node_of self.now).memory (λ m.
             result ≡ option_map_or (λ (g : grants.Granted). g.active == index) m.station.ring false) }
     {
         match self.station.ring().active() {
-            Some(active) => active == index,
+            Some(active) => active.number() == index.number(),
             None => false,
         }
     }
 
     // Whether a key is held at an index.
-    fn has_key(&self, index: u8) -> bool
-        requires { index ≤ 1 }
+    fn has_key(&self, index: KeyIndex) -> bool
         ensures { IfSome (node_of self.now).memory (λ m. result ≡ calls.has_key m.station index) }
     {
         self.station.ring().key(index).is_some()
     }
 
     // Keeps a key at an index.
-    fn draw(&mut self, index: u8, key: &Key) -> Result<(), CoordinatorRefusal>
+    fn draw(&mut self, index: KeyIndex, key: &Key) -> Result<(), CoordinatorRefusal>
         requires running { IsSome (node_of self.old).memory }
         requires holds { Holds (node_of self.old) }
-        requires index { index ≤ 1 }
         ensures carries { IfSome (node_of self.old).memory (λ m.
             Carries (node_of self.old) (drafts.sealing words.in_memory rules.orders
             (words.on_station (calls.with_key_at m.station index key.now) (drafts.empty_draft m)) tt)
@@ -53,10 +51,9 @@ impl<K: Keeper + Drop> Coordinator<K> {
     }
 
     // Makes the key at an index, which is held, the one that seals.
-    fn set_active(&mut self, index: u8) -> Result<(), CoordinatorRefusal>
+    fn set_active(&mut self, index: KeyIndex) -> Result<(), CoordinatorRefusal>
         requires running { IsSome (node_of self.old).memory }
         requires holds { Holds (node_of self.old) }
-        requires index { index ≤ 1 }
         requires held { IfSome (node_of self.old).memory (λ m. calls.has_key m.station index ≡ true) }
         ensures carries { IfSome (node_of self.old).memory (λ m.
             Carries (node_of self.old) (drafts.sealing words.in_memory rules.orders
@@ -75,9 +72,8 @@ impl<K: Keeper + Drop> Coordinator<K> {
     ///
     /// Halted, IndexActive exactly for the index of the key that seals, Store, in this order. After Store it is halted, after the
     /// others nothing has changed.
-    pub fn rekey(&mut self, index: u8, key: &Key) -> Result<(), CoordinatorRefusal>
+    pub fn rekey(&mut self, index: KeyIndex, key: &Key) -> Result<(), CoordinatorRefusal>
         requires holds { Holds (node_of self.old) }
-        requires index { index ≤ 1 }
         ensures halted { IfNone (node_of self.old).memory ((result ≡ Err CoordinatorRefusal.Halted)
             × (self.new ≡ self.old)) }
         ensures carries { IfSome (node_of self.old).memory (λ m.
@@ -99,9 +95,8 @@ impl<K: Keeper + Drop> Coordinator<K> {
     ///
     /// Halted, NotHeld exactly where no key is held there, Store, in this order. After Store it is halted, after the others nothing
     /// has changed.
-    pub fn activate_self(&mut self, index: u8) -> Result<(), CoordinatorRefusal>
+    pub fn activate_self(&mut self, index: KeyIndex) -> Result<(), CoordinatorRefusal>
         requires holds { Holds (node_of self.old) }
-        requires index { index ≤ 1 }
         ensures halted { IfNone (node_of self.old).memory ((result ≡ Err CoordinatorRefusal.Halted)
             × (self.new ≡ self.old)) }
         ensures carries { IfSome (node_of self.old).memory (λ m.

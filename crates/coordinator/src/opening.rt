@@ -17,7 +17,7 @@ use crate::coordinator::Coordinator;
 use crate::sessions::Sessions;
 use group_keys::{KeyBook, KeyRing, RingFault};
 use joining_base::RandomValues;
-use plc_base::{BadStore, Eui, Grant, Keeper, Key, Short};
+use plc_base::{BadStore, Eui, Grant, Keeper, Key, KeyIndex, Short};
 use plc_station::{OpenFault, Station};
 use std::alloc::Global;
 
@@ -27,7 +27,7 @@ fn first_grant(key: &Key) -> Grant
 {
     Grant {
         address: Short::default(),
-        active: 0,
+        active: KeyIndex::first(),
         keys: [Some(*key), None],
     }
 }

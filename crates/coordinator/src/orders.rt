@@ -14,7 +14,7 @@ use group_keys::BookEntry;
 use joining_base::{CommandBuf, write_command};
 use joining_messages::{JoinBody, JoinMessage};
 use node_rules::{CoordinatorRefusal, RandomFault, SendRefusal, SentHow};
-use plc_base::{Eui, Keeper, Key, Out, Rand, Short};
+use plc_base::{Eui, Keeper, Key, KeyIndex, Out, Rand, Short};
 
 // What a command is refused for, as the refusal of an order.
 pub(crate) fn order_refusal(reason: SendRefusal) -> CoordinatorRefusal
@@ -43,11 +43,10 @@ fn order_answer(sent: Result<SentHow, SendRefusal>) -> Result<(), CoordinatorRef
 }
 
 // The key that was issued at an index, 0 or 1.
-fn issued_at(entry: &BookEntry, index: u8) -> Option<Key>
-    requires { index ≤ 1 }
+fn issued_at(entry: &BookEntry, index: KeyIndex) -> Option<Key>
     ensures { result ≡ book.issued_at entry.now index }
 {
-    if index == 0 {
+    if index.number() == 0 {
         return entry.issued0;
     }
     entry.issued1
@@ -108,8 +107,7 @@ impl<K: Keeper + Drop> Coordinator<K> {
     }
 
     // Whether the ring's key at an index is the one that was issued to a meter.
-    fn was_issued(&self, entry: &BookEntry, index: u8) -> bool
-        requires { index ≤ 1 }
+    fn was_issued(&self, entry: &BookEntry, index: KeyIndex) -> bool
         ensures { IfSome (node_of self.now).memory (λ m. result ≡ rules.was_issued m entry.now index) }
     {
         let Some(key) = self.station.ring().key(index) else {
@@ -129,12 +127,11 @@ impl<K: Keeper + Drop> Coordinator<K> {
     pub fn activate(
         &mut self,
         eui: Eui,
-        index: u8,
+        index: KeyIndex,
         now: u64,
         out: &mut Out,
     ) -> Result<(), CoordinatorRefusal>
         requires holds { Holds (node_of self.old) }
-        requires index { index ≤ 1 }
         ensures halted { IfNone (node_of self.old).memory ((result ≡ Err CoordinatorRefusal.Halted)
             × (out.new ≡ nothing) × (self.new ≡ self.old)) }
         ensures carries { IfSome (node_of self.old).memory (λ m.

@@ -10,7 +10,7 @@ ghost use Rattle.group_keys.specs.KeyBook.{Book, entries, IsKept, AddressesStay,
 use crate::BookFault;
 use crate::fields::{HELD, flag_in, held_in, key_in, push_held};
 use byteorder::{BigEndian, ByteOrder};
-use plc_base::{BadStore, Eui, Failed, Grant, Keeper, Key, Record, Short};
+use plc_base::{BadStore, Eui, Failed, Grant, Keeper, Key, KeyIndex, Record, Short};
 use std::marker::Model;
 use store_tables::{SlotEntry, SlotTable};
 
@@ -191,12 +191,11 @@ impl KeyBook {
     }
 
     /// The group key that was issued to a meter at an index, 0 or 1. None exactly where none is.
-    pub fn issued(&self, eui: Eui, index: u8) -> Option<Key>
-        requires { index ≤ 1 }
+    pub fn issued(&self, eui: Eui, index: KeyIndex) -> Option<Key>
         ensures { result ≡ option_and_then (λ entry. issued_at entry index) (entry_for self.now eui) }
     {
         let entry = self.entry(eui)?;
-        if index == 0 {
+        if index.number() == 0 {
             entry.issued0
         } else {
             entry.issued1

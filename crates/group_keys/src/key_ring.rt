@@ -9,7 +9,7 @@ ghost use Rattle.group_keys.specs.KeyRing.{IsKept, IsOldRingOrKept, IsOldOrNewRi
 use crate::RingFault;
 use crate::fields::{HELD, held_in, push_held};
 use byteorder::{BigEndian, ByteOrder};
-use plc_base::{BadStore, Failed, Grant, Keeper, Key, Record, Short};
+use plc_base::{BadStore, Failed, Grant, Keeper, Key, KeyIndex, Record, Short};
 use std::marker::Model;
 
 /// The ring of a node: nothing, or the address and the group keys of its last grant with the later changes. It is always
@@ -48,7 +48,7 @@ fn ring_record(grant: &Option<Grant>) -> Record
     let mut record = Record::new();
     record.push(1);
     record.push_be_u16(grant.address.number());
-    record.push(grant.active);
+    record.push(grant.active.number());
     push_held(&mut record, &grant.keys[0]);
     push_held(&mut record, &grant.keys[1]);
     record
@@ -60,13 +60,13 @@ fn grant_in(octets: &[u8]) -> Option<Grant>
     ensures { result ≡ grant_in octets.now }
 {
     let address = BigEndian::read_u16(octets);
-    let active = octets[2];
     let (key0, key1) = octets.split_at(3).1.split_at(HELD);
     let key0 = held_in(key0)?;
     let key1 = held_in(key1)?;
     let address = Short::new(address)?;
-    let held = if active == 0 { key0 } else { key1 };
-    if active > 1 || held.is_none() {
+    let active = KeyIndex::new(octets[2])?;
+    let held = if active.number() == 0 { key0 } else { key1 };
+    if held.is_none() {
         return None;
     }
     Some(Grant {
@@ -133,15 +133,14 @@ impl KeyRing {
     }
 
     /// The key at an index, 0 or 1, None where none is held.
-    pub fn key(&self, index: u8) -> Option<Key>
-        requires { index ≤ 1 }
+    pub fn key(&self, index: KeyIndex) -> Option<Key>
         ensures { result ≡ key_in_ring self.now index }
     {
         self.grant?.key(index)
     }
 
     /// The index of the key that seals, None where the node has not joined.
-    pub fn active(&self) -> Option<u8>
+    pub fn active(&self) -> Option<KeyIndex>
         ensures { result ≡ option_map (λ grant. grant.active) self.now }
     {
         self.grant.map(|grant| grant.active)
@@ -183,8 +182,12 @@ impl KeyRing {
     /// Puts a key at an index, 0 or 1, of a node that has joined. A key that was there is replaced.
     ///
     /// Store alone, where the put failed, and then the ring may not be used until it is opened again.
-    pub fn put<K: Keeper>(&mut self, keeper: &mut K, index: u8, key: &Key) -> Result<(), RingFault>
-        requires index { index ≤ 1 }
+    pub fn put<K: Keeper>(
+        &mut self,
+        keeper: &mut K,
+        index: KeyIndex,
+        key: &Key,
+    ) -> Result<(), RingFault>
         requires joined { IsSome self.old }
         ensures answer { result ≡ stored_result (is_ok result) }
         ensures ring { OnOk result (self.new ≡ with_key self.old index key.now) }
@@ -204,8 +207,7 @@ impl KeyRing {
     ///
     /// NotHeld exactly where no key is held there. Store where the put failed, and then the ring may not be used until it is
     /// opened again. After each error the ring is as it was.
-    pub fn activate<K: Keeper>(&mut self, keeper: &mut K, index: u8) -> Result<(), RingFault>
-        requires { index ≤ 1 }
+    pub fn activate<K: Keeper>(&mut self, keeper: &mut K, index: KeyIndex) -> Result<(), RingFault>
         ensures answer { result ≡ activate_result self.old index (is_stored result) }
         ensures ring { self.new ≡ activate_after self.old index (is_stored result) }
         ensures store { Stores (K.store keeper.old) (activate_write self.old index) (is_stored result)
@@ -225,8 +227,7 @@ impl KeyRing {
     /// Makes the key at an index, 0 or 1, the one that seals, where one is held.
     ///
     /// Only a failed put is an error. The ring is then as it was, but may not be used until it is opened again.
-    pub fn set_active<K: Keeper>(&mut self, keeper: &mut K, index: u8) -> Result<(), Failed>
-        requires index { index ≤ 1 }
+    pub fn set_active<K: Keeper>(&mut self, keeper: &mut K, index: KeyIndex) -> Result<(), Failed>
         requires held { is_some (key_in_ring self.old index) ≡ true }
         ensures ring { OnOk result (self.new ≡ with_active self.old index) }
         ensures same { OnErr result (self.new ≡ self.old) }

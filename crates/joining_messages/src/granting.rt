@@ -8,7 +8,7 @@ ghost use Rattle.plc_base.specs.Grant.{Granted};
 ghost use Rattle.joining_messages.specs.Reading.{grant_in};
 ghost use Rattle.joining_messages.specs.Grants.{IsGranted, IsPlace, SpellsGrant, grant_spelling, key_then, stands, address_stands, index_stands, sixteen_stand, head_stands, key_stands, is_parameter_list};
 
-use plc_base::{EapBuf, Grant, Key, Short, octet_at, octets_at, two_at};
+use plc_base::{EapBuf, Grant, Key, KeyIndex, Short, octet_at, octets_at, two_at};
 
 // This octet, at its place.
 #[tactic(auto, unfolding(crate::specs::Grants::stands))]
@@ -33,16 +33,12 @@ fn address_at(octets: &[u8], at: usize) -> Option<Short>
 }
 
 #[tactic(auto, unfolding(crate::specs::Grants::index_stands))]
-fn index_at(octets: &[u8], at: usize) -> Option<u8>
+fn index_at(octets: &[u8], at: usize) -> Option<KeyIndex>
     requires { at ≤ 100 }
     ensures { ReadsWhen (index_stands at octets.now) result
         (λ x. (x ≤ 1) × (x ≡ octet at octets.now) × (after at octets.now ≡ x ∷ after (at + 1) octets.now)) }
 {
-    let index = octet_at(octets, at).ok()?;
-    if index > 1 {
-        return None;
-    }
-    Some(index)
+    KeyIndex::new(octet_at(octets, at).ok()?)
 }
 
 #[tactic(auto, unfolding(crate::specs::Grants::sixteen_stand))]
@@ -56,7 +52,7 @@ fn sixteen_at(octets: &[u8], at: usize) -> Option<Key>
 
 // The parameters of the address and of the active index.
 #[tactic(auto, unfolding(crate::specs::Grants::head_stands), using(plc_base::proofs::Places::after_none))]
-fn head_of(octets: &[u8]) -> Option<(Short, u8)>
+fn head_of(octets: &[u8]) -> Option<(Short, KeyIndex)>
     ensures { ReadsWhen (head_stands octets.now) result
         (λ x. IsAddress x.0 × (x.1 ≤ 1) × (x.1 ≡ octet 6 octets.now)
         × (octets.now ≡ 1 ∷ 2 ∷ big_bytes 2 x.0 ++ (2 ∷ 1 ∷ x.1 ∷ after 7 octets.now))) }
@@ -92,8 +88,8 @@ fn grant_of(octets: &[u8]) -> Option<Grant>
 {
     let (address, active) = head_of(octets)?;
     let keys = if octets.len() == 26 {
-        let key = key_at(octets, 7, active)?;
-        if active == 0 {
+        let key = key_at(octets, 7, active.number())?;
+        if active.number() == 0 {
             [Some(key), None]
         } else {
             [None, Some(key)]
@@ -153,7 +149,7 @@ pub fn write_grant(grant: &Grant, out: &mut EapBuf)
     out.push_be_u16(grant.address.number());
     out.push(2);
     out.push(1);
-    out.push(grant.active);
+    out.push(grant.active.number());
     write_key(0, &grant.keys[0], out);
     write_key(1, &grant.keys[1], out);
 }

@@ -1,5 +1,5 @@
 //! Joining messages.
-use plc_base::{EapBuf, Eui};
+use plc_base::{EapBuf, Eui, KeyIndex};
 
 /// A joining message: the joining node's identity and what is said.
 #[derive(Debug, Drop)]
@@ -35,6 +35,6 @@ pub enum JoinBody {
     /// The node has to seal with another key that it holds.
     Activate {
         /// The index of that key: 0 or 1.
-        index: u8,
+        index: KeyIndex,
     },
 }

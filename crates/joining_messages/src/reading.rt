@@ -10,7 +10,7 @@ ghost use Rattle.joining_messages.specs.declared.message.JoinMessage.{JoinMessag
 
 use crate::fault::{JoinFault, JoinFaultKind};
 use crate::message::{JoinBody, JoinMessage};
-use plc_base::{EapBuf, Eui, Fault, octet_at, octets_at, rest_at};
+use plc_base::{EapBuf, Eui, Fault, KeyIndex, octet_at, octets_at, rest_at};
 
 #[tactic(auto, unfolding(crate::specs::Faults::code_fault, plc_base::specs::Faults::cut_off), using(plc_base::proofs::Places::after_none))]
 fn code_at_front(octets: &[u8]) -> Result<u8, JoinFault>
@@ -75,14 +75,17 @@ fn accept_rest(octets: &[u8]) -> Result<u8, JoinFault>
 
 // An index.
 #[tactic(auto, unfolding(crate::specs::Faults::activate_rest_fault), using(crate::proofs::Rests::one_is))]
-fn activate_rest(octets: &[u8]) -> Result<u8, JoinFault>
+fn activate_rest(octets: &[u8]) -> Result<KeyIndex, JoinFault>
     requires { 9 ≤ length octets.now }
     ensures { ReadsUnless (activate_rest_fault octets.now) result
         (λ x. (x ≤ 1) × (after 9 octets.now ≡ x ∷ [])) }
 {
-    match rest_at(octets, 9) {
-        [index] if *index <= 1 => Ok(*index),
-        _ => Err(Fault::at(JoinFaultKind::Body, 9)),
+    let [index] = rest_at(octets, 9) else {
+        return Err(Fault::at(JoinFaultKind::Body, 9));
+    };
+    match KeyIndex::new(*index) {
+        None => Err(Fault::at(JoinFaultKind::Body, 9)),
+        Some(index) => Ok(index),
     }
 }
 

@@ -34,7 +34,7 @@ fn write_rest<const N: usize>(body: &JoinBody, out: &mut Octets<N>)
             out.push(4);
         }
         JoinBody::Decline | JoinBody::Kick => {}
-        JoinBody::Activate { index } => out.push(*index),
+        JoinBody::Activate { index } => out.push(index.number()),
     }
 }
 

@@ -7,7 +7,7 @@ use crate::report::totals;
 use line_rules::{Event, MAX_EVENTS, StepFault};
 use line_script::end_text;
 use line_world::{Space, World};
-use plc_base::{Eui, Key, LinkCost, OctetRef, Rand};
+use plc_base::{Eui, Key, KeyIndex, LinkCost, OctetRef, Rand};
 use std::alloc::{AllocError, Global};
 use std::marker::Model;
 
@@ -288,7 +288,10 @@ impl Drill {
     fn activate(&mut self, meters: u8, node: u32) -> Result<(), AllocError>
         ensures { OnOk result (self.new ≡ activate meters node self.old) }
     {
-        self.take(&Event::Activate { node, index: 1 })?;
+        self.take(&Event::Activate {
+            node,
+            index: KeyIndex::second(),
+        })?;
         self.drain(meters)
     }
 
@@ -307,10 +310,16 @@ impl Drill {
         ensures { OnOk result (self.new ≡ rekey meters self.old) }
     {
         let key = Key(wide(2));
-        self.take(&Event::Rekey { index: 1, key })?;
+        self.take(&Event::Rekey {
+            index: KeyIndex::second(),
+            key,
+        })?;
         self.challenge_all(meters)?;
         self.activate_all(meters)?;
-        self.take(&Event::Activate { node: 0, index: 1 })
+        self.take(&Event::Activate {
+            node: 0,
+            index: KeyIndex::second(),
+        })
     }
 
     /// All meters join, send two short readings and a long one, change their key and send a short one.

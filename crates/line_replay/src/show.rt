@@ -90,6 +90,7 @@ fn head_text(alloc: Global, head: &MacHead, body: &[u8]) -> Result<String, Alloc
         } => {
             let to = short_word(alloc, *to)?;
             let from = short_word(alloc, from.number())?;
+            let index = index.number();
             let length = body.len();
             format!(in alloc;
                 "sealed to {to} from {from} counter {counter} index {index} body {length}\n"

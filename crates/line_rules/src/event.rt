@@ -1,5 +1,5 @@
 //! The events of a line, and their answers.
-use plc_base::{Eui, Key, LinkCost, OctetRef, Rand};
+use plc_base::{Eui, Key, KeyIndex, LinkCost, OctetRef, Rand};
 use thiserror::Error;
 
 /// The most events of a run.
@@ -101,7 +101,7 @@ pub enum Event<'a> {
     },
     /// Draws a group key for an index.
     Rekey {
-        index: u8,
+        index: KeyIndex,
         key: Key,
     },
     /// The coordinator challenges a meter.
@@ -111,7 +111,7 @@ pub enum Event<'a> {
     /// Makes a group key the one that seals, at the coordinator or, by an order, at a meter.
     Activate {
         node: u32,
-        index: u8,
+        index: KeyIndex,
     },
     /// Shuts a meter out.
     Kick {

@@ -3,7 +3,7 @@ ghost use Rattle.std.specs.Prelude.{◌≡◌, ◌++◌, IfOk, OnOk, string_byte
 ghost use Rattle.line_script.specs.NodeTexts.{short_word, address_word, index_word, next_word, head_text, key_text, route_text, routes_text, floor_text, floors_text, peer_text, peers_text, running_text, node_text};
 
 use node_rules::{Shown, ShownPeer, ShownRoute};
-use plc_base::{Key, Short};
+use plc_base::{Key, KeyIndex, Short};
 use std::alloc::{AllocError, Global};
 use std::fmt::Write;
 
@@ -25,12 +25,15 @@ fn address_word(alloc: Global, address: Option<Short>) -> Result<String, AllocEr
 }
 
 /// The index of the key that seals, or `-` where there is none.
-fn index_word(alloc: Global, index: Option<u8>) -> Result<String, AllocError>
+fn index_word(alloc: Global, index: Option<KeyIndex>) -> Result<String, AllocError>
     ensures { IfOk result (λ text. string_bytes text ≡ index_word index) }
 {
     match index {
         None => String::from_str(alloc, "-"),
-        Some(index) => format!(in alloc; "{index}"),
+        Some(index) => {
+            let number = index.number();
+            format!(in alloc; "{number}")
+        }
     }
 }
 

@@ -8,7 +8,7 @@ use crate::word::{
     LINE_OCTETS, cost, eui, field, hex_octets, keeps_new, number, number_within, sixteen_octets,
 };
 use line_rules::Event;
-use plc_base::{Key, Rand};
+use plc_base::{Key, KeyIndex, Rand};
 
 /// What a line says.
 #[derive(Drop)]
@@ -229,7 +229,7 @@ fn rekey_of(octets: &[u8]) -> Option<Event<'static>>
     ensures { result ≡ rekey_of octets.now }
 {
     let (word, rest) = field(octets)?;
-    let index = number_within(0, 1, word)? as u8;
+    let index = KeyIndex::new(number_within(0, 1, word)? as u8)?;
     let key = Key(sixteen_octets(rest)?);
     Some(Event::Rekey { index, key })
 }
@@ -250,7 +250,7 @@ fn activate_of(octets: &[u8]) -> Option<Event<'static>>
 {
     let (word, rest) = field(octets)?;
     let node = number(word)?;
-    let index = number_within(0, 1, rest)? as u8;
+    let index = KeyIndex::new(number_within(0, 1, rest)? as u8)?;
     Some(Event::Activate { node, index })
 }
 

@@ -13,7 +13,7 @@ use crate::joining::order_word;
 use crate::line::Line;
 use line_rules::{Answer, Happenings, StepFault};
 use node_rules::CoordinatorRefusal;
-use plc_base::Key;
+use plc_base::{Key, KeyIndex};
 
 // The word of an order that was carried out, or refused.
 fn ordered_word(word: Answer, done: Result<(), CoordinatorRefusal>) -> Answer
@@ -27,10 +27,13 @@ fn ordered_word(word: Answer, done: Result<(), CoordinatorRefusal>) -> Answer
 
 impl Line {
     /// The coordinator draws a key for an index.
-    pub(crate) fn rekey(&mut self, index: u8, key: &Key) -> Result<Happenings<'static>, StepFault>
+    pub(crate) fn rekey(
+        &mut self,
+        index: KeyIndex,
+        key: &Key,
+    ) -> Result<Happenings<'static>, StepFault>
         requires bounds { IsBounded (world_of self.old) }
         requires events { self.old.events < MAX_EVENTS }
-        requires index { index ≤ 1 }
         ensures { Steps false (world_of self.old) result (world_of self.new)
             (rules.rekey network (world_of self.old) index key.now) }
     {
@@ -59,11 +62,10 @@ impl Line {
     pub(crate) fn activate(
         &mut self,
         node: u32,
-        index: u8,
+        index: KeyIndex,
     ) -> Result<Happenings<'static>, StepFault>
         requires bounds { IsBounded (world_of self.old) }
         requires events { self.old.events < MAX_EVENTS }
-        requires index { index ≤ 1 }
         ensures { Steps (not (node == 0)) (world_of self.old) result (world_of self.new)
             (rules.activate network (world_of self.old) node index) }
     {

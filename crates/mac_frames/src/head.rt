@@ -1,5 +1,5 @@
 //! The fields of a MAC header.
-use plc_base::{Eui, Short};
+use plc_base::{Eui, KeyIndex, Short};
 
 /// The fields of a MAC header, by kind of frame (IEEE 802.15.4-2006, section 7.2).
 ///
@@ -20,7 +20,7 @@ pub enum MacHead {
         /// The frame counter: one for each frame of a sender under a key.
         counter: u32,
         /// The key index, 0 or 1.
-        index: u8,
+        index: KeyIndex,
     },
     /// A plain frame from a device that has no short address yet.
     Up {

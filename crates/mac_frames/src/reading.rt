@@ -13,8 +13,8 @@ use crate::control::{FrameKind, high_of, low_of};
 use crate::fault::{FrameFault, FrameFaultKind};
 use crate::head::MacHead;
 use plc_base::{
-    Eui, Fault, LONGEST_FRAME, NO_ADDRESS, Short, little_four_at, little_two_at, octet_at,
-    reversed_at,
+    Eui, Fault, KeyIndex, LONGEST_FRAME, NO_ADDRESS, Short, little_four_at, little_two_at,
+    octet_at, reversed_at,
 };
 
 /// A frame that was read, over the octets that it was read from.
@@ -69,17 +69,16 @@ fn level_at(octets: &[u8], at: usize) -> Result<(), FrameFault>
 }
 
 #[tactic(auto, unfolding(crate::specs::Faults::index_fault, plc_base::specs::Faults::cut_off))]
-fn index_at(octets: &[u8], at: usize) -> Result<u8, FrameFault>
+fn index_at(octets: &[u8], at: usize) -> Result<KeyIndex, FrameFault>
     requires { at ≤ 100 }
     ensures { ReadsUnless (index_fault at octets.now) result
         (λ x. (x ≤ 1) × (at + 1 ≤ length octets.now)
         × (after at octets.now ≡ x ∷ after (at + 1) octets.now)) }
 {
-    let index = octet_at(octets, at)?;
-    if index > 1 {
-        return Err(Fault::at(FrameFaultKind::Level, at));
+    match KeyIndex::new(octet_at(octets, at)?) {
+        None => Err(Fault::at(FrameFaultKind::Level, at)),
+        Some(index) => Ok(index),
     }
-    Ok(index)
 }
 
 // The head of a sealed frame, after its PAN id, where a tag follows it.

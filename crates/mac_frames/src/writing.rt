@@ -8,7 +8,7 @@ ghost use Rattle.plc_base.specs.declared.limits.TheConstants.{LONGEST_FRAME};
 
 use crate::head::MacHead;
 use byteorder::{ByteOrder, LittleEndian};
-use plc_base::{Eui, FrameBuf, Short};
+use plc_base::{Eui, FrameBuf, KeyIndex, Short};
 
 // The first octet of the frame control.
 fn low_control(sealed: bool, ack: bool) -> u8
@@ -73,7 +73,7 @@ fn write_sealed(
     to: u16,
     from: Short,
     counter: u32,
-    index: u8,
+    index: KeyIndex,
 )
     requires { out.old ≡ [] }
     ensures spelled { out.new ≡ header (Sealed ack seq pan to from counter index) }
@@ -84,7 +84,7 @@ fn write_sealed(
     push_u16(out, from.number());
     out.push(0x0D);
     push_u32(out, counter);
-    out.push(index);
+    out.push(index.number());
 }
 
 // Writes the header of a frame from a device without a short address.

@@ -22,7 +22,7 @@ use group_keys::RingFault;
 use joining_base::{joining_command, push_down, read_message};
 use joining_messages::{JoinBody, JoinMessage};
 use node_rules::{Accepted, Dropped, Heard, MeterHeard, Way};
-use plc_base::{DatagramBuf, Keeper, LinkCost, Out, Short};
+use plc_base::{DatagramBuf, Keeper, KeyIndex, LinkCost, Out, Short};
 
 // Whether two sessions run alike.
 fn same_course(a: Course, b: Course) -> bool
@@ -108,10 +108,9 @@ impl<K: Keeper + Drop> Meter<K> {
     }
 
     // Another key seals from now on.
-    fn activated(&mut self, index: u8) -> Result<MeterHeard<'static>, Dropped>
+    fn activated(&mut self, index: KeyIndex) -> Result<MeterHeard<'static>, Dropped>
         requires running { IsSome self.old.station.memory }
         requires agrees { Agrees self.old.station }
-        requires index { index ≤ 1 }
         ensures carries { IfSome (node_of self.old).memory (λ m. Carries (node_of self.old)
             (meters.activated m index) result nothing (node_of self.new)) }
         ensures agrees { Agrees self.new.station }

@@ -2,7 +2,7 @@
 ghost use Rattle.std.specs.Prelude.{◌≡◌, ◌<◌, ◌++◌, ◌∷◌, [], length};
 
 use arrayvec::ArrayVec;
-use plc_base::{Key, Short};
+use plc_base::{Key, KeyIndex, Short};
 use std::marker::Model;
 
 /// The rank of an address, and the next hop where the route to it is valid.
@@ -131,7 +131,7 @@ pub struct Shown {
     /// Its short address, None where it is not joined.
     pub address: Option<Short>,
     /// The index of the key that seals, None where it is not joined.
-    pub active: Option<u8>,
+    pub active: Option<KeyIndex>,
     /// The counter of the next sealed frame.
     pub next_counter: u32,
     /// The own number that was given out last.

@@ -2,7 +2,7 @@
 ghost use Rattle.std.specs.Prelude.{◌≡◌, ◌≤◌, true, is_some, Some};
 ghost use Rattle.plc_base.specs.Grant.{key_at, keyed};
 
-use crate::{Key, Short};
+use crate::{Key, KeyIndex, Short};
 use std::marker::Model;
 
 /// The grant of a joining: the node's short address and the group keys (ITU-T G.9903, joining).
@@ -13,7 +13,7 @@ pub struct Grant {
     /// The short address of the node.
     pub address: Short,
     /// The index of the key that seals.
-    pub active: u8,
+    pub active: KeyIndex,
     /// The group key at index 0 and the one at index 1.
     pub keys: [Option<Key>; 2],
 }
@@ -37,11 +37,10 @@ impl Model for Grant {
 
 impl Grant {
     /// The key at an index, 0 or 1.
-    pub fn key(&self, index: u8) -> Option<Key>
-        requires { index ≤ 1 }
+    pub fn key(&self, index: KeyIndex) -> Option<Key>
         ensures { result ≡ key_at self.now index }
     {
-        self.keys[usize::from(index)]
+        self.keys[usize::from(index.number())]
     }
 
     /// The key that seals: the one at the active index.
@@ -52,11 +51,10 @@ impl Grant {
     }
 
     /// The grant with a key at an index, 0 or 1.
-    pub fn with_key(&self, index: u8, key: &Key) -> Grant
-        requires { index ≤ 1 }
+    pub fn with_key(&self, index: KeyIndex, key: &Key) -> Grant
         ensures { result ≡ keyed self.now index key.now }
     {
-        let keys = if index == 0 {
+        let keys = if index.number() == 0 {
             [Some(*key), self.keys[1]]
         } else {
             [self.keys[0], Some(*key)]
@@ -69,8 +67,7 @@ impl Grant {
     }
 
     /// The grant whose active key is the one at an index, 0 or 1, where a key is held.
-    pub fn with_active(&self, index: u8) -> Grant
-        requires index { index ≤ 1 }
+    pub fn with_active(&self, index: KeyIndex) -> Grant
         requires held { is_some (key_at self.now index) ≡ true }
         ensures { result ≡ record self.now { active = index } }
     {

@@ -32,6 +32,7 @@ mod fields;
 mod grant;
 mod keeper;
 mod key;
+mod key_index;
 pub mod laws;
 mod limits;
 mod link_cost;
@@ -54,6 +55,7 @@ pub use fields::{
 pub use grant::Grant;
 pub use keeper::{BadStore, Cut, Keeper};
 pub use key::{Key, Rand};
+pub use key_index::KeyIndex;
 pub use limits::{GREATEST_COUNTER, LONGEST_DATAGRAM, LONGEST_FRAME, MOST_FRAMES};
 pub use link_cost::LinkCost;
 pub use mem_keeper::MemKeeper;

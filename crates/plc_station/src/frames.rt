@@ -16,7 +16,7 @@ use aes_modes::Aes;
 use frame_counters::PeerFault;
 use mac_frames::{MacHead, RawFrame, open_frame, read_frame};
 use node_rules::{Accepted, FrameRef, FrameRefusal, Path};
-use plc_base::{FrameBuf, Keeper, PAN, Short, TO_ALL};
+use plc_base::{FrameBuf, Keeper, KeyIndex, PAN, Short, TO_ALL};
 
 // Octets, kept in a buffer that is lent.
 fn held<'a>(octets: &[u8], buffer: &'a mut FrameBuf) -> FrameRef<'a>
@@ -104,13 +104,12 @@ impl<K: Keeper + Drop> Station<K> {
         to: u16,
         from: Short,
         counter: u32,
-        index: u8,
+        index: KeyIndex,
         payload: &'a mut FrameBuf,
     ) -> Result<Accepted<'a>, FrameRefusal>
         requires running { IsSome self.old.memory }
         requires agrees { Agrees self.old }
         requires sealed { IsSealed raw.now.head }
-        requires index { index ≤ 1 }
         requires frame { Frame raw.now.head raw.now.body.now (raw.now.header.now ++ raw.now.body.now) }
         ensures carries { IfSome self.old.memory (λ l. Carries self.old
             (accepting.with_key l

@@ -8,7 +8,7 @@ ghost use Rattle.node_rules.specs.Agreement.{Agrees};
 
 use crate::station::Station;
 use group_keys::RingFault;
-use plc_base::{Grant, Keeper, Key};
+use plc_base::{Grant, Keeper, Key, KeyIndex};
 
 impl<K: Keeper + Drop> Station<K> {
     /// Keeps a grant as its ring. Store, after which it is halted.
@@ -35,10 +35,9 @@ impl<K: Keeper + Drop> Station<K> {
     }
 
     /// Keeps a key at an index of its ring. Store, after which it is halted.
-    pub fn put_key(&mut self, index: u8, key: &Key) -> Result<(), RingFault>
+    pub fn put_key(&mut self, index: KeyIndex, key: &Key) -> Result<(), RingFault>
         requires running { IsSome self.old.memory }
         requires agrees { Agrees self.old }
-        requires index { index ≤ 1 }
         requires joined { IfSome self.old.memory (λ l. IsSome l.ring) }
         ensures carries { IfSome self.old.memory
             (λ l. Carries self.old (calls.put_key l index key.now) result nothing self.new) }
@@ -63,10 +62,9 @@ impl<K: Keeper + Drop> Station<K> {
     }
 
     // Makes the key at an index the one that seals.
-    fn set_active(&mut self, index: u8) -> Result<(), RingFault>
+    fn set_active(&mut self, index: KeyIndex) -> Result<(), RingFault>
         requires running { IsSome self.old.memory }
         requires agrees { Agrees self.old }
-        requires index { index ≤ 1 }
         requires held { IfSome self.old.memory (λ l. is_some (ring.key_in_ring l.ring index) ≡ true) }
         ensures carries { IfSome self.old.memory
             (λ l. Carries self.old
@@ -92,10 +90,9 @@ impl<K: Keeper + Drop> Station<K> {
     }
 
     /// Seals with the key at an index from now on. NotHeld, where no key is there; Store, after which it is halted.
-    pub fn activate(&mut self, index: u8) -> Result<(), RingFault>
+    pub fn activate(&mut self, index: KeyIndex) -> Result<(), RingFault>
         requires running { IsSome self.old.memory }
         requires agrees { Agrees self.old }
-        requires index { index ≤ 1 }
         ensures carries { IfSome self.old.memory
             (λ l. Carries self.old (calls.activate l index) result nothing self.new) }
         // Whatever became of the put, the ring that the records give is the one before or the new one.

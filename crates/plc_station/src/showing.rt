@@ -14,7 +14,7 @@ use crate::station::Station;
 use frame_counters::PeerMarks;
 use group_keys::KeyRing;
 use node_rules::{Shown, ShownPeer, ShownPeers, ShownRoute, ShownRoutes};
-use plc_base::{Eui, Keeper, Short};
+use plc_base::{Eui, Keeper, KeyIndex, Short};
 use routing_set::RoutingSet;
 
 // The next hop of the valid route to an address, as a number.
@@ -109,8 +109,8 @@ impl<K: Keeper + Drop> Station<K> {
         out.active = self.parts.ring.active();
         out.next_counter = u32::MAX - self.parts.counter.left();
         out.last_number = self.parts.own_number.last();
-        out.key0 = self.parts.ring.key(0);
-        out.key1 = self.parts.ring.key(1);
+        out.key0 = self.parts.ring.key(KeyIndex::first());
+        out.key1 = self.parts.ring.key(KeyIndex::second());
         show_routes(&self.parts.routing, &mut out.routes);
         out.floors = self.parts.routing.floors();
         show_peers(&self.parts.marks, &mut out.peers);

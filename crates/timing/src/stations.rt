@@ -2,7 +2,7 @@
 //! on.
 use anyhow::{Context, bail};
 use node_rules::Heard;
-use plc_base::{DatagramBuf, Eui, FrameBuf, Grant, Key, LinkCost, MemKeeper, Out, Short};
+use plc_base::{DatagramBuf, Eui, FrameBuf, Grant, Key, KeyIndex, LinkCost, MemKeeper, Out, Short};
 use plc_station::Station;
 use std::alloc::Global;
 use std::marker::Model;
@@ -50,7 +50,7 @@ impl Node {
         };
         let grant = Grant {
             address,
-            active: 0,
+            active: KeyIndex::first(),
             keys: [Some(KEY), None],
         };
         if node.station.halted() {

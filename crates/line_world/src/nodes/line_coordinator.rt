@@ -29,7 +29,9 @@ use node_rules::{
     Accepted, CoordinatorRefusal, FrameRefusal, PresetFault, RandomFault, SendRefusal, SentHow,
     Shown,
 };
-use plc_base::{DatagramBuf, Eui, FrameBuf, Grant, Key, LinkCost, MemKeeper, Out, Rand, Short};
+use plc_base::{
+    DatagramBuf, Eui, FrameBuf, Grant, Key, KeyIndex, LinkCost, MemKeeper, Out, Rand, Short,
+};
 use std::alloc::{AllocError, Global};
 use std::marker::Model;
 
@@ -203,8 +205,7 @@ impl LineCoordinator {
     }
 
     /// Keeps a group key at an index, 0 or 1, which seals only once it is activated.
-    pub fn rekey(&mut self, index: u8, key: &Key) -> Result<(), CoordinatorRefusal>
-        requires index { index ≤ 1 }
+    pub fn rekey(&mut self, index: KeyIndex, key: &Key) -> Result<(), CoordinatorRefusal>
         ensures { Took (acts self.old (Err CoordinatorRefusal.Halted)
             (λ m. rules.rekey m index key.now)) result nothing self.new }
     {
@@ -222,8 +223,7 @@ impl LineCoordinator {
     }
 
     /// Seals with the key at an index, 0 or 1, from now on.
-    pub fn activate_self(&mut self, index: u8) -> Result<(), CoordinatorRefusal>
-        requires index { index ≤ 1 }
+    pub fn activate_self(&mut self, index: KeyIndex) -> Result<(), CoordinatorRefusal>
         ensures { Took (acts self.old (Err CoordinatorRefusal.Halted)
             (λ m. rules.activate_self m index)) result nothing self.new }
     {
@@ -235,11 +235,10 @@ impl LineCoordinator {
     pub fn activate(
         &mut self,
         eui: Eui,
-        index: u8,
+        index: KeyIndex,
         now: u64,
         out: &mut Out,
     ) -> Result<(), CoordinatorRefusal>
-        requires index { index ≤ 1 }
         ensures { Took (acts self.old (Err CoordinatorRefusal.Halted)
             (λ m. rules.activate m eui index now)) result out.new self.new }
     {

@@ -7,7 +7,7 @@ ghost use Rattle.line_world.specs.Doings.{Did};
 
 use crate::nodes::Nodes;
 use node_rules::CoordinatorRefusal;
-use plc_base::{Eui, Grant, Key, Out, Short};
+use plc_base::{Eui, Grant, Key, KeyIndex, Out, Short};
 
 impl Nodes {
     /// The coordinator allows a meter with this pair key, and answers its address.
@@ -37,9 +37,8 @@ impl Nodes {
     }
 
     /// The coordinator keeps a key at an index, 0 or 1, for the grants from now on.
-    pub fn rekey(&mut self, index: u8, key: &Key) -> Result<(), CoordinatorRefusal>
+    pub fn rekey(&mut self, index: KeyIndex, key: &Key) -> Result<(), CoordinatorRefusal>
         requires begun { 0 < length self.old }
-        requires index { index ≤ 1 }
         ensures { IfSome (slice_get self.old 0) (λ c. Did
             (acts c (Err CoordinatorRefusal.Halted) (λ m. rules.rekey m index key.now))
             self.old 0 result nothing self.new) }
@@ -64,9 +63,8 @@ impl Nodes {
     }
 
     /// The coordinator seals with the key at an index, 0 or 1, from now on.
-    pub fn activate_self(&mut self, index: u8) -> Result<(), CoordinatorRefusal>
+    pub fn activate_self(&mut self, index: KeyIndex) -> Result<(), CoordinatorRefusal>
         requires begun { 0 < length self.old }
-        requires index { index ≤ 1 }
         ensures { IfSome (slice_get self.old 0) (λ c. Did
             (acts c (Err CoordinatorRefusal.Halted) (λ m. rules.activate_self m index))
             self.old 0 result nothing self.new) }
@@ -81,12 +79,11 @@ impl Nodes {
     pub fn activate(
         &mut self,
         eui: Eui,
-        index: u8,
+        index: KeyIndex,
         now: u64,
         out: &mut Out,
     ) -> Result<(), CoordinatorRefusal>
         requires begun { 0 < length self.old }
-        requires index { index ≤ 1 }
         ensures { IfSome (slice_get self.old 0) (λ c. Did
             (acts c (Err CoordinatorRefusal.Halted) (λ m. rules.activate m eui index now))
             self.old 0 result out.new self.new) }
