@@ -12,7 +12,7 @@ ghost use Rattle.plc_base.specs.declared.limits.TheConstants.{MOST_FRAMES};
 
 use joining_messages::{JoinMessage, read_join, write_join};
 use mac_frames::{MacHead, write_header};
-use plc_base::{Eui, FrameBuf, Octets, Out, PAN, Short};
+use plc_base::{Destination, Eui, FrameBuf, Octets, Out, PAN, Short};
 
 /// The message that octets are, None where they are none.
 pub fn read_message(octets: &[u8]) -> Option<JoinMessage>
@@ -81,7 +81,7 @@ pub fn push_up(message: &JoinMessage, agent: Short, from: Eui, out: &mut Out)
         version: 1,
         seq: 0,
         pan: PAN,
-        to: agent.number(),
+        to: Destination::one(agent),
         from,
     };
     push_plain(&head, message, out);

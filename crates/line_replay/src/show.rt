@@ -88,7 +88,7 @@ fn head_text(alloc: Global, head: &MacHead, body: &[u8]) -> Result<String, Alloc
             index,
             ..
         } => {
-            let to = short_word(alloc, *to)?;
+            let to = short_word(alloc, to.number())?;
             let from = short_word(alloc, from.number())?;
             let index = index.number();
             let length = body.len();
@@ -97,7 +97,7 @@ fn head_text(alloc: Global, head: &MacHead, body: &[u8]) -> Result<String, Alloc
             )
         }
         MacHead::Up { to, from, .. } => {
-            let to = short_word(alloc, *to)?;
+            let to = short_word(alloc, to.number())?;
             let from = hex::encode(alloc, from.0.as_slice())?;
             plain_text(alloc, to.as_str(), from.as_str(), body)
         }

@@ -1,5 +1,5 @@
 //! The fields of a MAC header.
-use plc_base::{Eui, KeyIndex, Short};
+use plc_base::{Destination, Eui, KeyIndex, Short};
 
 /// The fields of a MAC header, by kind of frame (IEEE 802.15.4-2006, section 7.2).
 ///
@@ -14,7 +14,7 @@ pub enum MacHead {
         seq: u8,
         pan: u16,
         /// The target's short address.
-        to: u16,
+        to: Destination,
         /// The sender's short address.
         from: Short,
         /// The frame counter: one for each frame of a sender under a key.
@@ -30,7 +30,7 @@ pub enum MacHead {
         seq: u8,
         pan: u16,
         /// The target's short address.
-        to: u16,
+        to: Destination,
         /// The sender.
         from: Eui,
     },

@@ -13,7 +13,7 @@ use crate::control::{FrameKind, high_of, low_of};
 use crate::fault::{FrameFault, FrameFaultKind};
 use crate::head::MacHead;
 use plc_base::{
-    Eui, Fault, KeyIndex, LONGEST_FRAME, NO_ADDRESS, Short, little_four_at, little_two_at,
+    Destination, Eui, Fault, KeyIndex, LONGEST_FRAME, Short, little_four_at, little_two_at,
     octet_at, reversed_at,
 };
 
@@ -29,17 +29,16 @@ pub struct RawFrame<'a> {
 }
 
 #[tactic(auto, unfolding(crate::specs::Faults::target_fault, plc_base::specs::Faults::cut_off))]
-fn target_at(octets: &[u8], at: usize) -> Result<u16, FrameFault>
+fn target_at(octets: &[u8], at: usize) -> Result<Destination, FrameFault>
     requires { at ≤ 100 }
     ensures { ReadsUnless (target_fault at octets.now) result
         (λ x. IsTarget x × (at + 2 ≤ length octets.now)
         × (after at octets.now ≡ little_bytes 2 x ++ after (at + 2) octets.now)) }
 {
-    let to = little_two_at(octets, at)?;
-    if to == NO_ADDRESS {
-        return Err(Fault::at(FrameFaultKind::Address, at));
+    match Destination::new(little_two_at(octets, at)?) {
+        None => Err(Fault::at(FrameFaultKind::Address, at)),
+        Some(to) => Ok(to),
     }
-    Ok(to)
 }
 
 #[tactic(auto, unfolding(crate::specs::Faults::sender_fault, plc_base::specs::Faults::cut_off))]

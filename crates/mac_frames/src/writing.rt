@@ -2,13 +2,13 @@
 ghost use Rattle.std.specs.Prelude.{◌≡◌, ◌≤◌, ◌+◌, ◌++◌, ◌∷◌, ℕ, List, [], length, reverse};
 ghost use Rattle.byteorder.specs.Endian.{little_bytes};
 ghost use Rattle.plc_base.specs.Addresses.{IsAddress};
-ghost use Rattle.mac_frames.specs.Grammar.{Frame, IsAllowed, IsEightOctets, IsEui, IsHead, IsPlain, header, low_control};
+ghost use Rattle.mac_frames.specs.Grammar.{IsTarget, Frame, IsAllowed, IsEightOctets, IsEui, IsHead, IsPlain, header, low_control};
 ghost use Rattle.mac_frames.specs.declared.head.MacHead.TheVariants.{Sealed, Up, Down};
 ghost use Rattle.plc_base.specs.declared.limits.TheConstants.{LONGEST_FRAME};
 
 use crate::head::MacHead;
 use byteorder::{ByteOrder, LittleEndian};
-use plc_base::{Eui, FrameBuf, KeyIndex, Short};
+use plc_base::{Destination, Eui, FrameBuf, KeyIndex, Short};
 
 // The first octet of the frame control.
 fn low_control(sealed: bool, ack: bool) -> u8
@@ -70,17 +70,18 @@ fn write_sealed(
     ack: bool,
     seq: u8,
     pan: u16,
-    to: u16,
+    to: Destination,
     from: Short,
     counter: u32,
     index: KeyIndex,
 )
     requires { out.old ≡ [] }
     ensures spelled { out.new ≡ header (Sealed ack seq pan to from counter index) }
+    ensures target { IsTarget to }
     ensures address { IsAddress from }
 {
     push_front(out, low_control(true, ack), 0x98, seq, pan);
-    push_u16(out, to);
+    push_u16(out, to.number());
     push_u16(out, from.number());
     out.push(0x0D);
     push_u32(out, counter);
@@ -88,15 +89,24 @@ fn write_sealed(
 }
 
 // Writes the header of a frame from a device without a short address.
-fn write_up(out: &mut FrameBuf, ack: bool, version: u8, seq: u8, pan: u16, to: u16, from: &Eui)
+fn write_up(
+    out: &mut FrameBuf,
+    ack: bool,
+    version: u8,
+    seq: u8,
+    pan: u16,
+    to: Destination,
+    from: &Eui,
+)
     requires empty { out.old ≡ [] }
     requires version { version ≤ 1 }
     ensures spelled { out.new ≡ header (Up ack version seq pan to from.now) }
+    ensures target { IsTarget to }
     ensures octets { IsEui from.now }
 {
     let high = 0xC8 + 0x10 * version;
     push_front(out, low_control(false, ack), high, seq, pan);
-    push_u16(out, to);
+    push_u16(out, to.number());
     push_reversed(out, &from.0);
 }
 

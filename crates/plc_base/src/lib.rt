@@ -28,6 +28,7 @@
 #![tactic(auto)]
 
 mod address;
+mod destination;
 mod fields;
 mod grant;
 mod keeper;
@@ -48,6 +49,7 @@ mod tags;
 mod times;
 
 pub use address::{Eui, NO_ADDRESS, PAN, Short, TO_ALL};
+pub use destination::Destination;
 pub use fields::{
     Ended, Fault, FaultKind, address_at, four_at, four_octets, little_four_at, little_two_at,
     octet_at, octets_at, rest_at, reversed_at, two_at, two_octets,

@@ -17,7 +17,7 @@ use crate::sealing::seal_request;
 use crate::station::Station;
 use mesh_header::Unit;
 use node_rules::{SendRefusal, SentHow};
-use plc_base::{Grant, Keeper, OctetRef, Out, Short};
+use plc_base::{Destination, Grant, Keeper, OctetRef, Out, Short};
 use waiting_bodies::own_mesh;
 
 // The unit of a command, whose code stands first.
@@ -58,7 +58,7 @@ impl<K: Keeper + Drop> Station<K> {
         ensures replied { self.new.replied ≡ self.old.replied }
     {
         let unit = command_unit(grant, to, octets);
-        match self.send_unit(grant, hop.number(), &unit, 0, out) {
+        match self.send_unit(grant, Destination::one(hop), &unit, 0, out) {
             Ok(()) => Ok(SentHow::Sent),
             Err(_) => Err(SendRefusal::Store),
         }

@@ -16,7 +16,7 @@ use aes_modes::Aes;
 use frame_counters::PeerFault;
 use mac_frames::{MacHead, RawFrame, open_frame, read_frame};
 use node_rules::{Accepted, FrameRef, FrameRefusal, Path};
-use plc_base::{FrameBuf, Keeper, KeyIndex, PAN, Short, TO_ALL};
+use plc_base::{Destination, FrameBuf, Keeper, KeyIndex, PAN, Short};
 
 // Octets, kept in a buffer that is lent.
 fn held<'a>(octets: &[u8], buffer: &'a mut FrameBuf) -> FrameRef<'a>
@@ -56,10 +56,12 @@ impl<K: Keeper + Drop> Station<K> {
     {
         match *head {
             MacHead::Sealed { pan, to, from, .. } => {
-                pan == PAN && (self.is_own(to) || to == TO_ALL) && !self.is_own(from.number())
+                pan == PAN
+                    && (self.is_own(to.number()) || to.is_all())
+                    && !self.is_own(from.number())
             }
             MacHead::Up { pan, to, from, .. } => {
-                pan == PAN && self.is_own(to) && self.eui.number() != from.number()
+                pan == PAN && self.is_own(to.number()) && self.eui.number() != from.number()
             }
             MacHead::Down { pan, to, from, .. } => {
                 pan == PAN && self.eui.number() == to.number() && !self.is_own(from.number())
@@ -101,7 +103,7 @@ impl<K: Keeper + Drop> Station<K> {
     fn accept_sealed<'a>(
         &mut self,
         raw: &RawFrame<'_>,
-        to: u16,
+        to: Destination,
         from: Short,
         counter: u32,
         index: KeyIndex,
@@ -128,7 +130,7 @@ impl<K: Keeper + Drop> Station<K> {
         };
         let path = Path::Sealed {
             from,
-            to_all: to == TO_ALL,
+            to_all: to.is_all(),
             key,
         };
         self.admit(from, counter, path, payload)

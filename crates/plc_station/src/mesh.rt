@@ -15,7 +15,6 @@ ghost use Rattle.node_rules.specs.Carrying.{Carries, nothing};
 ghost use Rattle.plc_station.specs.Hears.{Hears};
 ghost use Rattle.node_rules.specs.Agreement.{Agrees};
 ghost use Rattle.group_keys.specs.KeyRing as ring;
-ghost use Rattle.plc_base.specs.declared.address.TheConstants.{NO_ADDRESS};
 ghost use Rattle.plc_base.specs.declared.limits.TheConstants.{GREATEST_COUNTER};
 
 use crate::station::Station;
@@ -23,7 +22,7 @@ use aes_modes::Aes;
 use loadng_messages::{Message, MessageBuf, write_message};
 use mesh_header::{Mesh, Unit};
 use node_rules::{Dropped, Heard, Way};
-use plc_base::{DatagramBuf, Grant, Keeper, OctetRef, Out, Short};
+use plc_base::{DatagramBuf, Destination, Grant, Keeper, OctetRef, Out, Short};
 use waiting_bodies::seal;
 
 // The unit of a route error.
@@ -76,7 +75,7 @@ impl<K: Keeper + Drop> Station<K> {
     pub(crate) fn send_unit(
         &mut self,
         grant: &Grant,
-        to: u16,
+        to: Destination,
         unit: &Unit<'_>,
         note: u32,
         out: &mut Out,
@@ -84,7 +83,6 @@ impl<K: Keeper + Drop> Station<K> {
         requires running { IsSome self.old.memory }
         requires agrees { Agrees self.old }
         requires ring { IfSome self.old.memory (λ l. l.ring ≡ Some grant.now) }
-        requires target { to ≢ NO_ADDRESS }
         requires allowed { IsAllowed unit.now }
         requires fits { spelled_length unit.now ≤ 381 }
         requires left { IfSome self.old.memory (λ l. l.counter.next + 1 ≤ GREATEST_COUNTER) }
@@ -135,7 +133,7 @@ impl<K: Keeper + Drop> Station<K> {
         }
         let mut body = MessageBuf::new();
         let unit = error_unit(mesh.to, mesh.origin, &mut body);
-        match self.send_unit(grant, hop.number(), &unit, 0, out) {
+        match self.send_unit(grant, Destination::one(hop), &unit, 0, out) {
             Ok(()) => Ok(Heard::Reported),
             Err(reason) => Err(reason),
         }
@@ -172,7 +170,7 @@ impl<K: Keeper + Drop> Station<K> {
         if left < 1 {
             return Err(Dropped::CounterSpent);
         }
-        match self.send_unit(grant, hop.number(), unit, note, out) {
+        match self.send_unit(grant, Destination::one(hop), unit, note, out) {
             Ok(()) => Ok(Heard::Relayed),
             Err(reason) => Err(reason),
         }

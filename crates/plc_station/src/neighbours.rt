@@ -6,24 +6,22 @@ ghost use Rattle.node_rules.specs.Drafts as drafts;
 ghost use Rattle.node_rules.specs.Neighbours as local;
 ghost use Rattle.node_rules.specs.Neighbours.{CarriesAfter};
 ghost use Rattle.node_rules.specs.Agreement.{Agrees};
-ghost use Rattle.plc_base.specs.declared.address.TheConstants.{NO_ADDRESS};
 ghost use Rattle.plc_base.specs.declared.limits.TheConstants.{GREATEST_COUNTER, MOST_FRAMES};
 
 use crate::station::Station;
 use aes_modes::Aes;
 use mesh_header::Unit;
 use node_rules::LocalRefusal;
-use plc_base::{Grant, Keeper, OctetRef, Out, Short, TO_ALL};
+use plc_base::{Destination, Grant, Keeper, OctetRef, Out, Short};
 use waiting_bodies::seal;
 
-// The address of a neighbour, or that which all hear.
-fn address_or_all(to: Option<Short>) -> u16
-    ensures address { result ≡ unwrap_or to to_all }
-    ensures target { result ≢ NO_ADDRESS }
+// A neighbour, or all.
+fn destination(to: Option<Short>) -> Destination
+    ensures { result ≡ unwrap_or to to_all }
 {
     match to {
-        Some(to) => to.number(),
-        None => TO_ALL,
+        Some(to) => Destination::one(to),
+        None => Destination::all(),
     }
 }
 
@@ -33,7 +31,7 @@ impl<K: Keeper + Drop> Station<K> {
         &mut self,
         grant: &Grant,
         code: u8,
-        to: u16,
+        to: Destination,
         body: &[u8],
         out: &mut Out,
     ) -> Result<(), LocalRefusal>
@@ -44,7 +42,6 @@ impl<K: Keeper + Drop> Station<K> {
         requires code { 1 ≤ code }
         requires last_code { code ≤ 5 }
         requires fits { length body.now ≤ 379 }
-        requires target { to ≢ NO_ADDRESS }
         requires room { length out.old.frames < MOST_FRAMES }
         ensures carries { IfSome self.old.memory
             (λ l. CarriesAfter self.old (drafts.sealing drafts.alone local.local_ends
@@ -96,6 +93,6 @@ impl<K: Keeper + Drop> Station<K> {
         if left < 1 {
             return Err(LocalRefusal::CounterSpent);
         }
-        self.local_goes(&grant, code, address_or_all(to), body, out)
+        self.local_goes(&grant, code, destination(to), body, out)
     }
 }

@@ -10,7 +10,6 @@ ghost use Rattle.node_rules.specs.Carrying.{Carries, nothing};
 ghost use Rattle.node_rules.specs.Agreement.{Agrees};
 ghost use Rattle.group_keys.specs.KeyRing as ring;
 ghost use Rattle.node_rules.specs.Frames.{to_all};
-ghost use Rattle.plc_base.specs.declared.address.TheConstants.{NO_ADDRESS};
 ghost use Rattle.plc_base.specs.declared.limits.TheConstants.{GREATEST_COUNTER};
 
 use crate::sealing::seal_message;
@@ -18,7 +17,7 @@ use crate::station::Station;
 use aes_modes::Aes;
 use loadng_messages::Message;
 use node_rules::Dropped;
-use plc_base::{Grant, Keeper, Out, Short, TO_ALL};
+use plc_base::{Destination, Grant, Keeper, Out, Short};
 use routing_set::Rank;
 
 impl<K: Keeper + Drop> Station<K> {
@@ -28,7 +27,7 @@ impl<K: Keeper + Drop> Station<K> {
         &mut self,
         grant: &Grant,
         by: Short,
-        to: u16,
+        to: Destination,
         message: &Message,
         origin: Short,
         rank: Rank,
@@ -38,7 +37,6 @@ impl<K: Keeper + Drop> Station<K> {
         requires running { IsSome self.old.memory }
         requires agrees { Agrees self.old }
         requires ring { IfSome self.old.memory (λ l. l.ring ≡ Some grant.now) }
-        requires target { to ≢ NO_ADDRESS }
         requires allowed { messages.IsAllowed message.now }
         requires better { IfSome self.old.memory (λ l. routing.is_better l.routing origin rank ≡ true) }
         requires room { IfSome self.old.memory (λ l. routing.is_full l.routing origin now ≡ false) }
@@ -108,6 +106,15 @@ impl<K: Keeper + Drop> Station<K> {
             origin,
             dest,
         };
-        self.relay(grant, by, TO_ALL, &request, origin, rank, now, out)
+        self.relay(
+            grant,
+            by,
+            Destination::all(),
+            &request,
+            origin,
+            rank,
+            now,
+            out,
+        )
     }
 }

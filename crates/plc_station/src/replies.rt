@@ -14,7 +14,7 @@ ghost use Rattle.plc_base.specs.declared.limits.TheConstants.{GREATEST_COUNTER};
 use crate::station::Station;
 use loadng_messages::Message;
 use node_rules::{Dropped, Heard, Reply};
-use plc_base::{Grant, Keeper, Out, Short};
+use plc_base::{Destination, Grant, Keeper, Out, Short};
 use routing_set::Rank;
 
 impl<K: Keeper + Drop> Station<K> {
@@ -54,7 +54,16 @@ impl<K: Keeper + Drop> Station<K> {
             origin,
             to,
         };
-        self.relay(grant, by, hop.number(), &reply, origin, rank, now, out)?;
+        self.relay(
+            grant,
+            by,
+            Destination::one(hop),
+            &reply,
+            origin,
+            rank,
+            now,
+            out,
+        )?;
         self.replied = Some(Reply {
             to: hop,
             number: rank.number,

@@ -14,7 +14,7 @@ use crate::station::Station;
 use aes_modes::Aes;
 use loadng_messages::Message;
 use node_rules::{Dropped, Heard};
-use plc_base::{Grant, Keeper, Out, Short};
+use plc_base::{Destination, Grant, Keeper, Out, Short};
 use routing_set::RoutingSet;
 
 // The next hop to an address once the route to the lost one has ended where it goes by a neighbour.
@@ -84,7 +84,15 @@ impl<K: Keeper + Drop> Station<K> {
         let error = Message::Rerr { lost, to };
         let key = grant.sealing_key();
         let aes = Aes::new(&key);
-        seal_message(grant, &key, &aes, counter, hop.number(), &error, out);
+        seal_message(
+            grant,
+            &key,
+            &aes,
+            counter,
+            Destination::one(hop),
+            &error,
+            out,
+        );
         self.halted = false;
         Ok(Heard::Broken)
     }

@@ -16,7 +16,7 @@ use crate::station::Station;
 use aes_modes::Aes;
 use loadng_messages::Message;
 use node_rules::{Dropped, Heard, Reply};
-use plc_base::{Grant, Keeper, Out, Short};
+use plc_base::{Destination, Grant, Keeper, Out, Short};
 use routing_set::Rank;
 
 impl<K: Keeper + Drop> Station<K> {
@@ -75,7 +75,15 @@ impl<K: Keeper + Drop> Station<K> {
             origin: grant.address,
             to: origin,
         };
-        seal_message(grant, &key, &aes, first + units, by.number(), &reply, out);
+        seal_message(
+            grant,
+            &key,
+            &aes,
+            first + units,
+            Destination::one(by),
+            &reply,
+            out,
+        );
         self.bodies.drop_for(origin);
         self.replied = Some(Reply {
             to: by,

@@ -10,13 +10,12 @@ ghost use Rattle.node_rules.specs.Memory.{Datagram};
 ghost use Rattle.node_rules.specs.Drafts as drafts;
 ghost use Rattle.node_rules.specs.Carrying.{nothing};
 ghost use Rattle.node_rules.specs.Frames.{to_all};
-ghost use Rattle.plc_base.specs.declared.address.TheConstants.{NO_ADDRESS};
 ghost use Rattle.plc_base.specs.declared.limits.TheConstants.{GREATEST_COUNTER, LONGEST_DATAGRAM, MOST_FRAMES};
 
 use aes_modes::Aes;
 use loadng_messages::{Message, MessageBuf, write_message};
 use mesh_header::Unit;
-use plc_base::{Grant, Key, OctetRef, Out, Short, TO_ALL};
+use plc_base::{Destination, Grant, Key, OctetRef, Out, Short};
 use waiting_bodies::{seal, seal_load};
 
 // Seals a datagram, whole or in pieces.
@@ -60,13 +59,12 @@ pub(crate) fn seal_message(
     key: &Key,
     aes: &Aes,
     counter: u32,
-    to: u16,
+    to: Destination,
     message: &Message,
     out: &mut Out,
 )
     requires key { drafts.sealing_key grant.now ≡ Some key.now }
     requires aes { aes.now ≡ key.now.0 }
-    requires target { to ≢ NO_ADDRESS }
     requires allowed { messages.IsAllowed message.now }
     requires room { length out.old.frames < MOST_FRAMES }
     ensures message { messages.IsMessage message.now }
@@ -107,5 +105,13 @@ pub(crate) fn seal_request(grant: &Grant, counter: u32, number: u16, dest: Short
     };
     let key = grant.sealing_key();
     let aes = Aes::new(&key);
-    seal_message(grant, &key, &aes, counter, TO_ALL, &message, out);
+    seal_message(
+        grant,
+        &key,
+        &aes,
+        counter,
+        Destination::all(),
+        &message,
+        out,
+    );
 }

@@ -5,7 +5,6 @@ ghost use Rattle.mesh_header.specs.Grammar.{IsAllowed, spelled_length};
 ghost use Rattle.fragment_buffers.specs.Cutting.{pieces_of, cut};
 ghost use Rattle.fragment_buffers.specs.Loads as loads;
 ghost use Rattle.waiting_bodies.specs.Frames.{unit_frame, frames_of, with_frames};
-ghost use Rattle.plc_base.specs.declared.address.TheConstants.{NO_ADDRESS};
 ghost use Rattle.plc_base.specs.declared.limits.TheConstants.{GREATEST_COUNTER, LONGEST_DATAGRAM, MOST_FRAMES};
 ghost use Rattle.waiting_bodies.specs.declared.bodies.TheConstants.{LONGEST_COMMAND};
 
@@ -13,24 +12,21 @@ use aes_modes::Aes;
 use fragment_buffers::{cut_piece, pieces};
 use mac_frames::{MacHead, seal_written, write_header};
 use mesh_header::{LONGEST_WHOLE, Mesh, Unit, append_unit};
-use plc_base::{Grant, Key, OctetRef, Out, OutFrame, PAN, Short, TO_ALL};
+use plc_base::{Destination, Grant, Key, OctetRef, Out, OutFrame, PAN, Short};
 
 /// Seals a unit under a key, of which `aes` is the schedule, and appends its frame to the others. The frame has the counter, and the
 /// address and the active index of the grant.
-///
-/// `to` is the address of a neighbour, or 0xFFFF for all.
 pub fn seal(
     grant: &Grant,
     key: &Key,
     aes: &Aes,
     counter: u32,
-    to: u16,
+    to: Destination,
     unit: &Unit<'_>,
     note: u32,
     out: &mut Out,
 )
     requires aes { aes.now ≡ key.now.0 }
-    requires target { to ≢ NO_ADDRESS }
     requires allowed { IsAllowed unit.now }
     requires fits { spelled_length unit.now ≤ 381 }
     requires room { length out.old.frames < MOST_FRAMES }
@@ -49,20 +45,19 @@ fn write_frame(
     key: &Key,
     aes: &Aes,
     counter: u32,
-    to: u16,
+    to: Destination,
     unit: &Unit<'_>,
     note: u32,
     frame: &mut OutFrame,
 )
     requires aes { aes.now ≡ key.now.0 }
-    requires target { to ≢ NO_ADDRESS }
     requires allowed { IsAllowed unit.now }
     requires fits { spelled_length unit.now ≤ 381 }
     ensures { frame.new ≡ unit_frame grant.now key.now counter
         (record { to = to; unit = unit.now; note = note }) }
 {
     let head = MacHead::Sealed {
-        ack: to != TO_ALL,
+        ack: !to.is_all(),
         seq: (counter % 256) as u8,
         pan: PAN,
         to,
@@ -121,7 +116,7 @@ fn seal_cut(
             key,
             aes,
             first + u32::from(k),
-            hop.number(),
+            Destination::one(hop),
             &unit,
             note,
             out,
@@ -157,7 +152,16 @@ pub fn seal_load(
             mesh: own_mesh(grant, to),
             body: OctetRef::new(&octets[1..]),
         };
-        seal(grant, key, aes, first, hop.number(), &unit, note, out);
+        seal(
+            grant,
+            key,
+            aes,
+            first,
+            Destination::one(hop),
+            &unit,
+            note,
+            out,
+        );
         return;
     };
     if octets.len() > LONGEST_WHOLE {
@@ -168,5 +172,14 @@ pub fn seal_load(
         mesh: own_mesh(grant, to),
         octets: OctetRef::new(octets),
     };
-    seal(grant, key, aes, first, hop.number(), &unit, note, out);
+    seal(
+        grant,
+        key,
+        aes,
+        first,
+        Destination::one(hop),
+        &unit,
+        note,
+        out,
+    );
 }

@@ -25,7 +25,7 @@ pub loop-k-preserved : goal.loop-k-preserved
 loop-k-preserved c =
     c.seal.ensures
     ∙ (λ i. record {
-      frames = (c.loop-k.invariant i).frames ++ unit_frame c.args.grant.now c.args.key.now (c.args.first + c.from.ensures i) (record { to = c.number.ensures.value i; unit = mesh.Part (c.own_mesh.ensures i) c.cut_piece-piece.result; note = c.args.note }) ∷ [];
+      frames = (c.loop-k.invariant i).frames ++ unit_frame c.args.grant.now c.args.key.now (c.args.first + c.from.ensures i) (record { to = c.one.ensures.value i; unit = mesh.Part (c.own_mesh.ensures i) c.cut_piece-piece.result; note = c.args.note }) ∷ [];
       tags = (c.loop-k.invariant i).tags;
     })
     ∙ ap (λ (frames : List OutFrame). with_frames frames c.args.out.now)

@@ -63,7 +63,7 @@ returns-clause-carries g c =
     rw (← c.self.view_is) (on_memory c.self.inside.halted _ _ (λ running. ended dropped _ _ (tells c.args.by (Rrep (c.self.inside.parts.own_number.last + 1) 0 c.args.grant.now.address c.args.origin) (offers_numbered c.args.grant.now.address c.args.origin c.args.rank c.args.by c.args.now (station_in c.self.inside.parts c.self.inside.bodies))) (tells c.args.by (Rrep (c.self.inside.parts.own_number.last + 1) 0 c.args.grant.now.address c.args.origin) (offers_numbered c.args.grant.now.address c.args.origin c.args.rank c.args.by c.args.now (station_in c.self.inside.parts c.self.inside.bodies))) tt _ _ _ refl (wrote_append _ _ _ _ _ _ c.in-Ok.ensures.store (wrote_one _ _ _ _ c.in-Ok-advance.ensures.store)) count c.in-Ok-reserve.ensures.store
     (c.seal_message.ensures.sent
     ∙ (λ i. record {
-      frames = (c.seal_leaving.ensures i).frames ++ map (spelled network) (sealed_by (Some c.args.grant.now) (c.in-Ok-reserve.first + c.units_for-units.ensures.units c.args.grant.now.address c.args.by i) (record { to = c.number.ensures.value i; unit = Local 1 (messages.spelling (Rrep (c.in-Ok-advance.ensures.number i) 0 (ap (λ (g : Granted). g.address) c.grant.view_is i) c.args.origin)); note = 0 } ∷ []));
+      frames = (c.seal_leaving.ensures i).frames ++ map (spelled network) (sealed_by (Some c.args.grant.now) (c.in-Ok-reserve.first + c.units_for-units.ensures.units c.args.grant.now.address c.args.by i) (record { to = c.one.ensures.value i; unit = Local 1 (messages.spelling (Rrep (c.in-Ok-advance.ensures.number i) 0 (ap (λ (g : Granted). g.address) c.grant.view_is i) c.args.origin)); note = 0 } ∷ []));
       tags = (c.seal_leaving.ensures i).tags;
     })
     ∙ (λ i. record {

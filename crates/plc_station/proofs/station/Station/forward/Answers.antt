@@ -34,11 +34,11 @@ unfolding next_hop
 returns-in-Ok-clause-carries g c =
     rw (← c.self.view_is) (on_memory c.self.inside.halted _ _ (λ running. carried_by _ _ _ _ _ _
     (forwarded (station_in c.self.inside.parts c.self.inside.bodies) c.args.grant.now.address c.args.mesh.now c.args.unit.now c.args.note c.in-Some.hop c.in-Some.ensures (grind (arith, nat_tests, c.if-mesh-lt2.false)) (enough _ _ _ c.left-left.ensures (omega (arith, c.if-left-lt1.false))))
-    (answered dropped _ _ (goes c.in-Some.hop c.args.unit.now c.args.note (empty_draft (station_in c.self.inside.parts c.self.inside.bodies))) _ Relayed _ (rw c.number.ensures.value at (at_some _ _ (station_in c.self.inside.parts c.self.inside.bodies) running (rw (← c.self.view_is) at c.in-Ok.ensures.carries))))))
+    (answered dropped _ _ (goes c.in-Some.hop c.args.unit.now c.args.note (empty_draft (station_in c.self.inside.parts c.self.inside.bodies))) _ Relayed _ (rw c.one.ensures.value at (at_some _ _ (station_in c.self.inside.parts c.self.inside.bodies) running (rw (← c.self.view_is) at c.in-Ok.ensures.carries))))))
 
 pub returns-in-Err-clause-carries : goal.returns-in-Err-clause-carries
 unfolding next_hop
 returns-in-Err-clause-carries g c =
     rw (← c.self.view_is) (on_memory c.self.inside.halted _ _ (λ running. carried_by _ _ _ _ _ _
     (forwarded (station_in c.self.inside.parts c.self.inside.bodies) c.args.grant.now.address c.args.mesh.now c.args.unit.now c.args.note c.in-Some.hop c.in-Some.ensures (grind (arith, nat_tests, c.if-mesh-lt2.false)) (enough _ _ _ c.left-left.ensures (omega (arith, c.if-left-lt1.false))))
-    (failed dropped _ _ (goes c.in-Some.hop c.args.unit.now c.args.note (empty_draft (station_in c.self.inside.parts c.self.inside.bodies))) _ Relayed _ (rw c.number.ensures.value at (at_some _ _ (station_in c.self.inside.parts c.self.inside.bodies) running (rw (← c.self.view_is) at c.in-Err.ensures.carries))))))
+    (failed dropped _ _ (goes c.in-Some.hop c.args.unit.now c.args.note (empty_draft (station_in c.self.inside.parts c.self.inside.bodies))) _ Relayed _ (rw c.one.ensures.value at (at_some _ _ (station_in c.self.inside.parts c.self.inside.bodies) running (rw (← c.self.view_is) at c.in-Err.ensures.carries))))))

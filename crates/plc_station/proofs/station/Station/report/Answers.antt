@@ -36,11 +36,11 @@ unfolding next_hop
 returns-in-Ok-clause-carries g c =
     rw (← c.self.view_is) (on_memory c.self.inside.halted _ _ (λ running. carried_by _ _ _ _ _ _
     (reported (station_in c.self.inside.parts c.self.inside.bodies) c.args.grant.now.address c.args.mesh.now c.in-Some.hop (grind (arith, nat_tests, c.if-number.false, c.number.ensures.value, c.number-2.ensures.value, (ap (λ (g : Granted). g.address) c.grant.view_is))) c.in-Some.ensures (enough _ _ _ c.left-left.ensures (omega (arith, c.if-left-lt1.false))))
-    (answered dropped _ _ (tells c.in-Some.hop (Rerr c.args.mesh.now.to c.args.mesh.now.origin) (empty_draft (station_in c.self.inside.parts c.self.inside.bodies))) _ Reported _ (rw (c.number-3.ensures.value, c.error_unit-unit.ensures) at (at_some _ _ (station_in c.self.inside.parts c.self.inside.bodies) running (rw (← c.self.view_is) at c.in-Ok.ensures.carries))))))
+    (answered dropped _ _ (tells c.in-Some.hop (Rerr c.args.mesh.now.to c.args.mesh.now.origin) (empty_draft (station_in c.self.inside.parts c.self.inside.bodies))) _ Reported _ (rw (c.one.ensures.value, c.error_unit-unit.ensures) at (at_some _ _ (station_in c.self.inside.parts c.self.inside.bodies) running (rw (← c.self.view_is) at c.in-Ok.ensures.carries))))))
 
 pub returns-in-Err-clause-carries : goal.returns-in-Err-clause-carries
 unfolding next_hop
 returns-in-Err-clause-carries g c =
     rw (← c.self.view_is) (on_memory c.self.inside.halted _ _ (λ running. carried_by _ _ _ _ _ _
     (reported (station_in c.self.inside.parts c.self.inside.bodies) c.args.grant.now.address c.args.mesh.now c.in-Some.hop (grind (arith, nat_tests, c.if-number.false, c.number.ensures.value, c.number-2.ensures.value, (ap (λ (g : Granted). g.address) c.grant.view_is))) c.in-Some.ensures (enough _ _ _ c.left-left.ensures (omega (arith, c.if-left-lt1.false))))
-    (failed dropped _ _ (tells c.in-Some.hop (Rerr c.args.mesh.now.to c.args.mesh.now.origin) (empty_draft (station_in c.self.inside.parts c.self.inside.bodies))) _ Reported _ (rw (c.number-3.ensures.value, c.error_unit-unit.ensures) at (at_some _ _ (station_in c.self.inside.parts c.self.inside.bodies) running (rw (← c.self.view_is) at c.in-Err.ensures.carries))))))
+    (failed dropped _ _ (tells c.in-Some.hop (Rerr c.args.mesh.now.to c.args.mesh.now.origin) (empty_draft (station_in c.self.inside.parts c.self.inside.bodies))) _ Reported _ (rw (c.one.ensures.value, c.error_unit-unit.ensures) at (at_some _ _ (station_in c.self.inside.parts c.self.inside.bodies) running (rw (← c.self.view_is) at c.in-Err.ensures.carries))))))

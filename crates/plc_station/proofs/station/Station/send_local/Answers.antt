@@ -16,5 +16,5 @@ returns-then-left-lt1-clause-carries g c =
 pub returns-clause-carries : goal.returns-clause-carries
 returns-clause-carries g c =
     rw (← c.self.view_is) (on_memory c.self.inside.halted _ _ (λ running. after_by _ _ _ _ _ _ _
-    (local_sent (station_in c.self.inside.parts c.self.inside.bodies) c.args.code c.args.to _ c.args.body.now c.address_or_all.ensures.address (enough _ _ 1 c.left-left.ensures (omega (arith, c.if-left-lt1.false))))
+    (local_sent (station_in c.self.inside.parts c.self.inside.bodies) c.args.code c.args.to _ c.args.body.now c.destination.ensures (enough _ _ 1 c.left-left.ensures (omega (arith, c.if-left-lt1.false))))
     (at_some _ _ (station_in c.self.inside.parts c.self.inside.bodies) running (rw (← c.self.view_is) at c.local_goes.ensures.carries))))
