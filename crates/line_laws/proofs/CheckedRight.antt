@@ -42,11 +42,11 @@ use Rattle.reach_rules.specs.CheckedReplies.{is_unbelieved, message_of}
 use Rattle.reach_rules.specs.ReachingNodes.{Beside}
 use Rattle.reach_rules.specs.Receiving.{NeighbourCommand, command_of, hear_command}
 use Rattle.line_rules.specs.Answers.{Reception, command_word, discovery_word, drop_word, scan_word}
-use Rattle.line_rules.specs.declared.event.Answer.{Answer}
-use Rattle.line_rules.specs.declared.event.Answer.TheVariants as said
-use Rattle.line_rules.specs.declared.event.Event.{Event}
-use Rattle.line_rules.specs.declared.event.Event.TheVariants as events
-use Rattle.line_rules.specs.Events.{AreEvents, IsEvent}
+use Rattle.line_events.specs.declared.event.Answer.{Answer}
+use Rattle.line_events.specs.declared.event.Answer.TheVariants as said
+use Rattle.line_events.specs.declared.event.Event.{Event}
+use Rattle.line_events.specs.declared.event.Event.TheVariants as events
+use Rattle.line_events.specs.Events.{AreEvents, IsEvent}
 use Rattle.line_rules.specs.Forgery.{Comes, accepting}
 use Rattle.line_rules.specs.Further.{acknowledged_if, acknowledging, adds_frames, beside_at, checked, commanded, due, is_dropped, line_step, reaches, sends_nothing, unbelieved, with_beside, with_check}
 use Rattle.line_rules.specs.FurtherRuns.{AreOfHistoryAfter, IsOfHistory, check_history}

@@ -35,7 +35,7 @@ use Rattle.node_rules.specs.Laws.{IsWhole, IsCutOff}
 use Rattle.node_rules.proofs.Writing.{clean}
 use Rattle.reach_rules.specs.Receiving.{NeighbourCommand, command_of, command_on, command_with}
 use Rattle.line_rules.specs.Answers.{Reception, coordinator_reception, meter_reception}
-use Rattle.line_rules.specs.declared.event.Event.{Event}
+use Rattle.line_events.specs.declared.event.Event.{Event}
 use Rattle.line_rules.specs.Forgery.{accepting}
 use Rattle.line_rules.specs.Steps.{forged_by, hears, identity}
 use Rattle.line_rules.specs.Worlds.{World, Flight, node_at}

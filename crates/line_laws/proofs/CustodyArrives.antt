@@ -27,7 +27,7 @@ use Rattle.node_rules.specs.Coordinators as coordinators
 use Rattle.node_rules.specs.NodeSteps.{NodeStep, acts, of_station, answering}
 use Rattle.line_rules.specs.Steps.{identity, hears, note_by, told, ran, trace_of, happened, flights_of, flight_by, handed_by, heard, arrives}
 use Rattle.line_rules.specs.Worlds.{Trace, World}
-use Rattle.line_rules.specs.declared.happenings.Handed.{Handed}
+use Rattle.line_events.specs.declared.happenings.Handed.{Handed}
 use Rattle.node_rules.specs.Ciphers.{OpensWhatItSeals}
 use Rattle.line_laws.specs.Letters.{AreFlights}
 use Rattle.line_laws.specs.Sends.{SentAs, UnitIsOf, UpIsOf}

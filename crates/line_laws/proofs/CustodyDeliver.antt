@@ -34,7 +34,7 @@ use Rattle.node_rules.specs.Coordinators as coordinators
 use Rattle.node_rules.specs.NodeSteps.{NodeStep, acts, stays, left_by, of_station, answering}
 use Rattle.line_rules.specs.Steps.{identity, hears, note_by, forged_by, told, ran, trace_of, happened, flights_of, handed_by, heard, arrives}
 use Rattle.line_rules.specs.Worlds.{Flight, Trace, World, has_octets, note_of, is_forged_frame}
-use Rattle.line_rules.specs.declared.happenings.Handed.{Handed}
+use Rattle.line_events.specs.declared.happenings.Handed.{Handed}
 use Rattle.node_rules.proofs.Writing.{clean}
 use Rattle.node_rules.specs.Ciphers.{OpensWhatItSeals}
 use Rattle.line_laws.specs.Letters.{IsLetter, SpellsLetter, IsFlight, AreFlights}

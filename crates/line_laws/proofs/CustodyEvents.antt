@@ -20,7 +20,7 @@ use Rattle.node_rules.specs.Laws.{IsWhole, IsCutOff}
 use Rattle.node_rules.specs.NodeSteps.{NodeStep, acts, stays, left_by, of_station, answering}
 use Rattle.line_rules.specs.Steps.{is_taken, tag_of, sending, sent_if, acted, told, ran, flights_of, ticked}
 use Rattle.line_rules.specs.Worlds.{Flight, World}
-use Rattle.line_rules.specs.declared.happenings.Handed.{Handed}
+use Rattle.line_events.specs.declared.happenings.Handed.{Handed}
 use Rattle.node_rules.proofs.Writing.{clean}
 use Rattle.node_rules.specs.Ciphers.{OpensWhatItSeals}
 use Rattle.line_laws.specs.Custody.{weigh, below, sent_is, keeps}

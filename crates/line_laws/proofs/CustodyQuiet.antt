@@ -7,7 +7,7 @@ use Rattle.plc_base.specs.declared.address.Eui.{Eui}
 use Rattle.plc_base.specs.declared.key.Key.{Key}
 use Rattle.plc_base.specs.declared.key.Rand.{Rand}
 use Rattle.plc_base.specs.declared.keeper.BadStore.{BadStore}
-use Rattle.line_rules.specs.declared.event.Answer.{Answer}
+use Rattle.line_events.specs.declared.event.Answer.{Answer}
 use Rattle.node_rules.specs.Ciphers.{Ciphers}
 use Rattle.node_rules.specs.Memory.{StationMemory, Memory, Node, Role, Coordinator, Meter}
 use Rattle.node_rules.specs.Plans.{resting}
@@ -28,7 +28,7 @@ use Rattle.node_rules.specs.StoreReading.{tag_in, reading, station_of, memory_of
 use Rattle.node_rules.specs.NodeSteps.{NodeStep}
 use Rattle.line_rules.specs.Steps.{acted, told, restarts, memory_by, flights_of}
 use Rattle.line_rules.specs.Worlds.{Flight, World}
-use Rattle.line_rules.specs.declared.happenings.Handed.{Handed}
+use Rattle.line_events.specs.declared.happenings.Handed.{Handed}
 use Rattle.node_rules.specs.Ciphers.{OpensWhatItSeals}
 use Rattle.line_laws.specs.Custody.{keeps}
 use Rattle.line_laws.specs.Places.{node_keeps, places, issued, IsInCustody, OneNode, LiveFalls}

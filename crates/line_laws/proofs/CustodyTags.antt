@@ -24,7 +24,7 @@ use Rattle.node_rules.specs.Accepting.{accept}
 use Rattle.node_rules.specs.NodeSteps.{NodeStep, acts, of_station}
 use Rattle.line_rules.specs.Steps.{identity, hears, note_by, forged_by, arrives, heard, told, ran, trace_of, happened}
 use Rattle.line_rules.specs.Worlds.{Flight, Trace, World, is_forged_tag}
-use Rattle.line_rules.specs.declared.happenings.Handed.{Handed}
+use Rattle.line_events.specs.declared.happenings.Handed.{Handed}
 use Rattle.node_rules.specs.Ciphers.{OpensWhatItSeals}
 use Rattle.line_laws.specs.Places.{LiveFalls, opened_at}
 use Rattle.line_laws.specs.Sends.{SentAs, HeldIsOf}

@@ -15,7 +15,7 @@ use Rattle.node_rules.specs.Ciphers.{Ciphers}
 use Rattle.node_rules.specs.Frames.{Sent, Sealed, Up, Down, Arrived, arrived_with, head_of, spelled, arrived}
 use Rattle.node_rules.specs.Memory.{Node}
 use Rattle.line_rules.specs.Worlds.{Flight, World}
-use Rattle.line_rules.specs.declared.happenings.Handed.{Handed}
+use Rattle.line_events.specs.declared.happenings.Handed.{Handed}
 use Rattle.line_rules.specs.Steps.{flight_by}
 use Rattle.node_rules.specs.Ciphers.{OpensWhatItSeals}
 use Rattle.line_laws.specs.Letters.{SpellsLetter}

@@ -9,8 +9,8 @@ use Rattle.std.proofs.lemmas.Option.{same_Some}
 use Rattle.plc_base.specs.Grant.{Granted}
 use Rattle.store_tables.proofs.SlotTables.{slice_get-set}
 use Rattle.group_keys.specs.KeyRing as ring
-use Rattle.line_rules.specs.declared.event.Answer.{Answer}
-use Rattle.line_rules.specs.declared.event.Event.{Event}
+use Rattle.line_events.specs.declared.event.Answer.{Answer}
+use Rattle.line_events.specs.declared.event.Event.{Event}
 use Rattle.node_rules.specs.declared.heard.Accepted.{Accepted}
 use Rattle.node_rules.specs.declared.refusal.CoordinatorRefusal.TheVariants as orders
 use Rattle.node_rules.specs.declared.refusal.FrameRefusal.{FrameRefusal}
@@ -20,7 +20,7 @@ use Rattle.node_rules.specs.declared.refusal.CoordinatorRefusal.{CoordinatorRefu
 use Rattle.node_rules.specs.declared.refusal.SendRefusal.{SendRefusal}
 use Rattle.node_rules.specs.declared.refusal.SendRefusal.TheVariants as sends
 use Rattle.line_rules.specs.Answers.{sent_word}
-use Rattle.line_rules.specs.declared.event.Answer.TheVariants as said
+use Rattle.line_events.specs.declared.event.Answer.TheVariants as said
 use Rattle.node_rules.specs.Ciphers.{Ciphers}
 use Rattle.node_rules.specs.Frames.{Sent, Sealed, Up, Down, spelled, arrived}
 use Rattle.node_rules.specs.Memory.{Memory, Coordinator, Node, address_of, node_address}
@@ -31,7 +31,7 @@ use Rattle.node_rules.specs.Meters as meters
 use Rattle.node_rules.specs.Coordinators as coordinator_rules
 use Rattle.node_rules.specs.MemoryDrafts.{with_station}
 use Rattle.node_rules.specs.NodeSteps.{NodeStep, acts, stays, answering, changing, of_station}
-use Rattle.line_rules.specs.Events.{IsEvent}
+use Rattle.line_events.specs.Events.{IsEvent}
 use Rattle.line_rules.specs.Forgery.{Comes, OfFlight, OfScript, accepting}
 use Rattle.line_rules.specs.Worlds.{World, Flight, node_at, flight_at}
 use Rattle.line_rules.specs.SafeRuns.{HasAddress}

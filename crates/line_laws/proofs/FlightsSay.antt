@@ -33,10 +33,10 @@ use Rattle.node_rules.specs.NodeSteps.{NodeStep, acts, answering, changing, of_s
 use Rattle.node_rules.specs.Plans.{Plan}
 use Rattle.node_rules.proofs.NetworkOpens.{network_opens_again}
 use Rattle.line_rules.specs.Answers.{sent_word}
-use Rattle.line_rules.specs.declared.event.Answer.{Answer}
-use Rattle.line_rules.specs.declared.event.Answer.TheVariants as said
-use Rattle.line_rules.specs.declared.event.Event.{Event}
-use Rattle.line_rules.specs.Events.{IsEvent}
+use Rattle.line_events.specs.declared.event.Answer.{Answer}
+use Rattle.line_events.specs.declared.event.Answer.TheVariants as said
+use Rattle.line_events.specs.declared.event.Event.{Event}
+use Rattle.line_events.specs.Events.{IsEvent}
 use Rattle.line_rules.specs.Forgery.{Comes, accepting}
 use Rattle.line_rules.specs.Further.{discovery_flight}
 use Rattle.line_rules.specs.Steps.{Step, acted, flight_by, flights_of, forged_by, heard, hears, is_taken, note_by, offered_near, ran, restarts, sent_if, sending, set_up, tag_of, told}

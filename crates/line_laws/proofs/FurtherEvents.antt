@@ -28,13 +28,13 @@ use Rattle.reach_rules.specs.Beacons.{is_discovery, frame_type}
 use Rattle.reach_rules.specs.CheckedReplies.{message_of}
 use Rattle.reach_rules.specs.ReachingNodes.{Beside, restarted, tick_beside}
 use Rattle.reach_rules.specs.Receiving.{NeighbourCommand, command_of}
-use Rattle.line_rules.specs.declared.event.Event.{Event}
-use Rattle.line_rules.specs.declared.event.Event.TheVariants as events
-use Rattle.line_rules.specs.declared.event.Answer.TheVariants as said
-use Rattle.line_rules.specs.declared.event.StepFault.{StepFault}
-use Rattle.line_rules.specs.declared.event.StepFault.TheVariants as faults
+use Rattle.line_events.specs.declared.event.Event.{Event}
+use Rattle.line_events.specs.declared.event.Event.TheVariants as events
+use Rattle.line_events.specs.declared.event.Answer.TheVariants as said
+use Rattle.line_events.specs.declared.event.StepFault.{StepFault}
+use Rattle.line_events.specs.declared.event.StepFault.TheVariants as faults
 use Rattle.line_rules.specs.Answers.{Reception}
-use Rattle.line_rules.specs.Events.{IsEvent}
+use Rattle.line_events.specs.Events.{IsEvent}
 use Rattle.line_rules.specs.Forgery.{Comes, OfFlight, OfScript, accepting}
 use Rattle.line_rules.specs.Further.{line_step, checks, bcast, broadcasts_by, path, asks_by, scan, scans_by, choose, chooses_by, discovers_by, commanded, checked, acknowledged_if, acknowledged, acknowledging, unbelieved, heard_by, heard_further, is_dropped, accepted_further, comes, delivers, injects, ticks, after_ok, due, with_check, restarts_by, restarts_further}
 use Rattle.line_rules.specs.Steps.{Step, set_up, ran, happened, trace_of, has_begun, takes_setup, once_begun, in_setup, on_node, on_meter, on_flight, psk_of, acted, ticked, hears, heard, note_by, restarts, tick}

@@ -22,7 +22,7 @@ use Rattle.reach_rules.specs.Beacons.{Discovering, begin_scan, hear_discovery}
 use Rattle.reach_rules.specs.Broadcasts.{broadcast}
 use Rattle.reach_rules.specs.PathAsking.{ask_path}
 use Rattle.line_rules.specs.Answers.{discovery_word, scan_word}
-use Rattle.line_rules.specs.declared.event.Answer.{Answer}
+use Rattle.line_events.specs.declared.event.Answer.{Answer}
 use Rattle.line_rules.specs.Further.{beside_at, beside_after, commanded, has_reached, broadcasts_by, asks_by, scans_by, discovers_by, has_discovered, beacon_taken, scanning, discovery_flight, discovery_flights, reaches, with_beside}
 use Rattle.line_rules.specs.Nonces.{CounterRises, NonceParts, nonce_parts}
 use Rattle.line_rules.specs.Steps.{ran, told}

@@ -14,10 +14,10 @@ use Rattle.node_rules.specs.NodeSteps.{of_station, stays}
 use Rattle.node_rules.specs.Plans.{Plan}
 use Rattle.reach_rules.specs.declared.refusal.ChooseRefusal.TheVariants as choices
 use Rattle.reach_rules.specs.Beacons.{choose_agent}
-use Rattle.line_rules.specs.declared.event.Answer.TheVariants as said
-use Rattle.line_rules.specs.declared.event.Event.{Event}
+use Rattle.line_events.specs.declared.event.Answer.TheVariants as said
+use Rattle.line_events.specs.declared.event.Event.{Event}
 use Rattle.line_rules.specs.Answers.{only}
-use Rattle.line_rules.specs.Events.{AreEvents, IsEvent}
+use Rattle.line_events.specs.Events.{AreEvents, IsEvent}
 use Rattle.line_rules.specs.Forgery.{accepting}
 use Rattle.line_rules.specs.Further.{beside_at, line_step, reaches, with_beside}
 use Rattle.line_rules.specs.Logs.{LogsKept}

@@ -58,10 +58,10 @@ use Rattle.reach_rules.specs.Broadcasts.{hop_less, own_broadcast}
 use Rattle.reach_rules.specs.CheckedReplies.{acknowledges}
 use Rattle.reach_rules.specs.PathAsking.{next_toward}
 use Rattle.reach_rules.specs.ReachingNodes.{Beside}
-use Rattle.line_rules.specs.declared.event.Answer.TheVariants as said
-use Rattle.line_rules.specs.declared.event.Event.{Event}
+use Rattle.line_events.specs.declared.event.Answer.TheVariants as said
+use Rattle.line_events.specs.declared.event.Event.{Event}
 use Rattle.line_rules.specs.Answers.{only}
-use Rattle.line_rules.specs.Events.{AreEvents, IsEvent}
+use Rattle.line_events.specs.Events.{AreEvents, IsEvent}
 use Rattle.line_rules.specs.Forgery.{accepting}
 use Rattle.line_rules.specs.Further.{beside_at, discovery_flight, line_step, of_memory, reaches, with_beside}
 use Rattle.line_rules.specs.Logs.{LogsKept}

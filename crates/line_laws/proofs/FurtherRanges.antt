@@ -74,11 +74,11 @@ use Rattle.pan_discovery.specs.Agents.{kth_of}
 use Rattle.mesh_header.specs.declared.unit.Unit.{Unit as MeshUnit}
 use Rattle.mesh_header.specs.declared.unit.Unit.TheVariants as units
 use Rattle.mesh_header.specs.Reading.{unit_in}
-use Rattle.line_rules.specs.declared.event.Answer.{Answer as Word}
-use Rattle.line_rules.specs.declared.event.Answer.TheVariants as said
-use Rattle.line_rules.specs.declared.event.Event.{Event}
+use Rattle.line_events.specs.declared.event.Answer.{Answer as Word}
+use Rattle.line_events.specs.declared.event.Answer.TheVariants as said
+use Rattle.line_events.specs.declared.event.Event.{Event}
 use Rattle.line_rules.specs.Answers.{Reception, coordinator_reception, meter_reception, only}
-use Rattle.line_rules.specs.Events.{IsEvent}
+use Rattle.line_events.specs.Events.{IsEvent}
 use Rattle.line_rules.specs.Forgery.{Comes, accepting}
 use Rattle.line_rules.specs.Further.{beside_at, discovery_flight, due, due_of, is_reply_taken, line_step, of_memory, reaches, with_beside}
 use Rattle.line_rules.specs.Logs.{LogsKept}

@@ -8,11 +8,11 @@ use Rattle.plc_base.specs.declared.keeper.BadStore.{BadStore}
 use Rattle.node_rules.specs.Ciphers.{Ciphers, network}
 use Rattle.node_rules.specs.Memory.{Node, node_route}
 use Rattle.reach_rules.specs.ReachingNodes.{Beside, restarted}
-use Rattle.line_rules.specs.declared.event.Answer.TheVariants as said
-use Rattle.line_rules.specs.declared.event.Event.{Event}
-use Rattle.line_rules.specs.declared.event.Event.TheVariants as events
-use Rattle.line_rules.specs.declared.event.StepFault.TheVariants as faults
-use Rattle.line_rules.specs.Events.{AreEvents, IsEvent}
+use Rattle.line_events.specs.declared.event.Answer.TheVariants as said
+use Rattle.line_events.specs.declared.event.Event.{Event}
+use Rattle.line_events.specs.declared.event.Event.TheVariants as events
+use Rattle.line_events.specs.declared.event.StepFault.TheVariants as faults
+use Rattle.line_events.specs.Events.{AreEvents, IsEvent}
 use Rattle.line_rules.specs.Further.{line_step, restarts_by, restarts_further}
 use Rattle.line_rules.specs.Logs.{LogsKept}
 use Rattle.line_rules.specs.Runs.{Entry, IsRun, events_of}

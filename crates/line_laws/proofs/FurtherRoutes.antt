@@ -25,10 +25,10 @@ use Rattle.reach_rules.specs.declared.refusal.ChooseRefusal.{ChooseRefusal}
 use Rattle.reach_rules.specs.declared.refusal.ChooseRefusal.TheVariants as choices
 use Rattle.reach_rules.specs.Beacons.{ChosenAgent, choose_agent, choosing_ends, joins_by}
 use Rattle.reach_rules.specs.ReachingNodes.{Beside}
-use Rattle.line_rules.specs.declared.event.Answer.TheVariants as said
-use Rattle.line_rules.specs.declared.event.Event.{Event}
+use Rattle.line_events.specs.declared.event.Answer.TheVariants as said
+use Rattle.line_events.specs.declared.event.Event.{Event}
 use Rattle.line_rules.specs.Answers.{only}
-use Rattle.line_rules.specs.Events.{IsEvent}
+use Rattle.line_events.specs.Events.{IsEvent}
 use Rattle.line_rules.specs.Forgery.{accepting}
 use Rattle.line_rules.specs.Further.{beside_at, discovery_flight, line_step, of_memory, reaches, with_beside}
 use Rattle.line_rules.specs.Logs.{LogsKept}

@@ -37,10 +37,10 @@ use Rattle.reach_rules.specs.CheckedReplies.{acknowledges}
 use Rattle.reach_rules.specs.PathAsking.{ask_path}
 use Rattle.reach_rules.specs.ReachingNodes.{Beside}
 use Rattle.reach_rules.specs.Receiving.{NeighbourCommand, command_of, hear_command}
-use Rattle.line_rules.specs.declared.event.Answer.TheVariants as said
-use Rattle.line_rules.specs.declared.event.Event.{Event}
+use Rattle.line_events.specs.declared.event.Answer.TheVariants as said
+use Rattle.line_events.specs.declared.event.Event.{Event}
 use Rattle.line_rules.specs.Answers.{Reception, only}
-use Rattle.line_rules.specs.Events.{IsEvent}
+use Rattle.line_events.specs.Events.{IsEvent}
 use Rattle.line_rules.specs.Forgery.{Comes, accepting}
 use Rattle.line_rules.specs.Further.{line_step, broadcasts_by, asks_by, scans_by, chooses_by, discovers_by, discovery_flight, discovery_flights, commanded, acknowledged, acknowledging, adds_frames, sends_nothing, unbelieved, beside_at, reaches, with_beside}
 use Rattle.line_rules.specs.Logs.{LogsKept}

@@ -6,7 +6,7 @@ use Rattle.std.proofs.lemmas.List.Elements.{All-head, All-tail}
 use Rattle.node_rules.specs.Ciphers.{network}
 use Rattle.node_rules.specs.Memory.{Node, Coordinator}
 use Rattle.line_rules.specs.Agreement.{NodeHasKey}
-use Rattle.line_rules.specs.Events.{AreEvents, IsEvent}
+use Rattle.line_events.specs.Events.{AreEvents, IsEvent}
 use Rattle.line_rules.specs.Further.{line_step}
 use Rattle.line_rules.specs.Logs.{LogsKept}
 use Rattle.line_rules.specs.Runs.{Entry, IsRun, events_of, issued, one_of, takings}

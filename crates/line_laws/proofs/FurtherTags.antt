@@ -22,8 +22,8 @@ use Rattle.reach_rules.specs.Beacons.{ChosenAgent, choose_agent, choosing_ends, 
 use Rattle.reach_rules.specs.ReachingNodes.{Beside}
 use Rattle.node_rules.specs.Drafts.{choose as choose_plan}
 use Rattle.line_rules.specs.Answers.{only}
-use Rattle.line_rules.specs.declared.event.Answer.TheVariants as said
-use Rattle.line_rules.specs.declared.event.Event.{Event}
+use Rattle.line_events.specs.declared.event.Answer.TheVariants as said
+use Rattle.line_events.specs.declared.event.Event.{Event}
 use Rattle.line_rules.specs.Forgery.{accepting}
 use Rattle.line_rules.specs.Further.{line_step, chooses_by, sends_nothing, beside_at, of_memory, reaches, with_beside}
 use Rattle.line_rules.specs.Steps.{Step, ran, set_up, told, identity}

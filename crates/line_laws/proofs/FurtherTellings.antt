@@ -66,14 +66,14 @@ use Rattle.reach_rules.specs.CheckedReplies.{acknowledges, checks_after, message
 use Rattle.reach_rules.specs.PathAsking.{ask_path}
 use Rattle.reach_rules.specs.ReachingNodes.{Beside, nothing_beside, restarted, restarted_by, tick_beside}
 use Rattle.reach_rules.specs.Receiving.{NeighbourCommand, command_of, command_on, command_with, hear_command as hear_neighbours}
-use Rattle.line_rules.specs.declared.event.Answer.{Answer}
-use Rattle.line_rules.specs.declared.event.Answer.TheVariants as said
-use Rattle.line_rules.specs.declared.event.Event.{Event}
-use Rattle.line_rules.specs.declared.event.Event.TheVariants as events
-use Rattle.line_rules.specs.declared.event.StepFault.{StepFault}
-use Rattle.line_rules.specs.declared.event.StepFault.TheVariants as faults
+use Rattle.line_events.specs.declared.event.Answer.{Answer}
+use Rattle.line_events.specs.declared.event.Answer.TheVariants as said
+use Rattle.line_events.specs.declared.event.Event.{Event}
+use Rattle.line_events.specs.declared.event.Event.TheVariants as events
+use Rattle.line_events.specs.declared.event.StepFault.{StepFault}
+use Rattle.line_events.specs.declared.event.StepFault.TheVariants as faults
 use Rattle.line_rules.specs.Answers.{Reception, coordinator_reception, frame_word, meter_reception, only}
-use Rattle.line_rules.specs.Events.{IsEvent, IsLineOctets}
+use Rattle.line_events.specs.Events.{IsEvent, IsLineOctets}
 use Rattle.line_rules.specs.Further.{line_step, checks, bcast, broadcasts_by, path, asks_by, scan, scans_by, choose, choice_word, chooses_by, discovers_by, discovery_flights, commanded, checked, acknowledged_if, acknowledged, acknowledging, adds_frames, sends_nothing, unbelieved, heard_by, heard_further, is_dropped, accepted_further, comes, delivers, injects, ticks, after_ok, due, with_check, restarts_by, restarts_further, beside_at, reaches, with_beside, of_memory}
 use Rattle.line_rules.specs.Logs.{AreLogged, HaveShortTables, LogIn, LogsKept}
 use Rattle.line_rules.specs.Steps.{Step, set_up, ran, told, acted, ticked, flights_of, happened, trace_of, has_begun, takes_setup, once_begun, in_setup, on_node, on_meter, psk_of, identity, on_flight, hears, heard, received, forged_by, note_by, restarts, tick, step}

@@ -17,7 +17,7 @@ use Rattle.line_rules.specs.Answers.{Reception, meter_reception, coordinator_rec
 use Rattle.line_rules.specs.Worlds.{World, Issued, node_at, same_tag, is_forged_tag}
 use Rattle.line_rules.specs.Forgery.{accepting}
 use Rattle.line_rules.specs.Steps.{Step, set_up, told, takes_setup, identity, hears, note_by, psk_of, provisioned, depot, depot_by, depot_at}
-use Rattle.line_rules.specs.declared.event.StepFault.TheVariants as faults
+use Rattle.line_events.specs.declared.event.StepFault.TheVariants as faults
 use Rattle.node_rules.specs.declared.heard.Accepted.{Accepted}
 use Rattle.node_rules.specs.declared.refusal.CoordinatorRefusal.{CoordinatorRefusal}
 use Rattle.node_rules.specs.declared.refusal.CoordinatorRefusal.TheVariants as orders

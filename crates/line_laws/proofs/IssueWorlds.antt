@@ -11,7 +11,7 @@ use Rattle.node_rules.specs.Memory.{Node}
 use Rattle.line_rules.specs.Worlds.{World, Issued, node_at}
 use Rattle.node_rules.specs.NodeSteps.{NodeStep}
 use Rattle.line_rules.specs.Steps.{told}
-use Rattle.line_rules.specs.Events.{IsEui}
+use Rattle.line_events.specs.Events.{IsEui}
 use Rattle.line_laws.proofs.Worlds.{within as place_within}
 use Rattle.line_laws.proofs.IssueWords.{Each, each_append, each_weaker}
 use Rattle.line_laws.proofs.IssueNodes.{TagOk, MeterOk, MeterDid, CoordinatorOk, CoordinatorDid, ring_later, tag_later}

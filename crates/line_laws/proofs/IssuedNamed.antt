@@ -23,9 +23,9 @@ use Rattle.node_rules.specs.Calls as calls
 use Rattle.node_rules.specs.declared.refusal.SendRefusal.TheVariants as sends
 use Rattle.line_rules.specs.Answers.{sent_word}
 use Rattle.node_rules.specs.NodeSteps.{NodeStep, acts, answering, of_station}
-use Rattle.line_rules.specs.declared.event.Event.{Event}
+use Rattle.line_events.specs.declared.event.Event.{Event}
 use Rattle.line_rules.specs.Answers.{Reception, meter_reception, coordinator_reception}
-use Rattle.line_rules.specs.Events.{IsEvent}
+use Rattle.line_events.specs.Events.{IsEvent}
 use Rattle.line_rules.specs.Forgery.{Comes, accepting}
 use Rattle.line_rules.specs.Runs.{Entry}
 use Rattle.line_rules.specs.Worlds.{World, Issued, Trace, node_at}

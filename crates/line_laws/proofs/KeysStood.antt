@@ -11,11 +11,11 @@ use Rattle.group_keys.specs.KeyRing as ring
 use Rattle.group_keys.specs.KeyBook as books
 use Rattle.line_rules.specs.Agreement.{NodeHasKey}
 use Rattle.line_rules.specs.Answers.{Reception, coordinator_reception, meter_reception, sent_word}
-use Rattle.line_rules.specs.Events.{IsEvent}
+use Rattle.line_events.specs.Events.{IsEvent}
 use Rattle.line_rules.specs.Forgery.{Comes, accepting}
 use Rattle.line_rules.specs.Steps.{Step, issued_at, issued_by, issued_of, acted, sent_if, is_taken, tag_of, hears, note_by, identity, takes_setup, psk_of}
 use Rattle.line_rules.specs.Worlds.{World, Issued, Trace, node_at}
-use Rattle.line_rules.specs.declared.event.Event.{Event}
+use Rattle.line_events.specs.declared.event.Event.{Event}
 use Rattle.node_rules.specs.Accepting.{Accepting, accept, marking}
 use Rattle.node_rules.specs.Calls as calls
 use Rattle.node_rules.specs.Ciphers.{Ciphers}

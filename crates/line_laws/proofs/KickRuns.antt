@@ -9,13 +9,13 @@ use Rattle.plc_base.specs.declared.key.Key.{Key}
 use Rattle.plc_base.specs.Grant.{Granted}
 use Rattle.group_keys.specs.KeyBook as books
 use Rattle.line_rules.specs.Agreement.{HasKey, NodeHasKey, NeverStood, IsKicked, NeverAllowed, is_kick_of, is_allow_of}
-use Rattle.line_rules.specs.Events.{IsEui}
+use Rattle.line_events.specs.Events.{IsEui}
 use Rattle.line_rules.specs.Further.{line_step}
 use Rattle.line_rules.specs.Runs.{Entry, NoneForged}
 use Rattle.line_rules.specs.SafeRuns.{IsIssued, HoldsIssued, HasIssuedKeys}
 use Rattle.line_rules.specs.Worlds.{World, Issued, node_at, start}
-use Rattle.line_rules.specs.declared.event.Event.{Event}
-use Rattle.line_rules.specs.declared.event.Event.TheVariants as events
+use Rattle.line_events.specs.declared.event.Event.{Event}
+use Rattle.line_events.specs.declared.event.Event.TheVariants as events
 use Rattle.node_rules.specs.Ciphers.{Ciphers, network}
 use Rattle.node_rules.specs.Memory.{Memory, Role, Coordinator, Meter, Node}
 use Rattle.line_laws.specs.Kicked.{EveryKickedMeterStaysOut}

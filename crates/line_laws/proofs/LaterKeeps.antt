@@ -23,7 +23,7 @@ use Rattle.line_rules.specs.Laws.{KeepsFlights}
 use Rattle.line_rules.specs.Nonces.{HasSender, IsSpelled}
 use Rattle.line_rules.specs.Steps.{flight_by, flights_of, ran, told}
 use Rattle.line_rules.specs.Worlds.{World, Flight, Issued, Pairing, Sending, node_at}
-use Rattle.line_rules.specs.declared.happenings.Handed.{Handed}
+use Rattle.line_events.specs.declared.happenings.Handed.{Handed}
 use Rattle.line_laws.specs.Agreed.{Confirmed}
 use Rattle.line_laws.specs.InCustody.{Custody, SentUnder}
 use Rattle.line_laws.specs.Custody.{sent_is}

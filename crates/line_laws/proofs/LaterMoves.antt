@@ -19,7 +19,7 @@ use Rattle.reach_rules.specs.ReachingNodes.{Beside}
 use Rattle.line_rules.specs.Further.{discovery_flight}
 use Rattle.line_rules.specs.Nonces.{CounterRises, HasSender, NonceParts, IsDiscoveryFrame, IsSpelled, nonce_in_head, nonce_parts}
 use Rattle.line_rules.specs.Worlds.{World, Flight, Issued, Pairing, Sending, node_at}
-use Rattle.line_rules.specs.declared.happenings.Handed.{Handed}
+use Rattle.line_events.specs.declared.happenings.Handed.{Handed}
 use Rattle.line_laws.specs.InCustody.{Custody, FlightIsOf, SentUnder}
 use Rattle.line_laws.specs.Keyed.{AtHome, Keyed}
 use Rattle.line_laws.specs.Later.{DiscoveringKeeps, GoesOn, Holds, KeepsInTurn, KeepsOn, UnsentHolds, flown, unsent}

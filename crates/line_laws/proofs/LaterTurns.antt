@@ -13,7 +13,7 @@ use Rattle.node_rules.specs.Memory.{Node}
 use Rattle.reach_rules.specs.ReachingNodes.{Beside}
 use Rattle.line_rules.specs.Nonces.{CounterRises, HasSender, IsSpelled}
 use Rattle.line_rules.specs.Worlds.{World, Flight, Issued, Pairing, Sending, node_at}
-use Rattle.line_rules.specs.declared.happenings.Handed.{Handed}
+use Rattle.line_events.specs.declared.happenings.Handed.{Handed}
 use Rattle.line_laws.specs.InCustody.{Custody, FlightIsOf, SentUnder}
 use Rattle.line_laws.specs.Keyed.{AtHome, Keyed}
 use Rattle.line_laws.specs.Later.{BesideKeeps, GoesOn, Holds, KeepsInTurn, KeepsOn, UnsentHolds, unsent}

@@ -5,10 +5,10 @@ use Rattle.std.proofs.lemmas.List.{append_assoc}
 use Rattle.std.proofs.lemmas.List.Elements.{All-append, All-cons, All-head, All-nil, All-push, All-tail}
 use Rattle.node_rules.specs.Ciphers.{Ciphers, network}
 use Rattle.node_rules.specs.Memory.{Node, node_route}
-use Rattle.line_rules.specs.declared.event.Answer.TheVariants as said
-use Rattle.line_rules.specs.declared.event.Event.{Event}
-use Rattle.line_rules.specs.declared.event.Event.TheVariants as events
-use Rattle.line_rules.specs.Events.{AreEvents, IsEvent}
+use Rattle.line_events.specs.declared.event.Answer.TheVariants as said
+use Rattle.line_events.specs.declared.event.Event.{Event}
+use Rattle.line_events.specs.declared.event.Event.TheVariants as events
+use Rattle.line_events.specs.Events.{AreEvents, IsEvent}
 use Rattle.line_rules.specs.Further.{line_step}
 use Rattle.line_rules.specs.Forgery.{IsForgedRight}
 use Rattle.line_rules.specs.Nonces as nonces

@@ -20,7 +20,7 @@ use Rattle.node_rules.specs.Memory.{Memory, Meter, Node, node_address}
 use Rattle.node_rules.specs.Meters as meters
 use Rattle.node_rules.specs.NodeSteps.{of_station}
 use Rattle.node_rules.specs.Plans.{Plan}
-use Rattle.line_rules.specs.Events.{IsLineOctets}
+use Rattle.line_events.specs.Events.{IsLineOctets}
 use Rattle.line_rules.specs.Forgery.{accepting}
 use Rattle.line_rules.specs.Steps.{identity, note_by, forged_by}
 use Rattle.line_rules.specs.Worlds.{World, node_at}

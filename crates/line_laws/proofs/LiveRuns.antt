@@ -29,9 +29,9 @@ use Rattle.node_rules.specs.Plans.{Plan, resting}
 use Rattle.node_rules.specs.Accepting.{Accepting, accept, accept_head, is_for_me, is_own, refuse, marking}
 use Rattle.node_rules.specs.NodeSteps.{of_station}
 use Rattle.line_rules.specs.Answers.{frame_word}
-use Rattle.line_rules.specs.declared.event.Event.{Event}
-use Rattle.line_rules.specs.declared.event.StepFault.TheVariants as faults
-use Rattle.line_rules.specs.Events.{IsEvent}
+use Rattle.line_events.specs.declared.event.Event.{Event}
+use Rattle.line_events.specs.declared.event.StepFault.TheVariants as faults
+use Rattle.line_events.specs.Events.{IsEvent}
 use Rattle.line_rules.specs.Forgery.{Comes, OfFlight, OfScript, accepting}
 use Rattle.line_rules.specs.Runs.{Entry}
 use Rattle.line_rules.specs.Worlds.{World, Flight, Trace, Issued, node_at, has_octets}

@@ -68,7 +68,7 @@ use Rattle.reach_rules.specs.CheckedReplies.{hear_acknowledgement_in}
 use Rattle.reach_rules.specs.PathAsking.{ask_ends, ask_path, asks_by, asks_from, follows_path, hear_path_in, next_toward, path_word}
 use Rattle.reach_rules.specs.ReachingNodes.{Beside, Reaching, drop_it, in_reach, nothing_beside, reach_ends, remembers, restarted_by, tells_neighbours, with_checks}
 use Rattle.reach_rules.specs.Receiving.{NeighbourCommand, hear_command, hear_command_at}
-use Rattle.line_rules.specs.declared.happenings.BroadcastUp.{BroadcastUp}
+use Rattle.line_events.specs.declared.happenings.BroadcastUp.{BroadcastUp}
 use Rattle.line_rules.specs.Further.{beside_after, broadcast_up, reaches, with_beside, without_log}
 use Rattle.line_rules.specs.Runs.{one_of}
 use Rattle.line_rules.specs.Steps.{blank_node}

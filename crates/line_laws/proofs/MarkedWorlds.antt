@@ -48,10 +48,10 @@ use Rattle.reach_rules.specs.PathAsking.{ask_path}
 use Rattle.reach_rules.specs.ReachingNodes.{Beside, Reaching, nothing_beside, tick_beside}
 use Rattle.reach_rules.specs.Receiving.{NeighbourCommand, command_of, hear_command}
 use Rattle.line_rules.specs.Answers.{Reception, coordinator_reception, meter_reception, only, sent_word}
-use Rattle.line_rules.specs.declared.event.Answer.{Answer}
-use Rattle.line_rules.specs.declared.event.Answer.TheVariants as said
-use Rattle.line_rules.specs.declared.event.Event.{Event}
-use Rattle.line_rules.specs.declared.happenings.BroadcastUp.{BroadcastUp}
+use Rattle.line_events.specs.declared.event.Answer.{Answer}
+use Rattle.line_events.specs.declared.event.Answer.TheVariants as said
+use Rattle.line_events.specs.declared.event.Event.{Event}
+use Rattle.line_events.specs.declared.happenings.BroadcastUp.{BroadcastUp}
 use Rattle.line_rules.specs.Forgery.{accepting}
 use Rattle.line_rules.specs.Further.{acknowledged_if, acknowledging, adds_frames, asks_by, beside_after, beside_at, broadcast_up, broadcasts_by, checked, chooses_by, commanded, discovers_by, due, reaches, restarts_by, scans_by, sends_nothing, unbelieved, with_check}
 use Rattle.line_rules.specs.Logs.{AreLogged, HaveShortTables, LogsKept}

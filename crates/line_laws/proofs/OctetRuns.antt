@@ -6,9 +6,9 @@ use Rattle.std.proofs.lemmas.Option.{same_Some}
 use Rattle.plc_base.specs.Grant.{Granted}
 use Rattle.plc_base.specs.declared.key.Key.{Key}
 use Rattle.line_rules.specs.Answers.{Reception, meter_reception, coordinator_reception, sent_word}
-use Rattle.line_rules.specs.declared.event.Answer.{Answer}
-use Rattle.line_rules.specs.declared.event.Answer.TheVariants as said
-use Rattle.line_rules.specs.declared.event.Event.{Event}
+use Rattle.line_events.specs.declared.event.Answer.{Answer}
+use Rattle.line_events.specs.declared.event.Answer.TheVariants as said
+use Rattle.line_events.specs.declared.event.Event.{Event}
 use Rattle.node_rules.specs.declared.heard.Accepted.{Accepted}
 use Rattle.node_rules.specs.declared.heard.SentHow.{SentHow}
 use Rattle.node_rules.specs.declared.refusal.CoordinatorRefusal.{CoordinatorRefusal}
@@ -29,7 +29,7 @@ use Rattle.node_rules.specs.Meters as meters
 use Rattle.node_rules.specs.NodeSteps.{NodeStep, acts, stays, answering, changing, of_station}
 use Rattle.node_rules.specs.Plans.{Plan}
 use Rattle.node_rules.specs.StoreReading.{first_grant}
-use Rattle.line_rules.specs.Events.{IsEvent}
+use Rattle.line_events.specs.Events.{IsEvent}
 use Rattle.line_rules.specs.Forgery.{Comes, accepting}
 use Rattle.line_rules.specs.Worlds.{World, Flight, node_at, flight_at, start}
 use Rattle.line_rules.specs.Steps.{Step, set_up, ran, told, blank_node, ticked, flights_of, flight_by, acted, sending, sent_if, is_taken, tag_of, hears, offered_near, heard, note_by, identity, restarts, psk_of}

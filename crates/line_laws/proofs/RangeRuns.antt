@@ -9,9 +9,9 @@ use Rattle.plc_base.specs.declared.key.Key.{Key}
 use Rattle.routing_set.specs.declared.entry.RoutingEntry.{RoutingEntry}
 use Rattle.routing_set.specs.declared.entry.Route.{Route}
 use Rattle.line_rules.specs.Answers.{sent_word}
-use Rattle.line_rules.specs.declared.event.Answer.{Answer}
-use Rattle.line_rules.specs.declared.event.Answer.TheVariants as said
-use Rattle.line_rules.specs.declared.event.Event.{Event}
+use Rattle.line_events.specs.declared.event.Answer.{Answer}
+use Rattle.line_events.specs.declared.event.Answer.TheVariants as said
+use Rattle.line_events.specs.declared.event.Event.{Event}
 use Rattle.line_rules.specs.Forgery.{accepting}
 use Rattle.line_rules.specs.Worlds.{World, Flight, node_at, flight_at, start}
 use Rattle.line_rules.specs.Steps.{Step, set_up, ran, told, acted, sending, sent_if, is_taken, tag_of, hears, heard, note_by, forged_by, identity, psk_of, flights_of, offered_near, blank_node, restarts, memory_by, ticked}

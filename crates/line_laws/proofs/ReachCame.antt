@@ -47,7 +47,7 @@ use Rattle.reach_rules.specs.CheckedReplies.{hear_acknowledgement, hear_acknowle
 use Rattle.reach_rules.specs.PathAsking.{follows_path, hear_path, hear_path_in, next_toward, path_word}
 use Rattle.reach_rules.specs.ReachingNodes.{Beside, Reaching, drop_it, in_reach, reach_ends, remembers, tells_neighbours, with_checks}
 use Rattle.reach_rules.specs.Receiving.{NeighbourCommand, command_of, command_on, command_with, hear_command, hear_command_at}
-use Rattle.line_rules.specs.declared.event.Event.{Event}
+use Rattle.line_events.specs.declared.event.Event.{Event}
 use Rattle.line_rules.specs.Forgery.{Comes, accepting}
 use Rattle.line_rules.specs.Further.{with_beside}
 use Rattle.line_rules.specs.Worlds.{World, node_at}

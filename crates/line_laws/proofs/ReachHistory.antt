@@ -63,10 +63,10 @@ use Rattle.reach_rules.specs.PathAsking.{ask_ends, ask_path, asks_by as asks_ove
 use Rattle.reach_rules.specs.ReachingNodes.{Beside, Reaching, drop_it, in_reach, nothing_beside, reach_ends, restarted_by, tells_neighbours, tick_beside}
 use Rattle.reach_rules.specs.Receiving.{NeighbourCommand, hear_command, hear_command_at}
 use Rattle.line_rules.specs.Answers.{Reception, sent_word}
-use Rattle.line_rules.specs.declared.event.Answer.{Answer}
-use Rattle.line_rules.specs.declared.event.Event.{Event}
-use Rattle.line_rules.specs.declared.event.Event.TheVariants as events
-use Rattle.line_rules.specs.Events.{AreEvents, IsEvent}
+use Rattle.line_events.specs.declared.event.Answer.{Answer}
+use Rattle.line_events.specs.declared.event.Event.{Event}
+use Rattle.line_events.specs.declared.event.Event.TheVariants as events
+use Rattle.line_events.specs.Events.{AreEvents, IsEvent}
 use Rattle.line_rules.specs.Further.{acknowledged_by, acknowledged_if, acknowledging, adds_frames, beacon_taken, beside_after, beside_at, checked, due, line_step, reaches, replied, restarts_by, scanning as scanning_of, sends_nothing, with_beside, with_check, without_log}
 use Rattle.line_rules.specs.FurtherRuns.{AreOfHistoryAfter, IsOfHistory, check_history, check_step, checked_by, scan_history, scan_step, scanned_by}
 use Rattle.line_rules.specs.Logs.{AreLogged, LogsKept}

@@ -18,8 +18,8 @@ use Rattle.reach_rules.specs.Broadcasts.{broadcast}
 use Rattle.reach_rules.specs.CheckedReplies.{acknowledges}
 use Rattle.reach_rules.specs.PathAsking.{ask_path}
 use Rattle.reach_rules.specs.Receiving.{hear_command}
-use Rattle.line_rules.specs.declared.event.Event.{Event}
-use Rattle.line_rules.specs.Events.{AreEvents, IsEvent}
+use Rattle.line_events.specs.declared.event.Event.{Event}
+use Rattle.line_events.specs.Events.{AreEvents, IsEvent}
 use Rattle.line_rules.specs.Further.{beside_at, with_beside}
 use Rattle.line_rules.specs.Runs.{Entry, IsRun, events_of, issued}
 use Rattle.line_rules.specs.Worlds.{World, node_at, start}

@@ -16,14 +16,14 @@ use Rattle.node_rules.specs.NodeSteps.{NodeStep, acts, of_station}
 use Rattle.reach_rules.specs.Beacons.{is_discovery}
 use Rattle.reach_rules.specs.ReachingNodes.{Beside, restarted, tick_beside}
 use Rattle.reach_rules.specs.Receiving.{NeighbourCommand, command_of}
-use Rattle.line_rules.specs.declared.event.Answer.{Answer}
-use Rattle.line_rules.specs.declared.event.Answer.TheVariants as said
-use Rattle.line_rules.specs.declared.event.Event.{Event}
-use Rattle.line_rules.specs.declared.event.Event.TheVariants as events
-use Rattle.line_rules.specs.declared.event.StepFault.{StepFault}
-use Rattle.line_rules.specs.declared.event.StepFault.TheVariants as faults
+use Rattle.line_events.specs.declared.event.Answer.{Answer}
+use Rattle.line_events.specs.declared.event.Answer.TheVariants as said
+use Rattle.line_events.specs.declared.event.Event.{Event}
+use Rattle.line_events.specs.declared.event.Event.TheVariants as events
+use Rattle.line_events.specs.declared.event.StepFault.{StepFault}
+use Rattle.line_events.specs.declared.event.StepFault.TheVariants as faults
 use Rattle.line_rules.specs.Answers.{Reception, frame_word}
-use Rattle.line_rules.specs.Events.{IsEvent, IsLineOctets}
+use Rattle.line_events.specs.Events.{IsEvent, IsLineOctets}
 use Rattle.line_rules.specs.Forgery.{Comes, OfFlight, OfScript, accepting}
 use Rattle.line_rules.specs.FurtherRuns.{is_restart_of, is_tick}
 use Rattle.line_rules.specs.Further.{accepted_further, after_ok, asks_by, bcast, broadcasts_by, checked, checks, choose, chooses_by, comes, commanded, delivers, discovers_by, heard_by, heard_further, injects, is_dropped, line_step, path, restarts_by, restarts_further, scan, scans_by, ticks, unbelieved}

@@ -53,11 +53,11 @@ use Rattle.reach_rules.specs.CheckedReplies.{message_of}
 use Rattle.reach_rules.specs.ReachingNodes.{Beside, Reaching}
 use Rattle.reach_rules.specs.Receiving.{NeighbourCommand, command_of, hear_command}
 use Rattle.line_rules.specs.Answers.{Reception, ask_word, broadcast_word, command_word, discovery_word, frame_word, scan_word, sent_word}
-use Rattle.line_rules.specs.declared.event.Answer.{Answer}
-use Rattle.line_rules.specs.declared.event.Answer.TheVariants as said
-use Rattle.line_rules.specs.declared.event.Event.{Event}
-use Rattle.line_rules.specs.declared.event.Event.TheVariants as events
-use Rattle.line_rules.specs.Events.{AreEvents, IsEvent}
+use Rattle.line_events.specs.declared.event.Answer.{Answer}
+use Rattle.line_events.specs.declared.event.Answer.TheVariants as said
+use Rattle.line_events.specs.declared.event.Event.{Event}
+use Rattle.line_events.specs.declared.event.Event.TheVariants as events
+use Rattle.line_events.specs.Events.{AreEvents, IsEvent}
 use Rattle.line_rules.specs.Further.{acknowledged_by, acknowledged_if, acknowledging, adds_frames, beacon_taken, beside_at, broadcast_sent, broadcast_up, broadcasts_by, checked, commanded, discovers_by, due, has_discovered, line_step, path_line, reaches, replied, scanning, scans_by, sends_nothing, with_beside, with_check}
 use Rattle.line_rules.specs.Logs.{LogsKept}
 use Rattle.line_rules.specs.Runs.{Entry, IsRun, events_of, one_of}

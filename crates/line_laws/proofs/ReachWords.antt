@@ -14,9 +14,9 @@ use Rattle.reach_rules.specs.declared.refusal.ReachDropped.TheVariants as reach_
 use Rattle.reach_rules.specs.declared.refusal.DiscoveryDropped.{DiscoveryDropped}
 use Rattle.reach_rules.specs.declared.refusal.DiscoveryDropped.TheVariants as discovery_drops
 use Rattle.line_rules.specs.Steps.{hears, identity, restart_word}
-use Rattle.line_rules.specs.declared.event.Answer.TheVariants as said
-use Rattle.line_rules.specs.declared.event.Answer.{Answer}
-use Rattle.line_rules.specs.declared.event.Event.{Event}
+use Rattle.line_events.specs.declared.event.Answer.TheVariants as said
+use Rattle.line_events.specs.declared.event.Answer.{Answer}
+use Rattle.line_events.specs.declared.event.Event.{Event}
 use Rattle.node_rules.specs.Calls as calls
 use Rattle.node_rules.specs.Ciphers.{Ciphers}
 use Rattle.node_rules.specs.Coordinators as coordinator_rules

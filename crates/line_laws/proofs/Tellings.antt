@@ -7,12 +7,12 @@ use Rattle.plc_base.specs.declared.address.Eui.{Eui}
 use Rattle.plc_base.specs.declared.key.Key.{Key}
 use Rattle.plc_base.specs.declared.key.Rand.{Rand}
 use Rattle.plc_base.specs.Grant.{Granted}
-use Rattle.line_rules.specs.declared.event.Answer.{Answer}
-use Rattle.line_rules.specs.declared.event.Answer.TheVariants as said
-use Rattle.line_rules.specs.declared.event.Event.{Event}
-use Rattle.line_rules.specs.declared.event.Event.TheVariants as events
-use Rattle.line_rules.specs.declared.event.StepFault.{StepFault}
-use Rattle.line_rules.specs.declared.event.StepFault.TheVariants as faults
+use Rattle.line_events.specs.declared.event.Answer.{Answer}
+use Rattle.line_events.specs.declared.event.Answer.TheVariants as said
+use Rattle.line_events.specs.declared.event.Event.{Event}
+use Rattle.line_events.specs.declared.event.Event.TheVariants as events
+use Rattle.line_events.specs.declared.event.StepFault.{StepFault}
+use Rattle.line_events.specs.declared.event.StepFault.TheVariants as faults
 use Rattle.node_rules.specs.declared.heard.Accepted.{Accepted}
 use Rattle.node_rules.specs.declared.refusal.CoordinatorRefusal.{CoordinatorRefusal}
 use Rattle.node_rules.specs.declared.refusal.CoordinatorRefusal.TheVariants as orders
@@ -34,7 +34,7 @@ use Rattle.node_rules.specs.MemoryDrafts.{with_station, give_random}
 use Rattle.node_rules.specs.NodeSteps.{NodeStep, acts, stays, answering, changing, of_station}
 use Rattle.node_rules.specs.Showing.{shown_of}
 use Rattle.line_rules.specs.Answers.{random_word, join_word, leave_word, sent_word, ordered_word, frame_word}
-use Rattle.line_rules.specs.Events.{AreOctets, IsEui, IsKey, IsLineOctets, IsEvent}
+use Rattle.line_events.specs.Events.{AreOctets, IsEui, IsKey, IsLineOctets, IsEvent}
 use Rattle.line_rules.specs.Forgery.{Comes, OfFlight, OfScript, accepting}
 use Rattle.line_rules.specs.Worlds.{World, Flight, node_at, flight_at}
 use Rattle.line_rules.specs.Steps.{Step, set_up, ran, told, acted, sending, tag_of, once_begun, in_setup, has_begun, takes_setup, on_node, on_meter, made_node, blank_node, coordinator_node, identity, is_known, restarts, rand, join, joins_by, leave, send, sends_by, breaks, breaks_by, lose, on_flight, tick, ticked, restart, cut, show, psk_of, trace_of, happened, coordinator, meter, depot, depot_by, provisioned, near, near_by, keeps_rank, ranks_full, offered_near, preset, allow, allowed, deliver, inject, arrives, accepted_by, heard, by_coordinator, rekey, challenge, activate, kick, step}

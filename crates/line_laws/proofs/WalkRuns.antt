@@ -63,12 +63,12 @@ use Rattle.reach_rules.specs.CheckedReplies.{acknowledges, hear_acknowledgement_
 use Rattle.reach_rules.specs.PathAsking.{ask_ends, ask_path, asks_by as asks_over, asks_from, follows_path, hear_path_in, path_word}
 use Rattle.reach_rules.specs.ReachingNodes.{Beside, Reaching, drop_it, in_reach, reach_ends, tells_neighbours}
 use Rattle.reach_rules.specs.Receiving.{NeighbourCommand, command_of, hear_command, hear_command_at}
-use Rattle.line_rules.specs.declared.event.Answer.{Answer}
-use Rattle.line_rules.specs.declared.event.Answer.TheVariants as said
-use Rattle.line_rules.specs.declared.event.Event.{Event}
-use Rattle.line_rules.specs.declared.happenings.PathLine.{PathLine}
+use Rattle.line_events.specs.declared.event.Answer.{Answer}
+use Rattle.line_events.specs.declared.event.Answer.TheVariants as said
+use Rattle.line_events.specs.declared.event.Event.{Event}
+use Rattle.line_events.specs.declared.happenings.PathLine.{PathLine}
 use Rattle.line_rules.specs.Answers.{discovery_word, only, scan_word, sent_word}
-use Rattle.line_rules.specs.Events.{AreEvents, IsEvent}
+use Rattle.line_events.specs.Events.{AreEvents, IsEvent}
 use Rattle.line_rules.specs.Further.{acknowledged_if, acknowledging, adds_frames, asked, beacon_taken, beside_at, checked, commanded, discovery_flights, due, goes_toward, has_discovered, line_step, path_line, reaches, scanning, sends_nothing, step_by, with_beside, with_check}
 use Rattle.line_rules.specs.FurtherRuns.{AreWalked, AreWalkedAfter, Nothing, Passes, StandIn, Takes, WasWalked, last_of, steps_taken, steps_toward}
 use Rattle.line_rules.specs.Logs.{LogsKept}

@@ -24,8 +24,8 @@ use Rattle.line_rules.specs.Worlds.{World, Trace, node_at}
 use Rattle.line_laws.specs.Lines.{FlightFits, WorldOk}
 use Rattle.plc_base.specs.Keeper.{Records}
 use Rattle.broadcast_log.specs.Laws.{IsLogIn}
-use Rattle.line_rules.specs.declared.event.Event.{Event}
-use Rattle.line_rules.specs.Events.{IsEvent}
+use Rattle.line_events.specs.declared.event.Event.{Event}
+use Rattle.line_events.specs.Events.{IsEvent}
 use Rattle.line_rules.specs.Runs.{Entry}
 use Rattle.line_rules.specs.Logs.{CommandsAreOctets, HaveShortTables, LogsKept}
 use Rattle.line_rules.specs.Nonces.{IsSpelled}

@@ -5,7 +5,7 @@ use Rattle.node_rules.specs.Ciphers.{Ciphers}
 use Rattle.node_rules.specs.Memory.{StationMemory, Memory, Node, address_of}
 use Rattle.line_rules.specs.Runs.{send_at}
 use Rattle.line_rules.specs.Worlds.{World, Flight, Sending}
-use Rattle.line_rules.specs.declared.happenings.Handed.{Handed}
+use Rattle.line_events.specs.declared.happenings.Handed.{Handed}
 use Rattle.line_laws.specs.Letters.{AreFlights}
 use Rattle.line_laws.specs.Places.{IsInCustody, unit_of}
 use Rattle.line_laws.specs.Ranges.{NodeRanged}

@@ -11,7 +11,7 @@ use Rattle.eap_psk.specs.Messages.{granting_text}
 use Rattle.group_keys.specs.KeyBook as books
 use Rattle.group_keys.specs.KeyRing as ring
 use Rattle.node_rules.specs.Memory.{MeterSession, Role, Coordinator, Meter, Node}
-use Rattle.line_rules.specs.Events.{IsEui}
+use Rattle.line_events.specs.Events.{IsEui}
 use Rattle.line_rules.specs.Nonces.{NonceParts, nonce_parts}
 use Rattle.line_rules.specs.Worlds.{World, Flight, Issued, node_at}
 use Rattle.line_laws.specs.Stores.{IsReadable, IsBookKept}

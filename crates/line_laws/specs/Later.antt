@@ -26,7 +26,7 @@ use Rattle.line_rules.specs.Nonces.{HasSender, IsSpelled}
 use Rattle.line_rules.specs.Steps.{ran, told}
 use Rattle.line_rules.specs.Worlds.{World, Flight, Issued, Pairing, Sending, node_at, start}
 use Rattle.line_rules.specs.Further.{discovery_flight}
-use Rattle.line_rules.specs.declared.happenings.Handed.{Handed}
+use Rattle.line_events.specs.declared.happenings.Handed.{Handed}
 use Rattle.line_laws.specs.Agreed.{Confirmed}
 use Rattle.line_laws.specs.InCustody.{Custody, SentUnder}
 use Rattle.line_laws.specs.Keyed.{AtHome, Each, Keyed}

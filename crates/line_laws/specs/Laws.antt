@@ -1,7 +1,7 @@
 -- What holds of every run of the line.
 use Rattle.std.specs.Prelude.{All, List}
 use Rattle.node_rules.specs.Ciphers.{Ciphers, network}
-use Rattle.line_rules.specs.Events.{AreEvents}
+use Rattle.line_events.specs.Events.{AreEvents}
 use Rattle.line_rules.specs.Worlds.{Flight, start}
 use Rattle.line_rules.specs.Runs.{Entry, IsRun, events_of}
 use Rattle.line_rules.specs.SafeRuns.{IsAlwaysSized, IsAlwaysSizedBy, RestartsAreAnswered}

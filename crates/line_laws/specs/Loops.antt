@@ -6,7 +6,7 @@ use Rattle.routing_set.specs.Ranks.{IsAtLeast}
 use Rattle.routing_set.specs.RoutingSet as routing
 use Rattle.node_rules.specs.Ciphers.{network}
 use Rattle.node_rules.specs.Memory.{Node, node_route}
-use Rattle.line_rules.specs.declared.event.Event.TheVariants as events
+use Rattle.line_events.specs.declared.event.Event.TheVariants as events
 use Rattle.line_rules.specs.Runs.{Entry}
 use Rattle.line_rules.specs.SafeRuns.{HasNoLoop}
 use Rattle.line_rules.specs.Worlds.{World, node_at, start}

@@ -13,7 +13,7 @@ use Rattle.node_rules.specs.declared.heard.Path.{Path}
 use Rattle.node_rules.specs.declared.heard.Path.TheVariants as paths
 use Rattle.node_rules.specs.declared.refusal.FrameRefusal.{FrameRefusal}
 use Rattle.line_rules.specs.Worlds.{Flight, World, has_octets}
-use Rattle.line_rules.specs.declared.happenings.Handed.{Handed}
+use Rattle.line_events.specs.declared.happenings.Handed.{Handed}
 use Rattle.line_laws.specs.Custody.{weigh, below, content_is, keeps}
 
 -- what a node keeps, and a halted one nothing

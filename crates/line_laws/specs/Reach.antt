@@ -17,9 +17,9 @@ use Rattle.reach_rules.specs.Broadcasts.{broadcast}
 use Rattle.reach_rules.specs.CheckedReplies.{message_of}
 use Rattle.reach_rules.specs.PathAsking.{ask_path}
 use Rattle.reach_rules.specs.Receiving.{NeighbourCommand, command_of, hear_command}
-use Rattle.line_rules.specs.declared.event.Event.{Event}
+use Rattle.line_events.specs.declared.event.Event.{Event}
 use Rattle.line_rules.specs.Answers.{Reception}
-use Rattle.line_rules.specs.Events.{IsEvent, IsLineOctets}
+use Rattle.line_events.specs.Events.{IsEvent, IsLineOctets}
 use Rattle.line_rules.specs.Forgery.{Comes, accepting}
 use Rattle.line_rules.specs.Further.{acknowledging, beside_at, due, reaches}
 use Rattle.line_rules.specs.FurtherRuns.{AreBroadcastOnce, AreOfHistory, AreWalked, LogsAlwaysKept}

@@ -20,12 +20,12 @@ use Rattle.node_rules.specs.Ciphers.{network}
 use Rattle.node_rules.specs.Frames.{Letter, Sealed, spelled}
 use Rattle.node_rules.specs.Memory.{Node}
 use Rattle.node_rules.specs.Replies.{route_message}
-use Rattle.line_rules.specs.declared.event.Answer.{Answer}
-use Rattle.line_rules.specs.declared.event.Answer.TheVariants as said
-use Rattle.line_rules.specs.declared.event.Event.{Event}
-use Rattle.line_rules.specs.declared.event.Event.TheVariants as events
-use Rattle.line_rules.specs.declared.happenings.BroadcastUp.{BroadcastUp}
-use Rattle.line_rules.specs.declared.happenings.PathLine.{PathLine}
+use Rattle.line_events.specs.declared.event.Answer.{Answer}
+use Rattle.line_events.specs.declared.event.Answer.TheVariants as said
+use Rattle.line_events.specs.declared.event.Event.{Event}
+use Rattle.line_events.specs.declared.event.Event.TheVariants as events
+use Rattle.line_events.specs.declared.happenings.BroadcastUp.{BroadcastUp}
+use Rattle.line_events.specs.declared.happenings.PathLine.{PathLine}
 use Rattle.line_rules.specs.Forgery.{Comes, accepting}
 use Rattle.line_rules.specs.FurtherRuns.{broadcasts}
 use Rattle.line_rules.specs.Runs.{Entry, one_of}

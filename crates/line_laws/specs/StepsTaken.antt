@@ -6,8 +6,8 @@ use Rattle.path_requests.specs.Reading.{path_in}
 use Rattle.path_requests.specs.Walks.{ends_with}
 use Rattle.node_rules.specs.Ciphers.{network}
 use Rattle.node_rules.specs.Memory.{Node, node_address, node_route}
-use Rattle.line_rules.specs.declared.event.Event.{Event}
-use Rattle.line_rules.specs.declared.event.Event.TheVariants as events
+use Rattle.line_events.specs.declared.event.Event.{Event}
+use Rattle.line_events.specs.declared.event.Event.TheVariants as events
 use Rattle.line_rules.specs.Runs.{Entry}
 use Rattle.line_rules.specs.Worlds.{Stepping, World, node_at, start}
 use Rattle.line_laws.specs.Laws.{IsLineRun}

@@ -2,7 +2,7 @@
 use Rattle.std.specs.Prelude.{◌≡◌, false, List, [], ◌∷◌, ◌++◌, IfSome}
 use Rattle.line_rules.specs.Runs.{Entry, sends, ups}
 use Rattle.line_rules.specs.SafeRuns.{WasSent, IsNew}
-use Rattle.line_rules.specs.declared.happenings.Handed.{Handed}
+use Rattle.line_events.specs.declared.happenings.Handed.{Handed}
 use Rattle.node_rules.specs.Ciphers.{network}
 use Rattle.line_laws.specs.Laws.{IsLineRun}
 

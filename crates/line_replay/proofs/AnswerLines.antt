@@ -1,7 +1,7 @@
 -- The words of answers have no line feed.
 use Rattle.std.proofs.Common.{◌≡◌, true, refl}
-use Rattle.line_rules.specs.declared.event.Answer.{Answer}
-use Rattle.line_rules.specs.declared.event.Answer.TheVariants as answers
+use Rattle.line_events.specs.declared.event.Answer.{Answer}
+use Rattle.line_events.specs.declared.event.Answer.TheVariants as answers
 use Rattle.line_script.specs.AnswerWords.{answer_word, verdict_word}
 use Rattle.line_replay.proofs.Inside.{is_inside}
 

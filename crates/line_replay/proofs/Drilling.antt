@@ -5,10 +5,10 @@ use Rattle.std.specs.Option.{option_map, option_map_or}
 use Rattle.std.proofs.lemmas.Bool.{lt-ltb, ltb-true}
 use Rattle.std.proofs.lemmas.Option.{slice_get_past}
 use Rattle.node_rules.specs.Ciphers.{network}
-use Rattle.line_rules.specs.declared.event.Event.{Event}
-use Rattle.line_rules.specs.declared.event.Event.TheVariants as events
-use Rattle.line_rules.specs.declared.event.TheConstants.{MAX_EVENTS}
-use Rattle.line_rules.specs.Events.{IsEvent, IsLineOctets}
+use Rattle.line_events.specs.declared.event.Event.{Event}
+use Rattle.line_events.specs.declared.event.Event.TheVariants as events
+use Rattle.line_events.specs.declared.event.TheConstants.{MAX_EVENTS}
+use Rattle.line_events.specs.Events.{IsEvent, IsLineOctets}
 use Rattle.line_rules.specs.Worlds.{World, Flight, flight_at}
 use Rattle.line_rules.specs.Further.{line_step}
 use Rattle.line_replay.specs.Drills.{Drilling, after, world_by, each, bring_round, drain_one, drain_within}

@@ -8,15 +8,15 @@ use Rattle.plc_base.specs.declared.key.Key.{Key}
 use Rattle.node_rules.specs.declared.shown.Shown.{Shown}
 use Rattle.node_rules.specs.declared.shown.ShownRoute.{ShownRoute}
 use Rattle.node_rules.specs.declared.shown.ShownPeer.{ShownPeer}
-use Rattle.line_rules.specs.declared.event.Event.{Event}
-use Rattle.line_rules.specs.declared.event.Event.TheVariants as events
-use Rattle.line_rules.specs.declared.event.Answer.{Answer}
-use Rattle.line_rules.specs.declared.happenings.Handed.{Handed}
-use Rattle.line_rules.specs.declared.happenings.BroadcastUp.{BroadcastUp}
-use Rattle.line_rules.specs.declared.happenings.AgentLine.{AgentLine}
-use Rattle.line_rules.specs.declared.happenings.PathLine.{PathLine}
-use Rattle.line_rules.specs.declared.happenings.Admission.{Admission}
-use Rattle.line_rules.specs.declared.happenings.Happenings.{Happenings}
+use Rattle.line_events.specs.declared.event.Event.{Event}
+use Rattle.line_events.specs.declared.event.Event.TheVariants as events
+use Rattle.line_events.specs.declared.event.Answer.{Answer}
+use Rattle.line_events.specs.declared.happenings.Handed.{Handed}
+use Rattle.line_events.specs.declared.happenings.BroadcastUp.{BroadcastUp}
+use Rattle.line_events.specs.declared.happenings.AgentLine.{AgentLine}
+use Rattle.line_events.specs.declared.happenings.PathLine.{PathLine}
+use Rattle.line_events.specs.declared.happenings.Admission.{Admission}
+use Rattle.line_events.specs.declared.happenings.Happenings.{Happenings}
 use Rattle.line_script.specs.declared.report.Reason.{Reason}
 use Rattle.line_script.specs.declared.report.Reason.TheVariants as reasons
 use Rattle.line_script.specs.declared.report.Totals.{Totals}

@@ -8,11 +8,11 @@ use Rattle.line_driver.specs.declared.machine.Exit.{Exit}
 use Rattle.line_driver.specs.declared.machine.Exit.TheVariants as exits
 use Rattle.line_driver.specs.Clauses.{Comes, Drives}
 use Rattle.plc_base.specs.Streams.{SourceState, SinkState, SourceRose, SinkRose}
-use Rattle.line_rules.specs.declared.event.Event.{Event}
-use Rattle.line_rules.specs.declared.event.StepFault.TheVariants as faults
-use Rattle.line_rules.specs.declared.event.TheConstants.{MAX_EVENTS}
+use Rattle.line_events.specs.declared.event.Event.{Event}
+use Rattle.line_events.specs.declared.event.StepFault.TheVariants as faults
+use Rattle.line_events.specs.declared.event.TheConstants.{MAX_EVENTS}
 use Rattle.node_rules.specs.Ciphers.{network}
-use Rattle.line_rules.specs.Events.{IsEvent, AreEvents}
+use Rattle.line_events.specs.Events.{IsEvent, AreEvents}
 use Rattle.line_rules.specs.Worlds.{World, start}
 use Rattle.line_rules.specs.Steps.{Step}
 use Rattle.line_rules.specs.Further.{line_step}

@@ -7,9 +7,9 @@ use Rattle.line_driver.specs.declared.telling.StopReason.{StopReason}
 use Rattle.line_driver.specs.Outcomes.{Turn, Takes}
 use Rattle.line_driver.specs.Clauses.{Told, Turned}
 use Rattle.line_driver.proofs.Turned.{taken}
-use Rattle.line_rules.specs.declared.event.Event.{Event}
-use Rattle.line_rules.specs.declared.happenings.Happenings.{Happenings}
-use Rattle.line_rules.specs.declared.event.TheConstants.{MAX_EVENTS}
+use Rattle.line_events.specs.declared.event.Event.{Event}
+use Rattle.line_events.specs.declared.happenings.Happenings.{Happenings}
+use Rattle.line_events.specs.declared.event.TheConstants.{MAX_EVENTS}
 use Rattle.node_rules.specs.Ciphers.{network}
 use Rattle.line_rules.specs.Worlds.{World}
 use Rattle.line_rules.specs.Further.{line_step}

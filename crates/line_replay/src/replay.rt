@@ -1,7 +1,7 @@
 //! A world that takes the lines of a script and reports what they do.
 ghost use Rattle.std.specs.Prelude.{◌≡◌, ◌++◌, OnOk, string_bytes};
 ghost use Rattle.line_driver.specs.Clauses.{Turned};
-ghost use Rattle.line_rules.specs.Events.{IsEvent};
+ghost use Rattle.line_events.specs.Events.{IsEvent};
 ghost use Rattle.line_rules.specs.Worlds.{start};
 ghost use Rattle.line_script.specs.Texts.{happened_text};
 ghost use Rattle.line_replay.specs.Texts.{sent_text};
@@ -9,7 +9,7 @@ ghost use Rattle.line_replay.specs.Replay.{Playing, is_forged, event_taking, tur
 
 use crate::report::{push_sent, refuse, totals};
 use line_driver::{LineKind, LineMachine, StopReason, tell, tell_made};
-use line_rules::{Event, Happenings, MAX_EVENTS, StepFault};
+use line_events::{Event, Happenings, MAX_EVENTS, StepFault};
 use line_script::{LINE_OCTETS, Reading, Reason, end_text, push_happened, read_line};
 use line_world::{Space, World};
 use plc_base::Sink;

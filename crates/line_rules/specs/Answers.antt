@@ -3,8 +3,8 @@ use Rattle.std.specs.Prelude.{ℕ, List, Option, Some, None, Result, Ok, Err}
 use Rattle.plc_base.specs.declared.address.Eui.{Eui}
 use Rattle.plc_base.specs.Grant.{Granted}
 use Rattle.eap_psk.specs.declared.server.Agreed.{Agreed}
-use Rattle.line_rules.specs.declared.event.Answer.{Answer}
-use Rattle.line_rules.specs.declared.event.Answer.TheVariants as said
+use Rattle.line_events.specs.declared.event.Answer.{Answer}
+use Rattle.line_events.specs.declared.event.Answer.TheVariants as said
 use Rattle.node_rules.specs.declared.refusal.FrameRefusal.{FrameRefusal}
 use Rattle.node_rules.specs.declared.refusal.FrameRefusal.TheVariants as frames
 use Rattle.node_rules.specs.declared.refusal.Dropped.{Dropped}

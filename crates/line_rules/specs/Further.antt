@@ -51,15 +51,15 @@ use Rattle.reach_rules.specs.Broadcasts.{broadcast}
 use Rattle.reach_rules.specs.PathAsking.{ask_path}
 use Rattle.reach_rules.specs.Beacons.{ChosenAgent, Discovering, is_discovery, hear_discovery, begin_scan, choose_agent}
 use Rattle.reach_rules.specs.Receiving.{NeighbourCommand, command_of, hear_command}
-use Rattle.line_rules.specs.declared.event.Event.{Event}
-use Rattle.line_rules.specs.declared.event.Event.TheVariants as events
-use Rattle.line_rules.specs.declared.event.Answer.{Answer}
-use Rattle.line_rules.specs.declared.event.Answer.TheVariants as said
-use Rattle.line_rules.specs.declared.event.StepFault.{StepFault}
-use Rattle.line_rules.specs.declared.event.StepFault.TheVariants as faults
-use Rattle.line_rules.specs.declared.happenings.AgentLine.{AgentLine}
-use Rattle.line_rules.specs.declared.happenings.BroadcastUp.{BroadcastUp}
-use Rattle.line_rules.specs.declared.happenings.PathLine.{PathLine}
+use Rattle.line_events.specs.declared.event.Event.{Event}
+use Rattle.line_events.specs.declared.event.Event.TheVariants as events
+use Rattle.line_events.specs.declared.event.Answer.{Answer}
+use Rattle.line_events.specs.declared.event.Answer.TheVariants as said
+use Rattle.line_events.specs.declared.event.StepFault.{StepFault}
+use Rattle.line_events.specs.declared.event.StepFault.TheVariants as faults
+use Rattle.line_events.specs.declared.happenings.AgentLine.{AgentLine}
+use Rattle.line_events.specs.declared.happenings.BroadcastUp.{BroadcastUp}
+use Rattle.line_events.specs.declared.happenings.PathLine.{PathLine}
 use Rattle.line_rules.specs.Answers.{Reception, only, frame_word, command_word, discovery_word, broadcast_word, ask_word, scan_word}
 use Rattle.line_rules.specs.Steps.{Step, set_up, ran, told, spoken, happened, trace_of, once_begun, in_setup, on_node, on_meter, on_flight, acted, psk_of, identity, hears, heard, received, forged_by, note_by, restarts, restart, tick, step}
 use Rattle.line_rules.specs.Worlds.{World, Flight, Trace, Broadcasting, Stepping, Noticed, Replied, Acknowledged, Scans, Heard, Further, nothing_further, node_at}

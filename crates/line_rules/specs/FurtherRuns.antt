@@ -7,10 +7,10 @@ use Rattle.neighbour_checks.specs.History as checking
 use Rattle.pan_discovery.specs.History as scanning
 use Rattle.node_rules.specs.Memory.{Memory, Node}
 use Rattle.reach_rules.specs.ReachingNodes.{Beside}
-use Rattle.line_rules.specs.declared.event.Event.{Event}
-use Rattle.line_rules.specs.declared.event.Event.TheVariants as events
-use Rattle.line_rules.specs.declared.happenings.BroadcastUp.{BroadcastUp}
-use Rattle.line_rules.specs.declared.happenings.PathLine.{PathLine}
+use Rattle.line_events.specs.declared.event.Event.{Event}
+use Rattle.line_events.specs.declared.event.Event.TheVariants as events
+use Rattle.line_events.specs.declared.happenings.BroadcastUp.{BroadcastUp}
+use Rattle.line_events.specs.declared.happenings.PathLine.{PathLine}
 use Rattle.line_rules.specs.Further.{beside_at}
 use Rattle.line_rules.specs.Runs.{Entry, all_of, one_of}
 use Rattle.line_rules.specs.Worlds.{World, node_at, start, Broadcasting, Stepping, Noticed, Replied, Acknowledged, Scans, Heard}

@@ -2,7 +2,7 @@
 use Rattle.std.specs.Prelude.{◌≡◌, ◌+◌, ◌≤◌, true, List, [], ◌∷◌, ◌++◌, length, Ok}
 use Rattle.plc_base.specs.declared.tags.PairTag.{PairTag}
 use Rattle.node_rules.specs.Ciphers.{Ciphers}
-use Rattle.line_rules.specs.declared.event.Event.{Event}
+use Rattle.line_events.specs.declared.event.Event.{Event}
 use Rattle.line_rules.specs.Worlds.{World, Flight, Trace}
 use Rattle.line_rules.specs.Steps.{step}
 use Rattle.line_rules.specs.Further.{line_step}

@@ -1,5 +1,4 @@
 pub mod Answers
-pub mod Events
 pub mod Worlds
 pub mod Steps
 pub mod Further

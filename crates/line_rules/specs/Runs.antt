@@ -1,10 +1,10 @@
 -- Runs of the world, and the history of each.
 use Rattle.std.specs.Prelude.{◌≡◌, ℕ, ◌+◌, ◌-◌, ◌<◌, ◌==◌, nat_lt, false, List, [], ◌∷◌, ◌++◌, map, All, Option, Some, None, Ok, Err, slice_get, if◌then◌else◌}
-use Rattle.line_rules.specs.declared.event.Event.{Event}
-use Rattle.line_rules.specs.declared.event.TheConstants.{MAX_EVENTS}
+use Rattle.line_events.specs.declared.event.Event.{Event}
+use Rattle.line_events.specs.declared.event.TheConstants.{MAX_EVENTS}
 use Rattle.node_rules.specs.Ciphers.{Ciphers}
 use Rattle.line_rules.specs.Worlds.{World, Sending, Issued, Pairing, Trace}
-use Rattle.line_rules.specs.declared.happenings.Handed.{Handed}
+use Rattle.line_events.specs.declared.happenings.Handed.{Handed}
 use Rattle.line_rules.specs.Steps.{Step}
 use Rattle.line_rules.specs.Further.{line_step}
 

@@ -10,12 +10,12 @@ use Rattle.plc_base.specs.declared.keeper.BadStore.{BadStore}
 use Rattle.plc_base.specs.declared.out_frame.OutFrame.{OutFrame}
 use Rattle.plc_base.specs.Grant.{Granted}
 use Rattle.routing_set.specs.RoutingSet as routing
-use Rattle.line_rules.specs.declared.event.Event.{Event}
-use Rattle.line_rules.specs.declared.event.Event.TheVariants as events
-use Rattle.line_rules.specs.declared.event.Answer.{Answer}
-use Rattle.line_rules.specs.declared.event.Answer.TheVariants as said
-use Rattle.line_rules.specs.declared.event.StepFault.{StepFault}
-use Rattle.line_rules.specs.declared.event.StepFault.TheVariants as faults
+use Rattle.line_events.specs.declared.event.Event.{Event}
+use Rattle.line_events.specs.declared.event.Event.TheVariants as events
+use Rattle.line_events.specs.declared.event.Answer.{Answer}
+use Rattle.line_events.specs.declared.event.Answer.TheVariants as said
+use Rattle.line_events.specs.declared.event.StepFault.{StepFault}
+use Rattle.line_events.specs.declared.event.StepFault.TheVariants as faults
 use Rattle.node_rules.specs.declared.heard.Accepted.{Accepted}
 use Rattle.node_rules.specs.declared.heard.Path.{Path}
 use Rattle.node_rules.specs.declared.heard.Path.TheVariants as paths
@@ -44,9 +44,9 @@ use Rattle.node_rules.specs.Showing.{shown_of}
 use Rattle.line_rules.specs.Worlds.{Flight, World, node_at, flight_at, note_of, is_forged_frame, is_forged_tag, Issued, Pairing, Trace, nothing_further}
 pub use Rattle.line_flights.specs.Flights.{flight_by}
 use Rattle.reach_rules.specs.ReachingNodes.{nothing_beside}
-use Rattle.line_rules.specs.declared.happenings.Handed.{Handed}
-use Rattle.line_rules.specs.declared.happenings.Admission.{Admission}
-use Rattle.line_rules.specs.declared.happenings.Happenings.{Happenings}
+use Rattle.line_events.specs.declared.happenings.Handed.{Handed}
+use Rattle.line_events.specs.declared.happenings.Admission.{Admission}
+use Rattle.line_events.specs.declared.happenings.Happenings.{Happenings}
 
 -- what an event gives: the world after it and what it was, or why it was not taken
 abbrev pub Step : Type 0

@@ -4,7 +4,7 @@ use Rattle.plc_base.specs.declared.address.Eui.{Eui}
 use Rattle.plc_base.specs.declared.key.Key.{Key}
 use Rattle.plc_base.specs.declared.tags.PairTag.{PairTag}
 use Rattle.eap_psk.specs.declared.server.Agreed.{Agreed}
-use Rattle.line_rules.specs.declared.happenings.Happenings.{Happenings}
+use Rattle.line_events.specs.declared.happenings.Happenings.{Happenings}
 use Rattle.node_rules.specs.Memory.{Node}
 pub use Rattle.line_flights.specs.Flights.{Flight, has_octets, is_forged_frame, same_rand, same_tag, is_forged_tag}
 unfoldable pub use Rattle.line_flights.specs.Flights.{note_of}

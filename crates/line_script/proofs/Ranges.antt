@@ -8,11 +8,11 @@ use Rattle.std.proofs.lemmas.Bool.{ltb-true, ltb-false, leb-true, leb-false, eqb
 use Rattle.hex.specs.Hex.{IsBytes, decode_of}
 use Rattle.hex.specs.declared.error.FromHexError.{FromHexError}
 use Rattle.hex.proofs.HexLemmas.{decode_of-ok}
-use Rattle.line_rules.specs.Events.{AreOctets, IsEui, IsLineOctets, IsNumber, IsCost, IsEvent}
+use Rattle.line_events.specs.Events.{AreOctets, IsEui, IsLineOctets, IsNumber, IsCost, IsEvent}
 use Rattle.line_script.specs.declared.kind.EventKind.{EventKind}
 use Rattle.line_script.specs.declared.kind.EventKind.TheVariants as kinds
-use Rattle.line_rules.specs.declared.event.Event.{Event}
-use Rattle.line_rules.specs.declared.event.Event.TheVariants.{Checks}
+use Rattle.line_events.specs.declared.event.Event.{Event}
+use Rattle.line_events.specs.declared.event.Event.TheVariants.{Checks}
 use Rattle.std.specs.Str.{bytes_eq}
 use Rattle.line_script.specs.declared.reading.Reading.TheVariants.{Quiet}
 use Rattle.line_script.specs.Kinds.{kind_word, kind_named}

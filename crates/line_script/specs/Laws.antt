@@ -1,7 +1,7 @@
 -- The law of all lines.
 use Rattle.std.specs.Prelude.{◌≡◌}
-use Rattle.line_rules.specs.declared.event.Event.{Event}
-use Rattle.line_rules.specs.Events.{IsEvent}
+use Rattle.line_events.specs.declared.event.Event.{Event}
+use Rattle.line_events.specs.Events.{IsEvent}
 use Rattle.line_script.specs.declared.reading.Reading.TheVariants.{Reads}
 use Rattle.line_script.specs.Readings.{reading}
 use Rattle.line_script.specs.Lines.{line_of}

@@ -3,15 +3,15 @@ use Rattle.std.specs.Prelude.{ℕ, Bool, List, [], ◌∷◌, ◌++◌, codes, O
 use Rattle.std.specs.Fmt.{decimal}
 use Rattle.hex.specs.Hex.{encode_lower}
 use Rattle.node_rules.specs.declared.shown.Shown.{Shown}
-use Rattle.line_rules.specs.declared.event.Event.{Event}
-use Rattle.line_rules.specs.declared.event.Event.TheVariants.{Show}
-use Rattle.line_rules.specs.declared.event.Answer.{Answer}
-use Rattle.line_rules.specs.declared.happenings.Handed.{Handed}
-use Rattle.line_rules.specs.declared.happenings.BroadcastUp.{BroadcastUp}
-use Rattle.line_rules.specs.declared.happenings.AgentLine.{AgentLine}
-use Rattle.line_rules.specs.declared.happenings.PathLine.{PathLine}
-use Rattle.line_rules.specs.declared.happenings.Admission.{Admission}
-use Rattle.line_rules.specs.declared.happenings.Happenings.{Happenings}
+use Rattle.line_events.specs.declared.event.Event.{Event}
+use Rattle.line_events.specs.declared.event.Event.TheVariants.{Show}
+use Rattle.line_events.specs.declared.event.Answer.{Answer}
+use Rattle.line_events.specs.declared.happenings.Handed.{Handed}
+use Rattle.line_events.specs.declared.happenings.BroadcastUp.{BroadcastUp}
+use Rattle.line_events.specs.declared.happenings.AgentLine.{AgentLine}
+use Rattle.line_events.specs.declared.happenings.PathLine.{PathLine}
+use Rattle.line_events.specs.declared.happenings.Admission.{Admission}
+use Rattle.line_events.specs.declared.happenings.Happenings.{Happenings}
 use Rattle.line_script.specs.declared.report.Reason.{Reason}
 use Rattle.line_script.specs.declared.report.Reason.TheVariants as reasons
 use Rattle.line_script.specs.declared.report.Totals.{Totals}

@@ -2,7 +2,7 @@
 ghost use Rattle.std.specs.Prelude.{◌≡◌, ◌++◌, codes};
 ghost use Rattle.line_script.specs.AnswerWords.{answer_word, verdict_word};
 
-use line_rules::Answer;
+use line_events::Answer;
 
 /// The word of an answer.
 pub fn answer_word(answer: Answer) -> &'static str

@@ -7,7 +7,7 @@ use crate::kind::{EventKind, is_same};
 use crate::word::{
     LINE_OCTETS, cost, eui, field, hex_octets, keeps_new, number, number_within, sixteen_octets,
 };
-use line_rules::Event;
+use line_events::Event;
 use plc_base::{Key, KeyIndex, Rand};
 
 /// What a line says.

@@ -7,7 +7,7 @@ ghost use Rattle.line_script.specs.Texts.{reason_word, answer_text, forged_text,
 use crate::answer::{answer_word, spaced_verdict};
 use crate::node_report::{push_node, short_word};
 use itoa::Buffer;
-use line_rules::{Admission, AgentLine, Answer, BroadcastUp, Event, Handed, Happenings, PathLine};
+use line_events::{Admission, AgentLine, Answer, BroadcastUp, Event, Handed, Happenings, PathLine};
 use node_rules::ShownRef;
 use plc_base::Short;
 use std::alloc::{AllocError, Global};

@@ -14,8 +14,8 @@ use Rattle.node_rules.specs.Carrying.{Carries, IsCarriedOut, nothing}
 use Rattle.node_rules.specs.Tables.{HasShortTables, HasGaplessTables, HoldsTables, WritesInPlace}
 use Rattle.node_rules.proofs.Outcomes.{carried}
 use Rattle.node_rules.proofs.Tables.{writes_keep_tables}
-use Rattle.line_rules.specs.declared.event.Answer.{Answer}
-use Rattle.line_rules.specs.declared.event.Answer.TheVariants as said
+use Rattle.line_events.specs.declared.event.Answer.{Answer}
+use Rattle.line_events.specs.declared.event.Answer.TheVariants as said
 use Rattle.line_world.specs.Nodes.{cut_told, node_in}
 use Rattle.line_world.specs.Doings.{Took}
 use Rattle.line_world.specs.Soundness.{AgreesAs, IsSound}

@@ -47,10 +47,10 @@ use Rattle.line_flights.specs.Flown.{Flown, not_lost}
 use Rattle.line_world.specs.declared.nodes.reception.Reception as telling
 use Rattle.line_world.specs.Doings.{Did}
 use Rattle.line_world.specs.Receiving.{Received, Tells, handed_up}
-use Rattle.line_rules.specs.declared.event.StepFault.TheVariants as faults
-use Rattle.line_rules.specs.declared.event.TheConstants.{MAX_EVENTS}
-use Rattle.line_rules.specs.declared.happenings.Happenings.{Happenings}
-use Rattle.line_rules.specs.declared.event.Answer.TheVariants as said
+use Rattle.line_events.specs.declared.event.StepFault.TheVariants as faults
+use Rattle.line_events.specs.declared.event.TheConstants.{MAX_EVENTS}
+use Rattle.line_events.specs.declared.happenings.Happenings.{Happenings}
+use Rattle.line_events.specs.declared.event.Answer.TheVariants as said
 use Rattle.line_rules.specs.Answers.{CompletedJoining, Reception, Up, coordinator_reception, frame_word, meter_reception, only}
 use Rattle.line_rules.specs.Forgery.{accepting}
 use Rattle.line_rules.specs.Further.{accepted_further, acknowledged_if, checked, comes, commanded, discovers_by, due, heard_by, heard_further, injects, is_dropped, unbelieved, with_check}

@@ -12,10 +12,10 @@ use Rattle.node_rules.specs.Memory.{Memory, Node}
 use Rattle.node_rules.specs.NodeSteps.{NodeStep, answering}
 use Rattle.node_rules.specs.Plans.{Plan}
 use Rattle.reach_rules.specs.ReachingNodes.{Beside, Reaching, restarted, restarted_by}
-use Rattle.line_rules.specs.declared.event.Answer.{Answer}
-use Rattle.line_rules.specs.declared.happenings.Happenings.{Happenings}
-use Rattle.line_rules.specs.declared.event.StepFault.{StepFault}
-use Rattle.line_rules.specs.declared.event.TheConstants.{MAX_EVENTS}
+use Rattle.line_events.specs.declared.event.Answer.{Answer}
+use Rattle.line_events.specs.declared.happenings.Happenings.{Happenings}
+use Rattle.line_events.specs.declared.event.StepFault.{StepFault}
+use Rattle.line_events.specs.declared.event.TheConstants.{MAX_EVENTS}
 use Rattle.line_rules.specs.Further.{after_ok, beside_after, beside_at, has_reached, reaches, restarts_by, set_beside}
 use Rattle.line_rules.specs.Logs.{AreLogged, LogsKept}
 use Rattle.line_rules.specs.Steps.{acted, happened, ran, restarts, spoken, told}

@@ -41,7 +41,7 @@ use Rattle.reach_rules.specs.declared.refusal.ReachDropped.{ReachDropped}
 use Rattle.reach_rules.specs.declared.refusal.ReachDropped.TheVariants.{Known, Old}
 use Rattle.reach_rules.specs.Broadcasts.{admits_broadcast, broadcast, broadcast_ends, broadcast_fault, broadcast_from, datagram_fault, goes_further, hear_broadcast, hear_broadcast_in, hop_less, mark_fault, own_broadcast, with_broadcast_mark, with_broadcast_number}
 use Rattle.reach_rules.specs.ReachingNodes.{Beside, Reaching, in_reach, reach_ends, tells_neighbours}
-use Rattle.line_rules.specs.declared.event.Answer.TheVariants as said
+use Rattle.line_events.specs.declared.event.Answer.TheVariants as said
 use Rattle.line_rules.specs.Further.{without_log}
 use Rattle.line_world.specs.Reaching.{Reaches, ReachesCommand, ReachesFirst, beside_left, handed_up, of_held, told_after}
 use Rattle.line_world.proofs.FurtherPlans.{first_rests, rests_after, told_as}

@@ -16,9 +16,9 @@ use Rattle.node_rules.specs.NodeSteps.{NodeStep}
 use Rattle.node_rules.specs.Replies.{reply_among}
 use Rattle.reach_rules.specs.CheckedReplies.{message_of}
 use Rattle.line_flights.specs.declared.flights.Origin.{Origin}
-use Rattle.line_rules.specs.declared.event.Answer.{Answer}
-use Rattle.line_rules.specs.declared.event.TheConstants.{MAX_EVENTS}
-use Rattle.line_rules.specs.declared.happenings.Happenings.{Happenings}
+use Rattle.line_events.specs.declared.event.Answer.{Answer}
+use Rattle.line_events.specs.declared.event.TheConstants.{MAX_EVENTS}
+use Rattle.line_events.specs.declared.happenings.Happenings.{Happenings}
 use Rattle.line_rules.specs.Answers.{Reception}
 use Rattle.line_rules.specs.Further.{due}
 use Rattle.line_rules.specs.Steps.{hears}

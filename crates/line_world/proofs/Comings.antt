@@ -25,11 +25,11 @@ use Rattle.node_rules.specs.Plans.{Plan, carry_out, finished, halted, outcome_of
 use Rattle.reach_rules.specs.Beacons.{is_discovery, frame_type}
 use Rattle.reach_rules.specs.Receiving.{NeighbourCommand, command_of}
 use Rattle.line_flights.specs.Flown.{not_lost}
-use Rattle.line_rules.specs.declared.event.Event.{Event}
-use Rattle.line_rules.specs.declared.event.Event.TheVariants as events
-use Rattle.line_rules.specs.declared.event.StepFault.{StepFault}
-use Rattle.line_rules.specs.declared.event.StepFault.TheVariants as faults
-use Rattle.line_rules.specs.declared.happenings.Happenings.{Happenings}
+use Rattle.line_events.specs.declared.event.Event.{Event}
+use Rattle.line_events.specs.declared.event.Event.TheVariants as events
+use Rattle.line_events.specs.declared.event.StepFault.{StepFault}
+use Rattle.line_events.specs.declared.event.StepFault.TheVariants as faults
+use Rattle.line_events.specs.declared.happenings.Happenings.{Happenings}
 use Rattle.line_rules.specs.Forgery.{Comes, OfFlight, OfScript, accepting}
 use Rattle.line_rules.specs.Further.{line_step}
 use Rattle.line_rules.specs.Logs.{CommandsAreOctets, LogsKept}

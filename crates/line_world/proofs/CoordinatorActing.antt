@@ -33,7 +33,7 @@ use Rattle.coordinator.specs.CoordinatorAgreement.{HoldsWith, Holds, HasHome}
 use Rattle.coordinator.specs.CoordinatorReading.{if_read, read_answer}
 use Rattle.coordinator.specs.CoordinatorStates.{CoordinatorState, memory_in, node_of}
 use Rattle.line_rules.specs.Steps.{memory_by, restart_word, restarts, ticked}
-use Rattle.line_rules.specs.declared.event.Answer.{Answer}
+use Rattle.line_events.specs.declared.event.Answer.{Answer}
 use Rattle.line_world.specs.Nodes.{node_in, stored_in, of_coordinator}
 use Rattle.line_world.specs.Doings.{Took}
 use Rattle.line_world.specs.Soundness.{AgreesAs, IsSound}

@@ -7,7 +7,7 @@ use Rattle.node_rules.specs.Memory.{Node}
 use Rattle.reach_rules.specs.CheckedReplies.{is_unbelieved, message_of}
 use Rattle.reach_rules.specs.Receiving.{NeighbourCommand, command_of}
 use Rattle.line_flights.specs.declared.flights.Origin.{Origin}
-use Rattle.line_rules.specs.declared.happenings.Happenings.{Happenings}
+use Rattle.line_events.specs.declared.happenings.Happenings.{Happenings}
 use Rattle.line_rules.specs.Further.{beside_at, is_dropped}
 use Rattle.line_rules.specs.Worlds.{Trace, World}
 use Rattle.line_world.specs.Arrivals.{checked_so, heard_further_so, hears_so, unbelieved_so}

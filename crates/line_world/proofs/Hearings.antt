@@ -59,10 +59,10 @@ use Rattle.reach_rules.specs.CheckedReplies.{asks_unbelieved, checks_after, is_u
 use Rattle.reach_rules.specs.ReachingNodes.{Beside, Reaching, nothing_beside}
 use Rattle.reach_rules.specs.Receiving.{NeighbourCommand, command_of, command_on, command_with, hear_command}
 use Rattle.line_flights.specs.declared.flights.Origin.{Origin}
-use Rattle.line_rules.specs.declared.event.Answer.{Answer}
-use Rattle.line_rules.specs.declared.event.Answer.TheVariants as answers
-use Rattle.line_rules.specs.declared.event.TheConstants.{MAX_EVENTS}
-use Rattle.line_rules.specs.declared.happenings.Happenings.{Happenings}
+use Rattle.line_events.specs.declared.event.Answer.{Answer}
+use Rattle.line_events.specs.declared.event.Answer.TheVariants as answers
+use Rattle.line_events.specs.declared.event.TheConstants.{MAX_EVENTS}
+use Rattle.line_events.specs.declared.happenings.Happenings.{Happenings}
 use Rattle.line_rules.specs.Answers.{CompletedJoining, Reception, command_word, coordinator_reception, meter_reception, only, station_reception}
 use Rattle.line_rules.specs.Further.{acknowledged, acknowledged_if, acknowledging, adds_frames, beside_after, beside_at, broadcast_up, command_trace, due, due_of, has_reached, is_dropped, is_reply_taken, path_line, reaches, sends_nothing, set_beside, with_check}
 use Rattle.line_rules.specs.Logs.{LogIn}

@@ -32,8 +32,8 @@ use Rattle.node_rules.proofs.Composing.{carries_within}
 use Rattle.node_rules.proofs.StationPuts.{stations_write_their_own, writes_keep_membership}
 use Rattle.node_rules.proofs.TablePlans.{stations}
 use Rattle.coordinator.specs.CoordinatorAgreement.{HasHome}
-use Rattle.line_rules.specs.declared.event.Answer.{Answer}
-use Rattle.line_rules.specs.declared.event.Answer.TheVariants as said
+use Rattle.line_events.specs.declared.event.Answer.{Answer}
+use Rattle.line_events.specs.declared.event.Answer.TheVariants as said
 use Rattle.line_world.specs.Nodes.{node_in, stored_in}
 use Rattle.line_world.specs.Doings.{Took}
 use Rattle.line_world.specs.Soundness.{AgreesAs, IsSound}

@@ -19,7 +19,7 @@ use Rattle.node_rules.specs.Tables.{HasGaplessTables}
 use Rattle.meter_node.specs.MeterStates.{MeterState, memory_with, node_of}
 use Rattle.meter_node.specs.Reading.{read_answer}
 use Rattle.line_rules.specs.Steps.{memory_by, restart_word, restarts, ticked}
-use Rattle.line_rules.specs.declared.event.Answer.{Answer}
+use Rattle.line_events.specs.declared.event.Answer.{Answer}
 use Rattle.line_world.specs.Nodes.{stored_in, node_in, of_meter}
 use Rattle.line_world.specs.Doings.{Took}
 use Rattle.line_world.specs.Soundness.{AgreesAs, IsSoundMeter}

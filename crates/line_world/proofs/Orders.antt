@@ -13,11 +13,11 @@ use Rattle.node_rules.specs.Memory.{Memory, Node}
 use Rattle.node_rules.specs.NodeSteps.{NodeStep, acts}
 use Rattle.node_rules.specs.Plans.{Plan}
 use Rattle.line_world.specs.Doings.{Did}
-use Rattle.line_rules.specs.declared.event.Answer.{Answer}
-use Rattle.line_rules.specs.declared.event.StepFault.{StepFault}
-use Rattle.line_rules.specs.declared.event.StepFault.TheVariants as faults
-use Rattle.line_rules.specs.declared.event.TheConstants.{MAX_EVENTS}
-use Rattle.line_rules.specs.declared.happenings.Happenings.{Happenings}
+use Rattle.line_events.specs.declared.event.Answer.{Answer}
+use Rattle.line_events.specs.declared.event.StepFault.{StepFault}
+use Rattle.line_events.specs.declared.event.StepFault.TheVariants as faults
+use Rattle.line_events.specs.declared.event.TheConstants.{MAX_EVENTS}
+use Rattle.line_events.specs.declared.happenings.Happenings.{Happenings}
 use Rattle.line_rules.specs.Answers.{ordered_word}
 use Rattle.line_rules.specs.Worlds.{World, Trace}
 use Rattle.line_rules.specs.Steps.{Step, admission_by, allowed, allowed_word, at_coordinator, by_coordinator, happened, has_begun, on_meter, on_node, once_begun, ran, told, trace_of}

@@ -11,8 +11,8 @@ use Rattle.node_rules.specs.declared.heard.SentHow.TheVariants as how
 use Rattle.node_rules.specs.declared.refusal.SendRefusal.{SendRefusal}
 use Rattle.node_rules.specs.declared.refusal.SendRefusal.TheVariants as sends
 use Rattle.line_world.specs.Doings.{Did}
-use Rattle.line_rules.specs.declared.event.TheConstants.{MAX_EVENTS}
-use Rattle.line_rules.specs.declared.happenings.Happenings.{Happenings}
+use Rattle.line_events.specs.declared.event.TheConstants.{MAX_EVENTS}
+use Rattle.line_events.specs.declared.happenings.Happenings.{Happenings}
 use Rattle.line_rules.specs.Answers.{sent_word}
 use Rattle.line_rules.specs.Worlds.{World, Trace}
 use Rattle.line_rules.specs.Steps.{happened, is_taken, ran, sending, sent_if}

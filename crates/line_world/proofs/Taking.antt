@@ -11,11 +11,11 @@ use Rattle.node_rules.specs.Frames.{Sent, spelled}
 use Rattle.node_rules.specs.Memory.{Node, node_address}
 use Rattle.node_rules.specs.NodeSteps.{NodeStep, answering}
 use Rattle.line_world.specs.Doings.{Did, given_by}
-use Rattle.line_rules.specs.declared.event.Answer.{Answer}
-use Rattle.line_rules.specs.declared.event.StepFault.{StepFault}
-use Rattle.line_rules.specs.declared.event.StepFault.TheVariants as faults
-use Rattle.line_rules.specs.declared.event.TheConstants.{MAX_EVENTS}
-use Rattle.line_rules.specs.declared.happenings.Happenings.{Happenings}
+use Rattle.line_events.specs.declared.event.Answer.{Answer}
+use Rattle.line_events.specs.declared.event.StepFault.{StepFault}
+use Rattle.line_events.specs.declared.event.StepFault.TheVariants as faults
+use Rattle.line_events.specs.declared.event.TheConstants.{MAX_EVENTS}
+use Rattle.line_events.specs.declared.happenings.Happenings.{Happenings}
 use Rattle.line_rules.specs.Worlds.{World, Flight, Trace, node_at}
 use Rattle.line_rules.specs.Steps.{Step, acted, flight_by, flights_of, happened, has_begun, on_node, once_begun, ran, spoken, told}
 use Rattle.line_world.specs.Bounds.{IsBounded}

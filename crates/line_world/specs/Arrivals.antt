@@ -17,14 +17,14 @@ use Rattle.line_flights.specs.declared.flights.Origin.{Origin}
 use Rattle.line_world.specs.declared.nodes.reception.HandedUp.{HandedUp}
 use Rattle.line_world.specs.declared.nodes.reception.Reception as telling
 use Rattle.line_world.specs.Reaching.{given_after}
-use Rattle.line_rules.specs.declared.happenings.Handed.{Handed}
-use Rattle.line_rules.specs.declared.happenings.Happenings.{Happenings}
+use Rattle.line_events.specs.declared.happenings.Handed.{Handed}
+use Rattle.line_events.specs.declared.happenings.Happenings.{Happenings}
 use Rattle.node_rules.specs.NodeSteps.{stays}
 use Rattle.reach_rules.specs.CheckedReplies.{checks_after}
 use Rattle.reach_rules.specs.Receiving.{NeighbourCommand, command_of}
-use Rattle.line_rules.specs.declared.event.Event.{Event}
-use Rattle.line_rules.specs.declared.event.Event.TheVariants as events
-use Rattle.line_rules.specs.declared.event.Answer.TheVariants as said
+use Rattle.line_events.specs.declared.event.Event.{Event}
+use Rattle.line_events.specs.declared.event.Event.TheVariants as events
+use Rattle.line_events.specs.declared.event.Answer.TheVariants as said
 use Rattle.line_rules.specs.Logs.{CommandsAreOctets}
 use Rattle.line_rules.specs.Further.{acknowledging, beside_at, checked, commanded, is_dropped, set_beside}
 use Rattle.line_rules.specs.Answers.{frame_word, only, Reception}

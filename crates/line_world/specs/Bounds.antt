@@ -1,6 +1,6 @@
 -- The bounds of a world's counts, which its code keeps.
 use Rattle.std.specs.Prelude.{◌≡◌, ◌*◌, ◌≤◌, false, length, All, IsSome, None}
-use Rattle.line_rules.specs.declared.event.TheConstants.{MAX_EVENTS}
+use Rattle.line_events.specs.declared.event.TheConstants.{MAX_EVENTS}
 use Rattle.node_rules.specs.Memory.{Node}
 use Rattle.line_rules.specs.Worlds.{World}
 

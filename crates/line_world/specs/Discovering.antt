@@ -11,8 +11,8 @@ use Rattle.reach_rules.specs.declared.refusal.DiscoveryDropped.TheVariants as dr
 use Rattle.reach_rules.specs.Beacons.{chosen, hear_beacon, hear_discovery_in, takes_beacon, stays}
 use Rattle.reach_rules.specs.Beacons as beacons
 use Rattle.reach_rules.specs.ReachingNodes.{Beside}
-use Rattle.line_rules.specs.declared.event.Answer.{Answer}
-use Rattle.line_rules.specs.declared.event.Answer.TheVariants as said
+use Rattle.line_events.specs.declared.event.Answer.{Answer}
+use Rattle.line_events.specs.declared.event.Answer.TheVariants as said
 use Rattle.line_rules.specs.Answers.{discovery_word, join_word}
 use Rattle.line_rules.specs.Further.{agent_line, beacon_taken, beside_at, discovery_flights, has_discovered, set_beside}
 use Rattle.line_rules.specs.Steps.{happened, identity, ran, spoken, told, trace_of}

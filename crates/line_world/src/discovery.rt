@@ -4,7 +4,7 @@ ghost use Rattle.node_rules.specs.Carrying.{nothing};
 ghost use Rattle.node_rules.specs.Ciphers.{network};
 ghost use Rattle.pan_discovery.specs.Messages.{discovery_spelling};
 ghost use Rattle.reach_rules.specs.Beacons as beacons;
-ghost use Rattle.line_rules.specs.declared.event.TheConstants.{MAX_EVENTS};
+ghost use Rattle.line_events.specs.declared.event.TheConstants.{MAX_EVENTS};
 ghost use Rattle.line_rules.specs.Answers as words;
 ghost use Rattle.line_rules.specs.Further as further;
 ghost use Rattle.line_rules.specs.Steps as rules;
@@ -14,7 +14,7 @@ ghost use Rattle.line_world.specs.Lines.{HasRoom, world_of};
 ghost use Rattle.line_world.specs.Steps.{Steps};
 
 use crate::line::Line;
-use line_rules::{AgentLine, Answer, Happenings, StepFault};
+use line_events::{AgentLine, Answer, Happenings, StepFault};
 use node_rules::JoinRefusal;
 use pan_discovery::{Discovery, write_discovery};
 use plc_base::{LinkCost, Out, PAN, Short};

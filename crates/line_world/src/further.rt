@@ -9,7 +9,7 @@ ghost use Rattle.node_rules.specs.Ciphers.{network};
 ghost use Rattle.node_rules.specs.Replies.{route_message};
 ghost use Rattle.reach_rules.specs.CheckedReplies as replies;
 ghost use Rattle.reach_rules.specs.Receiving.{command_of as further_command};
-ghost use Rattle.line_rules.specs.declared.event.TheConstants.{MAX_EVENTS};
+ghost use Rattle.line_events.specs.declared.event.TheConstants.{MAX_EVENTS};
 ghost use Rattle.line_rules.specs.Answers as words;
 ghost use Rattle.line_rules.specs.Further as further;
 ghost use Rattle.line_rules.specs.Logs.{LogsKept};
@@ -24,8 +24,8 @@ ghost use Rattle.plc_base.specs.declared.limits.TheConstants.{MOST_FRAMES};
 
 use crate::line::Line;
 use crate::nodes::{CommandRef, Reception, command_on};
+use line_events::{Answer, Happenings, StepFault};
 use line_flights::Origin;
-use line_rules::{Answer, Happenings, StepFault};
 use loadng_messages::{Message, read_message};
 use mesh_header::{Unit, read_unit};
 use neighbour_checks::Checks;

@@ -1,7 +1,7 @@
 //! What is said of an event, and what a node's doing leaves of the world.
 ghost use Rattle.std.specs.Prelude.{◌≡◌, ◌+◌, ◌++◌, ◌<◌, ◌≤◌, ◌&&◌, not, true, length, map, Ok, OnOk, OnErr, nat_lt};
-ghost use Rattle.line_rules.specs.declared.event.TheConstants.{MAX_EVENTS};
-ghost use Rattle.line_rules.specs.declared.event.StepFault.TheVariants as faults;
+ghost use Rattle.line_events.specs.declared.event.TheConstants.{MAX_EVENTS};
+ghost use Rattle.line_events.specs.declared.event.StepFault.TheVariants as faults;
 ghost use Rattle.line_rules.specs.Steps as rules;
 ghost use Rattle.line_world.specs.Bounds.{IsBounded};
 ghost use Rattle.line_world.specs.Finding.{found, found_meter};
@@ -9,7 +9,7 @@ ghost use Rattle.line_world.specs.Lines.{HasRoom, world_of};
 ghost use Rattle.plc_base.specs.declared.limits.TheConstants.{MOST_FRAMES};
 
 use crate::line::Line;
-use line_rules::{Answer, Happenings, StepFault};
+use line_events::{Answer, Happenings, StepFault};
 use plc_base::{LONGEST_FRAME, MOST_FRAMES};
 
 /// The most octets that they have together.

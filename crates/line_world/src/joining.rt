@@ -2,7 +2,7 @@
 ghost use Rattle.std.specs.Prelude.{◌≡◌, ◌<◌, ◌≤◌, true, false};
 ghost use Rattle.node_rules.specs.Calls as calls;
 ghost use Rattle.node_rules.specs.Ciphers.{network};
-ghost use Rattle.line_rules.specs.declared.event.TheConstants.{MAX_EVENTS};
+ghost use Rattle.line_events.specs.declared.event.TheConstants.{MAX_EVENTS};
 ghost use Rattle.line_rules.specs.Answers as words;
 ghost use Rattle.line_rules.specs.Steps as rules;
 ghost use Rattle.line_world.specs.Bounds.{IsBounded};
@@ -10,7 +10,7 @@ ghost use Rattle.line_world.specs.Lines.{world_of};
 ghost use Rattle.line_world.specs.Steps.{Steps, has_address};
 
 use crate::line::Line;
-use line_rules::{Admission, Answer, Happenings, StepFault};
+use line_events::{Admission, Answer, Happenings, StepFault};
 use node_rules::{CoordinatorRefusal, JoinRefusal, LeaveRefusal, RandomFault};
 use plc_base::Rand;
 

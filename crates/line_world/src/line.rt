@@ -2,8 +2,8 @@
 //! gives out.
 ghost use Rattle.std.specs.Prelude.{◌≡◌, ◌<◌, length, IfOk};
 ghost use Rattle.node_rules.specs.Ciphers.{network};
-ghost use Rattle.line_rules.specs.declared.event.TheConstants.{MAX_EVENTS};
-ghost use Rattle.line_rules.specs.Events.{IsEvent};
+ghost use Rattle.line_events.specs.declared.event.TheConstants.{MAX_EVENTS};
+ghost use Rattle.line_events.specs.Events.{IsEvent};
 ghost use Rattle.line_rules.specs.Further.{line_step};
 ghost use Rattle.line_rules.specs.Logs.{LogsKept};
 ghost use Rattle.line_world.specs.Arrivals.{BringsOctets};
@@ -14,8 +14,8 @@ ghost use Rattle.line_world.specs.Steps.{Steps, takes_memory};
 use crate::beside::Beside;
 use crate::nodes::Nodes;
 use crate::world::Space;
+use line_events::{Event, Happenings, StepFault};
 use line_flights::{Flights, MadeTags};
-use line_rules::{Event, Happenings, StepFault};
 use plc_base::{FrameBuf, Out};
 use std::alloc::Global;
 

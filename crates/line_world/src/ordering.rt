@@ -2,7 +2,7 @@
 ghost use Rattle.std.specs.Prelude.{◌≡◌, ◌==◌, ◌<◌, ◌≤◌, true, false, not};
 ghost use Rattle.node_rules.specs.Calls as calls;
 ghost use Rattle.node_rules.specs.Ciphers.{network};
-ghost use Rattle.line_rules.specs.declared.event.TheConstants.{MAX_EVENTS};
+ghost use Rattle.line_events.specs.declared.event.TheConstants.{MAX_EVENTS};
 ghost use Rattle.line_rules.specs.Answers as words;
 ghost use Rattle.line_rules.specs.Steps as rules;
 ghost use Rattle.line_world.specs.Bounds.{IsBounded};
@@ -11,7 +11,7 @@ ghost use Rattle.line_world.specs.Steps.{Steps};
 
 use crate::joining::order_word;
 use crate::line::Line;
-use line_rules::{Answer, Happenings, StepFault};
+use line_events::{Answer, Happenings, StepFault};
 use node_rules::CoordinatorRefusal;
 use plc_base::{Key, KeyIndex};
 

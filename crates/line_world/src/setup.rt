@@ -3,7 +3,7 @@ ghost use Rattle.std.specs.Prelude.{◌≡◌, ◌<◌, ◌≤◌, ◌||◌, ◌
 ghost use Rattle.reach_rules.specs.ReachingNodes.{nothing_beside};
 ghost use Rattle.node_rules.specs.Calls as calls;
 ghost use Rattle.node_rules.specs.Ciphers.{network};
-ghost use Rattle.line_rules.specs.declared.event.TheConstants.{MAX_EVENTS};
+ghost use Rattle.line_events.specs.declared.event.TheConstants.{MAX_EVENTS};
 ghost use Rattle.line_rules.specs.Answers as words;
 ghost use Rattle.line_rules.specs.Steps as rules;
 ghost use Rattle.line_world.specs.Bounds.{IsBounded};
@@ -12,7 +12,7 @@ ghost use Rattle.line_world.specs.Steps.{Steps};
 
 use crate::beside::Beside;
 use crate::line::{Line, MAX_NODES};
-use line_rules::{Answer, Happenings, StepFault};
+use line_events::{Answer, Happenings, StepFault};
 use plc_base::{Eui, Key, LinkCost, Short};
 
 impl Line {

@@ -2,7 +2,7 @@
 ghost use Rattle.std.specs.Prelude.{◌≡◌, ◌<◌, ◌≤◌, true, false, length, map};
 ghost use Rattle.node_rules.specs.Calls as calls;
 ghost use Rattle.node_rules.specs.Ciphers.{network};
-ghost use Rattle.line_rules.specs.declared.event.TheConstants.{MAX_EVENTS};
+ghost use Rattle.line_events.specs.declared.event.TheConstants.{MAX_EVENTS};
 ghost use Rattle.line_rules.specs.Answers as words;
 ghost use Rattle.line_rules.specs.Further as further;
 ghost use Rattle.line_rules.specs.Logs.{LogsKept};
@@ -17,7 +17,7 @@ ghost use Rattle.line_world.specs.Steps.{Steps};
 use crate::line::Line;
 use crate::world::Space;
 use broadcast_log::BroadcastLog;
-use line_rules::{Answer, Happenings, StepFault};
+use line_events::{Answer, Happenings, StepFault};
 use node_rules::ShownRef;
 
 impl Line {

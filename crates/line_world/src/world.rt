@@ -1,12 +1,12 @@
 //! The world, and the step that an event makes.
 ghost use Rattle.std.specs.Prelude.{◌≡◌, ◌<◌, ◌≤◌, length};
-ghost use Rattle.line_rules.specs.declared.event.TheConstants.{MAX_EVENTS};
-ghost use Rattle.line_rules.specs.Events.{IsEvent};
+ghost use Rattle.line_events.specs.declared.event.TheConstants.{MAX_EVENTS};
+ghost use Rattle.line_events.specs.Events.{IsEvent};
 
 use crate::line::Line;
 use crate::nodes::Nodes;
+use line_events::{Event, Happenings, StepFault};
 use line_flights::{Flights, MadeTags};
-use line_rules::{Event, Happenings, StepFault};
 use node_rules::{Shown, ShownPeers, ShownRoutes};
 use plc_base::{DatagramBuf, FrameBuf, Out};
 use std::alloc::Global;

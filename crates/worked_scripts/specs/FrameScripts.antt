@@ -3,9 +3,9 @@ use Rattle.std.specs.Prelude.{◌≡◌, ℕ, true, false, List, [], ◌∷◌, 
 use Rattle.byteorder.specs.Endian.{big_bytes}
 use Rattle.mesh_header.specs.declared.unit.Unit.TheVariants.{Local}
 use Rattle.loadng_messages.specs.declared.message.Message.TheVariants.{Rreq, Rerr}
-use Rattle.line_rules.specs.declared.event.Answer.TheVariants as said
-use Rattle.line_rules.specs.declared.event.Event.{Event}
-use Rattle.line_rules.specs.declared.event.Event.TheVariants.{Coordinator, Meter, Depot, Near, Allow, Rand, Join, Send, Deliver, Inject, Lose}
+use Rattle.line_events.specs.declared.event.Answer.TheVariants as said
+use Rattle.line_events.specs.declared.event.Event.{Event}
+use Rattle.line_events.specs.declared.event.Event.TheVariants.{Coordinator, Meter, Depot, Near, Allow, Rand, Join, Send, Deliver, Inject, Lose}
 use Rattle.line_rules.specs.Worlds.{start}
 use Rattle.line_rules.specs.Runs.{run}
 use Rattle.worked_scripts.specs.Scripts.{plain, eui, group_key, pair_key, rand_k, rand_r, two_meters, sealed, sealed_under, everyone, routing_unit, whole, part_of, command, joining_octets, up_frame, down_frame, said_of, answers_after, answers_to, counts_of, handed_at_last, forged_at_last, octets_of}

@@ -1,13 +1,13 @@
 -- The worked rows of further reach, with plain ciphers.
 use Rattle.std.specs.Prelude.{◌≡◌, ℕ, List, [], ◌∷◌, ◌++◌, map, drop, Option, Some, None}
 use Rattle.std.specs.Option.{option_map}
-use Rattle.line_rules.specs.declared.event.Answer.{Answer}
-use Rattle.line_rules.specs.declared.event.Answer.TheVariants as said
-use Rattle.line_rules.specs.declared.event.Event.{Event}
-use Rattle.line_rules.specs.declared.event.Event.TheVariants.{Coordinator, Meter, Depot, Near, Send, Deliver, Tick, Break, Checks, Bcast, Scan, Choose, Path}
-use Rattle.line_rules.specs.declared.happenings.AgentLine.{AgentLine}
-use Rattle.line_rules.specs.declared.happenings.BroadcastUp.{BroadcastUp}
-use Rattle.line_rules.specs.declared.happenings.PathLine.{PathLine}
+use Rattle.line_events.specs.declared.event.Answer.{Answer}
+use Rattle.line_events.specs.declared.event.Answer.TheVariants as said
+use Rattle.line_events.specs.declared.event.Event.{Event}
+use Rattle.line_events.specs.declared.event.Event.TheVariants.{Coordinator, Meter, Depot, Near, Send, Deliver, Tick, Break, Checks, Bcast, Scan, Choose, Path}
+use Rattle.line_events.specs.declared.happenings.AgentLine.{AgentLine}
+use Rattle.line_events.specs.declared.happenings.BroadcastUp.{BroadcastUp}
+use Rattle.line_events.specs.declared.happenings.PathLine.{PathLine}
 use Rattle.line_rules.specs.Runs.{Entry, one_of, run}
 use Rattle.line_rules.specs.Worlds.{Flight, start, flight_at}
 use Rattle.worked_scripts.specs.Scripts.{plain, eui, group_key, pair_key, two_meters, world_behind, counted, Counted}

@@ -3,10 +3,10 @@ use Rattle.std.specs.Prelude.{◌≡◌, ℕ, false, List, [], ◌∷◌, ◌++�
 use Rattle.byteorder.specs.Endian.{big_bytes}
 use Rattle.mesh_header.specs.declared.unit.Unit.TheVariants.{Part, Carried}
 use Rattle.loadng_messages.specs.declared.message.Message.TheVariants.{Rerr}
-use Rattle.line_rules.specs.declared.event.Answer.TheVariants as said
-use Rattle.line_rules.specs.declared.event.Event.{Event}
-use Rattle.line_rules.specs.declared.event.Event.TheVariants.{Near, Counter, Send, Deliver, Inject, Lose, Break, Show}
-use Rattle.line_rules.specs.declared.event.StepFault.TheVariants as faults
+use Rattle.line_events.specs.declared.event.Answer.TheVariants as said
+use Rattle.line_events.specs.declared.event.Event.{Event}
+use Rattle.line_events.specs.declared.event.Event.TheVariants.{Near, Counter, Send, Deliver, Inject, Lose, Break, Show}
+use Rattle.line_events.specs.declared.event.StepFault.TheVariants as faults
 use Rattle.line_rules.specs.Worlds.{start}
 use Rattle.line_rules.specs.Runs.{run}
 use Rattle.worked_scripts.specs.Scripts.{plain, group_key, two_meters, three_meters, four_meters, sealed, routing_unit, whole, part_of, command, answers_after, answers_to, counts_of, fault_after, handed_at_last, shown_at_last, octets_of, route_at, rank_at}

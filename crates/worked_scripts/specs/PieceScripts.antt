@@ -1,9 +1,9 @@
 -- What becomes of the pieces of datagrams at the node that gathers them.
 use Rattle.std.specs.Prelude.{◌≡◌, ℕ, ◌+◌, List, [], ◌∷◌, ◌++◌, map, replicate, Some}
 use Rattle.std.specs.List.{range_with_len}
-use Rattle.line_rules.specs.declared.event.Answer.TheVariants as said
-use Rattle.line_rules.specs.declared.event.Event.{Event}
-use Rattle.line_rules.specs.declared.event.Event.TheVariants.{Near, Send, Deliver, Inject, Tick}
+use Rattle.line_events.specs.declared.event.Answer.TheVariants as said
+use Rattle.line_events.specs.declared.event.Event.{Event}
+use Rattle.line_events.specs.declared.event.Event.TheVariants.{Near, Send, Deliver, Inject, Tick}
 use Rattle.line_rules.specs.Worlds.{start}
 use Rattle.line_rules.specs.Runs.{run}
 use Rattle.worked_scripts.specs.Scripts.{plain, two_meters, three_meters, sealed, part_of, answers_after, answers_to, counts_of, handed_at_last, octets_of}

@@ -18,9 +18,9 @@ use Rattle.eap_psk.specs.declared.fault.EapFault.{EapFault}
 use Rattle.eap_psk.specs.declared.fault.EapFault.TheVariants.{Form, OtherSession, BadMac, BadChannel, NoSuccess}
 use Rattle.eap_psk.specs.declared.server.Server.{Server}
 use Rattle.eap_psk.specs.declared.peer.Peer.{Peer}
-use Rattle.line_rules.specs.declared.event.Answer.{Answer}
-use Rattle.line_rules.specs.declared.event.Event.{Event}
-use Rattle.line_rules.specs.declared.event.Event.TheVariants.{Coordinator, Meter, Depot}
+use Rattle.line_events.specs.declared.event.Answer.{Answer}
+use Rattle.line_events.specs.declared.event.Event.{Event}
+use Rattle.line_events.specs.declared.event.Event.TheVariants.{Coordinator, Meter, Depot}
 use Rattle.routing_set.specs.declared.rank.Rank.{Rank}
 use Rattle.routing_set.specs.RoutingSet as routing
 use Rattle.mesh_header.specs.declared.unit.Unit.{Unit as MeshUnit}
@@ -34,10 +34,10 @@ use Rattle.node_rules.specs.declared.heard.Path.TheVariants as paths
 use Rattle.node_rules.specs.Hearing.{hear}
 use Rattle.node_rules.specs.Memory.{Node, Memory, node_route}
 use Rattle.line_rules.specs.Worlds.{World, Flight, start, node_at, flight_at}
-use Rattle.line_rules.specs.declared.happenings.Handed.{Handed}
-use Rattle.line_rules.specs.declared.happenings.Admission.{Admission}
+use Rattle.line_events.specs.declared.happenings.Handed.{Handed}
+use Rattle.line_events.specs.declared.happenings.Admission.{Admission}
 use Rattle.node_rules.specs.declared.shown.Shown.{Shown}
-use Rattle.line_rules.specs.declared.event.StepFault.{StepFault}
+use Rattle.line_events.specs.declared.event.StepFault.{StepFault}
 use Rattle.line_rules.specs.Further.{line_step}
 use Rattle.line_rules.specs.Steps.{Step}
 use Rattle.line_rules.specs.Runs.{Entry, run, one_of}

@@ -1,9 +1,9 @@
 -- What becomes of bodies that wait for a route, and of what a node sends with few counters left.
 use Rattle.std.specs.Prelude.{◌≡◌, ℕ, List, [], ◌∷◌, ◌++◌, replicate, Some, None}
 use Rattle.loadng_messages.specs.declared.message.Message.TheVariants.{Rreq, Rrep}
-use Rattle.line_rules.specs.declared.event.Answer.TheVariants as said
-use Rattle.line_rules.specs.declared.event.Event.{Event}
-use Rattle.line_rules.specs.declared.event.Event.TheVariants.{Near, Counter, Number, Send, Deliver, Inject, Tick}
+use Rattle.line_events.specs.declared.event.Answer.TheVariants as said
+use Rattle.line_events.specs.declared.event.Event.{Event}
+use Rattle.line_events.specs.declared.event.Event.TheVariants.{Near, Counter, Number, Send, Deliver, Inject, Tick}
 use Rattle.line_rules.specs.Worlds.{start}
 use Rattle.line_rules.specs.Runs.{run}
 use Rattle.worked_scripts.specs.Scripts.{plain, one_meter, two_meters, sealed, everyone, routing_unit, whole, part_of, answers_after, answers_to, counts_of, handed_at_last, octets_of, route_at, rank_at}

@@ -4,7 +4,7 @@ ghost use Rattle.std.specs.Option.{option_map};
 ghost use Rattle.reach_rules.specs.Receiving as receiving;
 ghost use Rattle.line_world.specs.Reaching.{command_of};
 
-use line_rules::{Answer, BroadcastUp, PathLine};
+use line_events::{Answer, BroadcastUp, PathLine};
 use mesh_header::Unit;
 use node_rules::Path;
 use plc_base::{OctetRef, Short};

@@ -23,7 +23,7 @@ use crate::nodes::meters::Meters;
 use crate::nodes::station_broadcasts::broadcast_at;
 use crate::nodes::station_further::{acknowledge_at, ask_at, hear_command_at};
 use broadcast_log::BroadcastLog;
-use line_rules::Answer;
+use line_events::Answer;
 use node_rules::{LocalRefusal, Reply};
 use plc_base::{BadStore, FrameBuf, Out, Short};
 use reach_rules::{AskRefusal, BroadcastRefusal};

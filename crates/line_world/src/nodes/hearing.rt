@@ -8,7 +8,7 @@ ghost use Rattle.line_world.specs.Receiving.{MayHear, Received};
 
 use crate::nodes::Nodes;
 use crate::nodes::reception::Reception;
-use line_rules::Answer;
+use line_events::Answer;
 use node_rules::Accepted;
 use plc_base::{DatagramBuf, LinkCost, Out};
 

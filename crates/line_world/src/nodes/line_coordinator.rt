@@ -3,7 +3,7 @@ ghost use Rattle.std.specs.Prelude.{◌≡◌, ◌≤◌, Ok, Err, IfOk, IsSome,
 ghost use Rattle.line_world.specs.Doings.{Took};
 ghost use Rattle.line_world.specs.Receiving.{MayHear, Tells};
 ghost use Rattle.line_rules.specs.Steps.{coordinator_node, hears, keeps_rank, ranks_full, restarts, ticked};
-ghost use Rattle.line_rules.specs.declared.event.Answer.TheVariants as said;
+ghost use Rattle.line_events.specs.declared.event.Answer.TheVariants as said;
 ghost use Rattle.node_rules.specs.Accepting as accepting;
 ghost use Rattle.node_rules.specs.Calls as calls;
 ghost use Rattle.node_rules.specs.Carrying.{nothing};
@@ -24,7 +24,7 @@ use crate::nodes::station_steps::{
 };
 use crate::nodes::telling::coordinator_told;
 use coordinator::Coordinator;
-use line_rules::Answer;
+use line_events::Answer;
 use node_rules::{
     Accepted, CoordinatorRefusal, FrameRefusal, PresetFault, RandomFault, SendRefusal, SentHow,
     Shown,

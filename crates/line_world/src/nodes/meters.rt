@@ -15,7 +15,7 @@ ghost use Rattle.node_rules.specs.Replies.{reply_among};
 ghost use Rattle.node_rules.specs.Showing.{shown_of};
 ghost use Rattle.reach_rules.specs.CheckedReplies.{message_of};
 ghost use Rattle.node_rules.specs.Accepting.{same_eui};
-ghost use Rattle.line_rules.specs.declared.event.Answer.TheVariants as said;
+ghost use Rattle.line_events.specs.declared.event.Answer.TheVariants as said;
 ghost use Rattle.line_world.specs.Doings.{Did};
 ghost use Rattle.line_world.specs.Nodes.{has_eui};
 ghost use Rattle.line_world.specs.Receiving.{MayHear, Received};
@@ -27,7 +27,7 @@ use crate::nodes::station_steps::{
 };
 use crate::nodes::telling::meter_told;
 use group_keys::RingFault;
-use line_rules::Answer;
+use line_events::Answer;
 use meter_node::Meter;
 use node_rules::{
     Accepted, FrameRefusal, JoinRefusal, LeaveRefusal, PresetFault, RandomFault, SendRefusal,

@@ -1,7 +1,7 @@
 //! What a node makes of a frame, for the line.
 ghost use Rattle.std.specs.Prelude.{◌≡◌};
 
-use line_rules::Answer;
+use line_events::Answer;
 use node_rules::Reply;
 use plc_base::{Eui, OctetRef};
 

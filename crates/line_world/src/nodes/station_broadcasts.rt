@@ -20,7 +20,7 @@ use crate::beside::Beside;
 use crate::nodes::command::{CommandRef, Commanded};
 use crate::nodes::station_further::{dropped_word, only, sent_on, tell};
 use broadcast_log::{BroadcastLog, LogFault, read_broadcast};
-use line_rules::{Answer, BroadcastUp};
+use line_events::{Answer, BroadcastUp};
 use node_rules::{Dropped, LocalRefusal};
 use plc_base::{FrameBuf, MemKeeper, OctetRef, Out, Short};
 use plc_station::Station;

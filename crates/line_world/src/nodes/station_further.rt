@@ -25,7 +25,7 @@ use crate::nodes::command::{CommandRef, Commanded};
 use crate::nodes::station_broadcasts::broadcast_command;
 use crate::nodes::telling::drop_word;
 use broadcast_log::BroadcastLog;
-use line_rules::{Answer, PathLine};
+use line_events::{Answer, PathLine};
 use neighbour_checks::{Checks, read_ack, write_ack};
 use node_rules::{Dropped, LocalRefusal, Reply};
 use path_requests::{PathMessage, PathRefusal, PathStep, Walk, read_path, take_path, write_path};

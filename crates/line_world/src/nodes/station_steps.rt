@@ -2,13 +2,13 @@
 ghost use Rattle.std.specs.Prelude.{◌≡◌, ◌≤◌, is_some, length, nat_lt, false, Ok, IfNone, IfSome, MatchResult};
 ghost use Rattle.std.specs.Option.{option_map_or};
 ghost use Rattle.routing_set.specs.RoutingSet as routing;
-ghost use Rattle.line_rules.specs.declared.event.Answer.TheVariants as said;
+ghost use Rattle.line_events.specs.declared.event.Answer.TheVariants as said;
 ghost use Rattle.node_rules.specs.Agreement.{Agrees};
 ghost use Rattle.node_rules.specs.Calls as calls;
 ghost use Rattle.node_rules.specs.Carrying.{Carries, nothing};
 ghost use Rattle.node_rules.specs.Plans.{resting};
 
-use line_rules::Answer;
+use line_events::Answer;
 use node_rules::{Halted, PresetFault};
 use plc_base::{BadStore, LinkCost, MemKeeper, Short};
 use plc_station::Station;

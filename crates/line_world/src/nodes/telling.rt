@@ -4,7 +4,7 @@ ghost use Rattle.line_rules.specs.Answers as rules;
 ghost use Rattle.line_world.specs.Receiving.{Tells};
 
 use crate::nodes::reception::{HandedUp, Reception};
-use line_rules::Answer;
+use line_events::Answer;
 use node_rules::{CoordinatorHeard, Dropped, Heard, MeterHeard};
 use plc_base::OctetRef;
 

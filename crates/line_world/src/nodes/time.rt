@@ -3,11 +3,11 @@ ghost use Rattle.std.specs.Prelude.{◌≡◌, ◌≤◌, ◌<◌, length, map, 
 ghost use Rattle.node_rules.specs.Carrying.{nothing};
 ghost use Rattle.node_rules.specs.NodeSteps.{stays};
 ghost use Rattle.line_rules.specs.Steps.{ticked, restarts};
-ghost use Rattle.line_rules.specs.declared.event.Answer.TheVariants as said;
+ghost use Rattle.line_events.specs.declared.event.Answer.TheVariants as said;
 ghost use Rattle.line_world.specs.Doings.{Did};
 
 use crate::nodes::Nodes;
-use line_rules::Answer;
+use line_events::Answer;
 
 impl Nodes {
     /// Ends what is old at each node, at a time in seconds.

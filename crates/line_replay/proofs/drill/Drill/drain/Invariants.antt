@@ -1,5 +1,5 @@
 use Rattle.std.proofs.Common.{◌≡◌, ◌-◌}
-use Rattle.line_rules.specs.declared.event.TheConstants.{MAX_EVENTS}
+use Rattle.line_events.specs.declared.event.TheConstants.{MAX_EVENTS}
 use Rattle.line_replay.specs.Drills.{drain_within}
 use Rattle.line_replay.proofs.drill.Drill.drain.Given as goal
 

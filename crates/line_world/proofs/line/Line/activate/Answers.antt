@@ -1,6 +1,6 @@
 -- Another key is to seal.
 use Rattle.std.proofs.Common.{◌≡◌, ℕ, ◌<◌, ◌≤◌, Bool, true, length, Ok, Err, sym, ap, subst, ◌∙◌, if◌then◌else◌, arith}
-use Rattle.line_rules.specs.declared.event.StepFault.{StepFault}
+use Rattle.line_events.specs.declared.event.StepFault.{StepFault}
 use Rattle.std.proofs.lemmas.Result.{err_from_is_err_and}
 use Rattle.std.specs.Prelude.{◌==◌, is_ok, not}
 use Rattle.node_rules.specs.declared.refusal.CoordinatorRefusal.TheVariants as orders
@@ -8,7 +8,7 @@ use Rattle.node_rules.specs.Ciphers.{network}
 use Rattle.node_rules.specs.Coordinators as coordinators
 use Rattle.node_rules.specs.Memory.{Node}
 use Rattle.node_rules.specs.NodeSteps.{acts}
-use Rattle.line_rules.specs.declared.event.Answer.TheVariants as said
+use Rattle.line_events.specs.declared.event.Answer.TheVariants as said
 use Rattle.line_rules.specs.Answers.{ordered_word}
 use Rattle.line_rules.specs.Steps.{activate, by_coordinator, happened}
 use Rattle.line_rules.specs.Worlds.{World}

@@ -8,7 +8,7 @@ use Rattle.node_rules.specs.Memory.{Memory, Node}
 use Rattle.reach_rules.specs.declared.refusal.BroadcastRefusal.TheVariants as broadcasts
 use Rattle.reach_rules.specs.Broadcasts.{broadcast}
 use Rattle.reach_rules.specs.ReachingNodes.{Beside, Reaching}
-use Rattle.line_rules.specs.declared.event.StepFault.{StepFault}
+use Rattle.line_events.specs.declared.event.StepFault.{StepFault}
 use Rattle.line_rules.specs.Answers.{broadcast_word}
 use Rattle.line_rules.specs.Further.{bcast, beside_at, broadcast_sent, reaches}
 use Rattle.line_rules.specs.Logs.{LogsKept}

@@ -1,13 +1,13 @@
 -- The link of a node to another one breaks.
 use Rattle.std.proofs.Common.{◌≡◌, Ok, Some, None, false, sym, ap, ◌∙◌, Err}
-use Rattle.line_rules.specs.declared.event.StepFault.{StepFault}
+use Rattle.line_events.specs.declared.event.StepFault.{StepFault}
 use Rattle.std.proofs.lemmas.Result.{err_from_is_err_and}
 use Rattle.node_rules.specs.Calls as calls
 use Rattle.node_rules.specs.Ciphers.{network}
 use Rattle.node_rules.specs.Memory.{Node, node_address}
 use Rattle.node_rules.specs.MemoryDrafts.{with_station}
 use Rattle.node_rules.specs.NodeSteps.{acts, changing}
-use Rattle.line_rules.specs.declared.event.Answer.TheVariants as said
+use Rattle.line_events.specs.declared.event.Answer.TheVariants as said
 use Rattle.line_rules.specs.Steps.{breaks, breaks_by, happened, trace_of}
 use Rattle.line_world.specs.Lines.{world_of}
 use Rattle.line_world.proofs.Taking.{steps_as, begun, at_node, is_there, told_of, node_said, only_ran, not_found, second_not_found, has_coordinator}

@@ -1,8 +1,8 @@
 -- Neighbours are checked from now on.
 use Rattle.std.proofs.Common.{◌≡◌, ◌∙◌, Bool, Ok, Err, false, true, ap, sym, refl, subst}
 use Rattle.std.specs.Prelude.{if◌then◌else◌}
-use Rattle.line_rules.specs.declared.event.StepFault.TheVariants as faults
-use Rattle.line_rules.specs.declared.event.Answer.TheVariants as said
+use Rattle.line_events.specs.declared.event.StepFault.TheVariants as faults
+use Rattle.line_events.specs.declared.event.Answer.TheVariants as said
 use Rattle.line_rules.specs.Further.{checks}
 use Rattle.line_rules.specs.Steps.{Step, happened, set_up, trace_of}
 use Rattle.line_rules.specs.Worlds.{World}

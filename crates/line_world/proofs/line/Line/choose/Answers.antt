@@ -8,7 +8,7 @@ use Rattle.node_rules.specs.Ciphers.{network}
 use Rattle.node_rules.specs.Memory.{Node, node_address}
 use Rattle.reach_rules.specs.declared.refusal.ChooseRefusal.TheVariants as choices
 use Rattle.reach_rules.specs.ReachingNodes.{Beside}
-use Rattle.line_rules.specs.declared.event.StepFault.{StepFault}
+use Rattle.line_events.specs.declared.event.StepFault.{StepFault}
 use Rattle.line_rules.specs.Further.{beside_at, choose, chooses_by}
 use Rattle.line_rules.specs.Steps.{psk_of, ran}
 use Rattle.line_rules.specs.Worlds.{World}

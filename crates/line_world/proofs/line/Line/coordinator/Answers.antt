@@ -1,8 +1,8 @@
 -- The coordinator is made.
 use Rattle.std.specs.Prelude.{is_ok}
 use Rattle.std.proofs.Common.{ap, ◌∙◌, refl, [], ◌∷◌, ◌++◌}
-use Rattle.line_rules.specs.declared.event.StepFault.TheVariants as faults
-use Rattle.line_rules.specs.declared.event.Answer.TheVariants as said
+use Rattle.line_events.specs.declared.event.StepFault.TheVariants as faults
+use Rattle.line_events.specs.declared.event.Answer.TheVariants as said
 use Rattle.reach_rules.specs.ReachingNodes.{nothing_beside}
 use Rattle.line_rules.specs.Worlds.{World}
 use Rattle.line_rules.specs.Steps.{happened, set_up}

@@ -1,10 +1,10 @@
 -- A node will lose power.
 use Rattle.std.proofs.Common.{Some, false, ap, ◌∙◌, Err}
-use Rattle.line_rules.specs.declared.event.StepFault.{StepFault}
+use Rattle.line_events.specs.declared.event.StepFault.{StepFault}
 use Rattle.std.proofs.lemmas.Result.{err_from_is_err_and}
 use Rattle.node_rules.specs.Memory.{Node}
 use Rattle.node_rules.specs.NodeSteps.{stays}
-use Rattle.line_rules.specs.declared.event.Answer.TheVariants as said
+use Rattle.line_events.specs.declared.event.Answer.TheVariants as said
 use Rattle.line_rules.specs.Steps.{cut}
 use Rattle.line_world.specs.Lines.{world_of}
 use Rattle.line_world.proofs.Taking.{steps_as, begun, at_node, is_there, node_said, not_found, has_coordinator}

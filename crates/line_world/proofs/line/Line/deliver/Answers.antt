@@ -6,8 +6,8 @@ use Rattle.line_flights.specs.Flown.{flight_in, not_lost}
 use Rattle.node_rules.specs.declared.heard.Accepted.{Accepted}
 use Rattle.node_rules.specs.Ciphers.{network}
 use Rattle.node_rules.specs.Memory.{Node}
-use Rattle.line_rules.specs.declared.event.StepFault.{StepFault}
-use Rattle.line_rules.specs.declared.event.StepFault.TheVariants as faults
+use Rattle.line_events.specs.declared.event.StepFault.{StepFault}
+use Rattle.line_events.specs.declared.event.StepFault.TheVariants as faults
 use Rattle.line_rules.specs.Worlds.{World}
 use Rattle.line_rules.specs.Further.{delivers}
 use Rattle.line_world.specs.Bounds.{IsBounded}

@@ -1,9 +1,9 @@
 -- A meter is joined in the workshop.
 use Rattle.std.proofs.Common.{◌≡◌, ◌<◌, ◌≤◌, length, ap, refl, subst, sym, ◌∙◌, arith, Err}
-use Rattle.line_rules.specs.declared.event.StepFault.{StepFault}
-use Rattle.line_rules.specs.declared.event.StepFault.TheVariants as faults
+use Rattle.line_events.specs.declared.event.StepFault.{StepFault}
+use Rattle.line_events.specs.declared.event.StepFault.TheVariants as faults
 use Rattle.std.proofs.lemmas.Result.{err_from_is_err_and}
-use Rattle.line_rules.specs.declared.event.Answer.TheVariants as said
+use Rattle.line_events.specs.declared.event.Answer.TheVariants as said
 use Rattle.line_rules.specs.Steps.{depot, happened}
 use Rattle.line_world.specs.declared.line.Line.{Line}
 use Rattle.line_world.specs.Lines.{world_of}

@@ -1,7 +1,7 @@
 -- Octets of the script come to a node.
 use Rattle.std.proofs.Common.{◌∙◌, Err, true, ap, sym}
 use Rattle.std.proofs.lemmas.Result.{err_from_is_err_and}
-use Rattle.line_rules.specs.declared.event.StepFault.{StepFault}
+use Rattle.line_events.specs.declared.event.StepFault.{StepFault}
 use Rattle.line_rules.specs.Further.{injects}
 use Rattle.line_world.specs.Lines.{world_of}
 use Rattle.line_world.proofs.Taking.{not_found, unreserved}

@@ -1,6 +1,6 @@
 -- A meter begins to join.
 use Rattle.std.proofs.Common.{◌≡◌, refl, true, ℕ, ◌<◌, length, Some, None, Option, Ok, Err, sym, ap, subst, ◌∙◌}
-use Rattle.line_rules.specs.declared.event.StepFault.{StepFault}
+use Rattle.line_events.specs.declared.event.StepFault.{StepFault}
 use Rattle.std.proofs.lemmas.Result.{err_from_is_err_and}
 use Rattle.std.specs.Prelude.{IfSome, IsSome, slice_get, is_ok}
 use Rattle.plc_base.specs.declared.key.Key.{Key}
@@ -10,7 +10,7 @@ use Rattle.node_rules.specs.Memory.{Node, node_address}
 use Rattle.node_rules.specs.Meters as meters
 use Rattle.node_rules.specs.NodeSteps.{acts, answering}
 use Rattle.line_world.specs.Doings.{Did}
-use Rattle.line_rules.specs.declared.event.Answer.TheVariants as said
+use Rattle.line_events.specs.declared.event.Answer.TheVariants as said
 use Rattle.line_rules.specs.Answers.{join_word}
 use Rattle.line_rules.specs.Steps.{acted, identity, join, joins_by, on_node, psk_of}
 use Rattle.line_rules.specs.Worlds.{World}

@@ -4,8 +4,8 @@ use Rattle.std.proofs.Common.{Err, true, refl, ap, ◌∙◌}
 use Rattle.std.proofs.lemmas.Result.{err_from_is_err_and}
 use Rattle.node_rules.specs.Ciphers.{network}
 use Rattle.node_rules.specs.Coordinators as coordinators
-use Rattle.line_rules.specs.declared.event.Answer.TheVariants as said
-use Rattle.line_rules.specs.declared.event.StepFault.{StepFault}
+use Rattle.line_events.specs.declared.event.Answer.TheVariants as said
+use Rattle.line_events.specs.declared.event.StepFault.{StepFault}
 use Rattle.line_rules.specs.Steps.{kick, by_coordinator}
 use Rattle.line_world.specs.Lines.{world_of}
 use Rattle.line_world.proofs.Orders.{about, has_ordered, meter_not_found, about_taken}

@@ -1,6 +1,6 @@
 -- A meter leaves.
 use Rattle.std.proofs.Common.{Err, false, ap, ◌∙◌}
-use Rattle.line_rules.specs.declared.event.StepFault.{StepFault}
+use Rattle.line_events.specs.declared.event.StepFault.{StepFault}
 use Rattle.std.proofs.lemmas.Result.{err_from_is_err_and}
 use Rattle.node_rules.specs.declared.refusal.LeaveRefusal.TheVariants as leaves
 use Rattle.node_rules.specs.Meters as meters

@@ -2,8 +2,8 @@
 use Rattle.std.proofs.Common.{◌≡◌, ℕ, ◌+◌, ◌-◌, Ok, Err, true, false, slice_set, length, refl, sym, ap, subst, ◌∙◌, arith}
 use Rattle.std.proofs.lemmas.List.{length-set}
 use Rattle.line_flights.specs.Flown.{Flown, flight_in, not_lost}
-use Rattle.line_rules.specs.declared.event.Answer.TheVariants as said
-use Rattle.line_rules.specs.declared.event.StepFault.TheVariants as faults
+use Rattle.line_events.specs.declared.event.Answer.TheVariants as said
+use Rattle.line_events.specs.declared.event.StepFault.TheVariants as faults
 use Rattle.line_rules.specs.Worlds.{World, Flight, Trace}
 use Rattle.line_rules.specs.Steps.{happened, lose, ran, trace_of}
 use Rattle.line_world.specs.Bounds.{IsBounded}

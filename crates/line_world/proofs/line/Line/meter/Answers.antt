@@ -1,8 +1,8 @@
 -- A meter is made.
 use Rattle.std.specs.Prelude.{is_ok}
 use Rattle.std.proofs.Common.{◌<◌, ◌≤◌, length, ap, ◌∙◌, arith, refl, [], ◌∷◌, ◌++◌}
-use Rattle.line_rules.specs.declared.event.StepFault.TheVariants as faults
-use Rattle.line_rules.specs.declared.event.Answer.TheVariants as said
+use Rattle.line_events.specs.declared.event.StepFault.TheVariants as faults
+use Rattle.line_events.specs.declared.event.Answer.TheVariants as said
 use Rattle.reach_rules.specs.ReachingNodes.{nothing_beside}
 use Rattle.line_rules.specs.Worlds.{World}
 use Rattle.line_rules.specs.Steps.{happened, set_up}

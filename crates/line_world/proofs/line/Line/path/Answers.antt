@@ -8,12 +8,12 @@ use Rattle.node_rules.specs.Memory.{Memory, Node, node_address}
 use Rattle.reach_rules.specs.declared.refusal.AskRefusal.TheVariants as asks
 use Rattle.reach_rules.specs.PathAsking.{ask_path}
 use Rattle.reach_rules.specs.ReachingNodes.{Beside, Reaching}
-use Rattle.line_rules.specs.declared.event.StepFault.{StepFault}
+use Rattle.line_events.specs.declared.event.StepFault.{StepFault}
 use Rattle.line_rules.specs.Answers.{ask_word}
 use Rattle.line_rules.specs.Further.{asked, asks_by, beside_at, path, reaches}
 use Rattle.line_rules.specs.Worlds.{World, nothing_further}
 use Rattle.line_world.specs.Lines.{world_of}
-use Rattle.line_rules.specs.declared.event.Answer.TheVariants as said
+use Rattle.line_events.specs.declared.event.Answer.TheVariants as said
 use Rattle.line_rules.specs.Steps.{happened, trace_of}
 use Rattle.line_world.specs.Steps.{has_address}
 use Rattle.line_world.specs.Reaching.{ReachedFirst}

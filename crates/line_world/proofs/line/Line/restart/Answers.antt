@@ -8,7 +8,7 @@ use Rattle.node_rules.specs.Carrying.{nothing}
 use Rattle.node_rules.specs.Ciphers.{network}
 use Rattle.node_rules.specs.Memory.{Node}
 use Rattle.reach_rules.specs.ReachingNodes.{Beside}
-use Rattle.line_rules.specs.declared.event.StepFault.{StepFault}
+use Rattle.line_events.specs.declared.event.StepFault.{StepFault}
 use Rattle.line_rules.specs.Further.{restarts_further}
 use Rattle.line_rules.specs.Steps.{acted, happened, ran, restarts}
 use Rattle.line_rules.specs.Worlds.{World, Trace}

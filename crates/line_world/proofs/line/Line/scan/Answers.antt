@@ -8,8 +8,8 @@ use Rattle.node_rules.specs.Memory.{Memory, Node, node_address}
 use Rattle.reach_rules.specs.declared.refusal.ScanRefusal.TheVariants as scan_faults
 use Rattle.reach_rules.specs.Beacons.{begin_scan}
 use Rattle.reach_rules.specs.ReachingNodes.{Beside}
-use Rattle.line_rules.specs.declared.event.Answer.TheVariants as said
-use Rattle.line_rules.specs.declared.event.StepFault.{StepFault}
+use Rattle.line_events.specs.declared.event.Answer.TheVariants as said
+use Rattle.line_events.specs.declared.event.StepFault.{StepFault}
 use Rattle.line_rules.specs.Answers.{scan_word}
 use Rattle.line_rules.specs.Further.{beside_at, scan, scanning, scans_by, set_beside}
 use Rattle.line_rules.specs.Steps.{ran}

@@ -1,6 +1,6 @@
 -- A datagram is sent.
 use Rattle.std.proofs.Common.{◌≡◌, ◌+◌, ◌<◌, Ok, Err, Some, None, true, length, sym, ap, subst, ◌∙◌, arith}
-use Rattle.line_rules.specs.declared.event.StepFault.{StepFault}
+use Rattle.line_events.specs.declared.event.StepFault.{StepFault}
 use Rattle.std.proofs.lemmas.Result.{err_from_is_err_and}
 use Rattle.std.specs.Prelude.{IfSome, slice_get, is_ok}
 use mir.Val.{bool_byte}
@@ -9,8 +9,8 @@ use Rattle.node_rules.specs.Calls as calls
 use Rattle.node_rules.specs.Ciphers.{network}
 use Rattle.node_rules.specs.Memory.{Node, node_address}
 use Rattle.node_rules.specs.NodeSteps.{acts, of_station}
-use Rattle.line_rules.specs.declared.event.Answer.TheVariants as said
-use Rattle.line_rules.specs.declared.event.TheConstants.{MAX_EVENTS}
+use Rattle.line_events.specs.declared.event.Answer.TheVariants as said
+use Rattle.line_events.specs.declared.event.TheConstants.{MAX_EVENTS}
 use Rattle.line_rules.specs.Worlds.{World}
 use Rattle.line_rules.specs.Steps.{happened, has_begun, send, sends_by, tag_of, trace_of}
 use Rattle.line_world.specs.Bounds.{IsBounded}

@@ -1,7 +1,7 @@
 -- The presets, whose rule takes a function of the value.
 use Rattle.std.proofs.Common.{sym, subst}
 use Rattle.node_rules.specs.Ciphers.{network}
-use Rattle.line_rules.specs.declared.event.Event.{Event}
+use Rattle.line_events.specs.declared.event.Event.{Event}
 use Rattle.line_rules.specs.Further.{line_step}
 use Rattle.line_world.specs.Lines.{world_of}
 use Rattle.line_world.specs.Steps.{Steps, takes_memory}

@@ -1,8 +1,8 @@
 -- The clock goes on.
 use Rattle.std.proofs.Common.{◌≡◌, ℕ, ◌+◌, Ok, false, map, refl, sym, ap, subst, ◌∙◌, arith}
 use Rattle.reach_rules.specs.ReachingNodes.{tick_beside}
-use Rattle.line_rules.specs.declared.event.StepFault.TheVariants as faults
-use Rattle.line_rules.specs.declared.event.Answer.TheVariants as said
+use Rattle.line_events.specs.declared.event.StepFault.TheVariants as faults
+use Rattle.line_events.specs.declared.event.Answer.TheVariants as said
 use Rattle.line_rules.specs.Worlds.{World, Trace}
 use Rattle.line_rules.specs.Further.{after_ok, ticks}
 use Rattle.line_rules.specs.Steps.{happened, ran, tick, ticked, trace_of}

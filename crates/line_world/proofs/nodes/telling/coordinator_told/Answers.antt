@@ -1,7 +1,7 @@
 -- What the coordinator made of a frame is told.
 use Rattle.std.proofs.Common.{subst}
 use Rattle.line_rules.specs.Answers as rules
-use Rattle.line_rules.specs.declared.event.Answer.{Answer}
+use Rattle.line_events.specs.declared.event.Answer.{Answer}
 use Rattle.line_world.specs.Receiving.{Tells}
 use Rattle.line_world.proofs.nodes.telling.coordinator_told.Goals as goal
 

@@ -1,6 +1,6 @@
 -- What the coordinator made of a frame that it did not drop is told.
 use Rattle.line_rules.specs.Answers as rules
-use Rattle.line_rules.specs.declared.event.Answer.TheVariants as said
+use Rattle.line_events.specs.declared.event.Answer.TheVariants as said
 use Rattle.line_world.proofs.CoordinatorHearing.{told_beside}
 use Rattle.line_world.proofs.nodes.telling.coordinator_words.Goals as goal
 

@@ -2,7 +2,7 @@
 use Rattle.node_rules.specs.Carrying.{nothing}
 use Rattle.node_rules.specs.NodeSteps.{acts}
 use Rattle.node_rules.specs.Plans.{resting}
-use Rattle.line_rules.specs.declared.event.Answer.TheVariants as said
+use Rattle.line_events.specs.declared.event.Answer.TheVariants as said
 use Rattle.line_world.proofs.Acting.{gives_nothing}
 use Rattle.line_world.proofs.CoordinatorActing.{lent_agrees, station_took, station_sound}
 use Rattle.line_world.proofs.LentStations.{breaks_own, lent, breaking}

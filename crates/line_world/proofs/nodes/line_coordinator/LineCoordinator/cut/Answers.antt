@@ -1,6 +1,6 @@
 -- A loss of power of the coordinator is set.
 use Rattle.std.proofs.Common.{Some}
-use Rattle.line_rules.specs.declared.event.Answer.TheVariants as said
+use Rattle.line_events.specs.declared.event.Answer.TheVariants as said
 use Rattle.node_rules.specs.Memory.{Coordinator}
 use Rattle.node_rules.specs.NodeSteps.{stays}
 use Rattle.line_world.proofs.CoordinatorActing.{beside}

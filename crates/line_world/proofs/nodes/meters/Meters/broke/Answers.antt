@@ -1,7 +1,7 @@
 -- What the station of a meter did, the meter at its place did.
 use Rattle.node_rules.specs.Carrying.{nothing}
 use Rattle.node_rules.specs.Plans.{resting}
-use Rattle.line_rules.specs.declared.event.Answer.TheVariants as said
+use Rattle.line_events.specs.declared.event.Answer.TheVariants as said
 use Rattle.line_world.proofs.Acting.{gives_nothing}
 use Rattle.line_world.proofs.LentStations.{breaks_own, breaking}
 use Rattle.line_world.proofs.Places.{station_agrees_at, station_did, stations_sound}

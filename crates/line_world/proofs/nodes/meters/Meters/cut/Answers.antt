@@ -1,7 +1,7 @@
 -- A loss of power of a meter is set.
 use Rattle.std.proofs.Common.{Some}
 use Rattle.std.proofs.lemmas.List.Elements.{All-set}
-use Rattle.line_rules.specs.declared.event.Answer.TheVariants as said
+use Rattle.line_events.specs.declared.event.Answer.TheVariants as said
 use Rattle.node_rules.specs.Carrying.{nothing}
 use Rattle.node_rules.specs.Memory.{Meter}
 use Rattle.node_rules.specs.NodeSteps.{stays}
